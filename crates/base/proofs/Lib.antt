@@ -1,0 +1,9 @@
+pub mod BigEndian
+pub mod Booleans
+pub mod Counting
+pub mod Digits
+pub mod Outcome
+pub mod Quorum
+pub mod Range
+pub mod ReplicaSet
+pub mod Timestamps

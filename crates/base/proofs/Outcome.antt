@@ -1,0 +1,23 @@
+-- What a guard does, and what passed it. Assumes nothing.
+use mathlib.Core.Path.{_≡_, refl}
+use mathlib.Core.Bool.{Bool, true, false}
+use Prim.Native.Nat.{ℕ}
+use native.Mathlib.Omega.{arith}
+use Rattle.base.specs.Outcome.{Outcome, accepted, refused, guard}
+
+module _ {A : Type 0} (number : ℕ) (test : Bool) (next : Outcome A) where
+  pub guard-passes : test ≡ true → guard number test next ≡ next
+  unfolding guard
+  guard-passes e = rw e
+
+  pub guard-refuses : test ≡ false → guard number test next ≡ refused number
+  unfolding guard
+  guard-refuses e = rw e
+
+  -- What is accepted has passed the test.
+  pub guard-accepted : (a : A) → guard number test next ≡ accepted a → (test ≡ true) × (next ≡ accepted a)
+  guard-accepted a e = go test refl
+    where
+      go : (b : Bool) → test ≡ b → (test ≡ true) × (next ≡ accepted a)
+      go true h = (h, let p = guard-passes h in cc)
+      go false h = let p = guard-refuses h in let z : _≡_ {A = ℕ} 0 1 = cc in absurd (omega arith)

@@ -1,0 +1,50 @@
+-- Timestamps and their numbers: order, successor, bytes. Assumes nothing.
+use mathlib.Core.Path.{_≡_, refl, sym, ap, _∙_}
+use mathlib.Core.Logic.{_⊎_, inl, inr, ⊎-elim, _↔_}
+use mathlib.Core.Option.{Option, none, some}
+use mathlib.Core.Bool.{Bool, true, false, cond}
+use Prim.Native.Nat.{ℕ, _+_, _*_, _/_, _%_, _^_, _<_}
+use native.Mathlib.Omega.{arith}
+use borrow.Author.Tests.{eqb-true, eqb-false}
+use lib.Dec.{eqb}
+use Rattle.base.specs.BigEndian.{fromBytes, toBytes}
+use Rattle.base.specs.Timestamp.{number, ofNumber, successor}
+use Rattle.base.specs.declared.party.ClientId.{ClientId}
+use Rattle.base.specs.declared.timestamp.Timestamp.{Timestamp}
+use Rattle.base.proofs.BigEndian.{fromBytes-toBytes}
+
+-- A timestamp is told by its number.
+pub ofNumber-number : (t : Timestamp) → t .client .0 < 256 → ofNumber (number t) ≡ t
+ofNumber-number t h =
+    let count : number t / 256 ≡ t .count = omega arith in
+    let client : number t % 256 ≡ t .client .0 = omega arith in
+    rw (count, client)
+
+pub number-ofNumber : (n : ℕ) → number (ofNumber n) ≡ n
+number-ofNumber n = omega arith
+
+-- Document 01: "Counts compare first, then desks."
+pub counts-first : (a b : Timestamp) → a .client .0 < 256 → b .client .0 < 256
+    → (number a < number b) ↔ ((a .count < b .count) ⊎ ((a .count ≡ b .count) × (a .client .0 < b .client .0)))
+counts-first a b ha hb = (to, ⊎-elim (λ h. omega arith) (λ h. omega arith))
+  where
+    to : number a < number b → (a .count < b .count) ⊎ ((a .count ≡ b .count) × (a .client .0 < b .client .0))
+    to h = go (eqb (a .count) (b .count)) refl
+      where
+        go : (e : Bool) → eqb (a .count) (b .count) ≡ e → (a .count < b .count) ⊎ ((a .count ≡ b .count) × (a .client .0 < b .client .0))
+        go true e = let same = eqb-true (a .count) (b .count) e in inr (same, omega arith)
+        go false e = let apart = eqb-false (a .count) (b .count) e in inl (omega arith)
+
+-- A successor as a number: one count further, with the client that takes it.
+pub successor-number : (t s : Timestamp) (client : ClientId) → t .client .0 < 256 → successor t client ≡ some s → number s ≡ (number t / 256 + 1) * 256 + client .0
+successor-number t s client h e = go (eqb (t .count) 4_294_967_295) e
+  where
+    go : (last : Bool) → cond last none (some (record { count = t .count + 1; client = client })) ≡ some s → number s ≡ (number t / 256 + 1) * 256 + client .0
+    go true k = let z : _≡_ {A = ℕ} 0 1 = cc in absurd (omega arith)
+    go false k =
+        let made : _≡_ {A = Timestamp} (record { count = t .count + 1; client = client }) s = cc in
+        rw (← made) (omega arith)
+
+-- Writing a timestamp's five bytes then reading them returns it.
+pub timestamp-bytes : (t : Timestamp) → t .count < 2 ^ 32 → t .client .0 < 256 → ofNumber (fromBytes (toBytes 5 (number t))) ≡ t
+timestamp-bytes t hc hd = rw (fromBytes-toBytes 5 (number t) (omega arith)) (ofNumber-number t hd)

@@ -1,0 +1,42 @@
+-- Document 01, "Parties and stamps": the fault bound (allowance) f, the numbers of replicas (holders) and clients (desks), the quorum.
+use mathlib.Core.Bool.{Bool}
+use Prim.Native.Nat.{ℕ, _+_, _*_, min}
+use lib.Dec.{leb}
+use Rattle.base.specs.Outcome.{Outcome, accepted, refused, guard}
+use Rattle.base.specs.Range.{within}
+use Rattle.base.specs.declared.party.ReplicaId.{ReplicaId}
+use Rattle.base.specs.declared.party.ClientId.{ClientId}
+use Rattle.base.specs.declared.party.Setup.{Setup}
+use Rattle.base.specs.declared.party.Setup.the-variants.{Good, Refused}
+
+-- "The allowance f is 1 to 5."
+abbrev pub isFaultBound : ℕ → Bool
+isFaultBound f = within 1 5 f
+
+-- n = 3f + 1. An f over 5 counts as 5, so that n and q are defined for a record of any value.
+abbrev pub replicaCount : ℕ → ℕ
+replicaCount f = 3 * min f 5 + 1
+
+-- q = 2f + 1
+abbrev pub quorumSize : ℕ → ℕ
+quorumSize f = 2 * min f 5 + 1
+
+-- "Holders are numbered 1 to n"
+abbrev pub isReplica : ℕ → ReplicaId → Bool
+isReplica f id = within 1 (replicaCount f) (id .0)
+
+-- "desks 1 to 64"
+abbrev pub isClient : ClientId → Bool
+isClient id = within 1 64 (id .0)
+
+-- Refusal 16: "A party is set up with f, number or first nonce (0) out of range."
+abbrev pub replicaSetup : ℕ → ReplicaId → Outcome (Unit {0})
+replicaSetup f id = guard 16 (isFaultBound f) (guard 16 (isReplica f id) (accepted tt))
+
+abbrev pub clientSetup : ℕ → ClientId → ℕ → Outcome (Unit {0})
+clientSetup f id nonce = guard 16 (isFaultBound f) (guard 16 (isClient id) (guard 16 (leb 1 nonce) (accepted tt)))
+
+-- What an answer of the code stands for.
+abbrev pub setupOutcome : Setup → Outcome (Unit {0})
+setupOutcome Good = accepted tt
+setupOutcome (Refused number) = refused number

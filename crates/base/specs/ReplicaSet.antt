@@ -1,0 +1,28 @@
+-- Sets of replicas as masks of 16 bits: replica i is bit i - 1.
+use mathlib.Core.Bool.{Bool, _&&_, cond}
+use Prim.Native.Nat.{ℕ, _-_, _/_, _%_, _*_, _^_}
+use lib.Bits.{bitOr}
+use lib.Dec.{leb, eqb}
+use Rattle.base.specs.Counting.{count}
+use Rattle.base.specs.Party.{replicaCount, quorumSize}
+use Rattle.base.specs.Range.{within}
+use Rattle.base.specs.declared.party.ReplicaId.{ReplicaId}
+use Rattle.base.specs.declared.replica_set.ReplicaSet.{ReplicaSet}
+
+abbrev pub empty : ReplicaSet
+empty = record { 0 = 0 }
+
+-- No number outside 1 to 16 is a member.
+unfoldable pub has : ReplicaSet → ReplicaId → Bool
+has set id = within 1 16 (id .0) && eqb (set .0 / 2 ^ (id .0 - 1) % 2) 1
+
+-- A number outside 1 to 16 leaves the set as it is.
+unfoldable pub with : ReplicaSet → ReplicaId → ReplicaSet
+with set id = cond (within 1 16 (id .0)) (record { 0 = bitOr (set .0) (2 ^ (id .0 - 1)) }) set
+
+abbrev pub size : ReplicaSet → ℕ
+size set = count 16 (has set)
+
+-- Document 01: "A quorum is q = 2f + 1 different holders", of the holders 1 to n.
+abbrev pub isQuorum : ℕ → ReplicaSet → Bool
+isQuorum f set = leb (quorumSize f) (count (replicaCount f) (has set))

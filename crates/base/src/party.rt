@@ -1,0 +1,104 @@
+// The parties: replicas and clients, how many there are, and how many make a quorum.
+ghost use mathlib.Core.Path.{_≡_};
+ghost use Prim.Native.Nat.{min};
+ghost use Rattle.base.specs.Range.{within};
+ghost use Rattle.base.specs.Party.{replicaCount, quorumSize, isFaultBound, isReplica, isClient, replicaSetup, clientSetup, setupOutcome};
+
+// A replica's number (document 01: holder number).
+pub struct ReplicaId(pub u8);
+
+// A client's number (document 01: desk number).
+pub struct ClientId(pub u8);
+
+// Whether a party can be set up with the numbers given.
+pub enum Setup {
+    Good,
+    Refused(u8),
+}
+
+const LARGEST_FAULT_BOUND: u8 = 5;
+
+const CLIENTS: u8 = 64;
+
+const OUT_OF_RANGE: u8 = 16;
+
+// The fault bound that counts: no larger than the largest.
+fn bounded(f: u8) -> u8
+    ensures { λ r. ⌜ r ≡ min f 5 ⌝ }
+{
+    if f < LARGEST_FAULT_BOUND {
+        f
+    } else {
+        LARGEST_FAULT_BOUND
+    }
+}
+
+// n, the number of replicas.
+pub fn replica_count(f: u8) -> u8
+    ensures { λ r. ⌜ r ≡ replicaCount f ⌝ }
+{
+    3 * bounded(f) + 1
+}
+
+// q, the number of replicas in a quorum.
+pub fn quorum_size(f: u8) -> u8
+    ensures { λ r. ⌜ r ≡ quorumSize f ⌝ }
+{
+    2 * bounded(f) + 1
+}
+
+pub fn within(low: u8, high: u8, x: u8) -> bool
+    ensures { λ r. ⌜ r ≡ within low high x ⌝ }
+{
+    if x < low {
+        return false;
+    }
+    x <= high
+}
+
+pub fn is_fault_bound(f: u8) -> bool
+    ensures { λ r. ⌜ r ≡ isFaultBound f ⌝ }
+{
+    within(1, LARGEST_FAULT_BOUND, f)
+}
+
+pub fn is_replica(f: u8, id: ReplicaId) -> bool
+    ensures { λ r. ⌜ r ≡ isReplica f id ⌝ }
+{
+    within(1, replica_count(f), id.0)
+}
+
+pub fn is_client(id: ClientId) -> bool
+    ensures { λ r. ⌜ r ≡ isClient id ⌝ }
+{
+    within(1, CLIENTS, id.0)
+}
+
+// Whether a replica can be set up with these numbers.
+pub fn replica_setup(f: u8, id: ReplicaId) -> Setup
+    ensures { λ r. ⌜ setupOutcome r ≡ replicaSetup f id ⌝ }
+{
+    if !is_fault_bound(f) {
+        return Setup::Refused(OUT_OF_RANGE);
+    }
+    if !is_replica(f, id) {
+        return Setup::Refused(OUT_OF_RANGE);
+    }
+    Setup::Good
+}
+
+// Whether a client can be set up with these numbers.
+pub fn client_setup(f: u8, id: ClientId, first_nonce: u64) -> Setup
+    ensures { λ r. ⌜ setupOutcome r ≡ clientSetup f id «first_nonce» ⌝ }
+{
+    if !is_fault_bound(f) {
+        return Setup::Refused(OUT_OF_RANGE);
+    }
+    if !is_client(id) {
+        return Setup::Refused(OUT_OF_RANGE);
+    }
+    if first_nonce == 0 {
+        return Setup::Refused(OUT_OF_RANGE);
+    }
+    Setup::Good
+}
