@@ -6,4 +6,5 @@ pub mod Outcome
 pub mod Quorum
 pub mod Range
 pub mod ReplicaSet
+pub mod Same
 pub mod Timestamps

@@ -1,8 +1,10 @@
 pub mod BigEndian
+pub mod BitMap
 pub mod Counting
 pub mod Outcome
 pub mod Party
 pub mod Range
 pub mod ReplicaSet
 pub mod Rising
+pub mod Same
 pub mod Timestamp

@@ -10,3 +10,9 @@ pub data Outcome (A : Type 0) : Type 0 where
 unfoldable pub guard : {A : Type 0} → ℕ → Bool → Outcome A → Outcome A
 guard number true next = next
 guard number false next = refused number
+
+infixl 20 _>>=_
+-- One call after another: a refusal of the first is the refusal of both. `do` blocks are written with it.
+abbrev pub _>>=_ : {A B : Type 0} → Outcome A → (A → Outcome B) → Outcome B
+accepted a >>= next = next a
+refused number >>= next = refused number

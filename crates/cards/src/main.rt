@@ -1,0 +1,65 @@
+// Reads cards in hex, one a line, and prints what the check says of each, with the fields of a good one.
+use libc::STDIN_FILENO;
+use wire::card::CardCheck;
+use wire::card::CardFields;
+use wire::card::CardRead;
+
+const BITS: usize = 7;
+
+fn print_fields(fields: CardFields) {
+    let values = fields.values;
+    let mut rest = fields.map;
+    let mut bit = 0;
+    while bit < BITS {
+        if rest % 2 == 1 {
+            text::print(b" ");
+            text::print_number(bit as u32);
+            text::print(b"=");
+            text::print_number(values[bit]);
+        }
+        rest = rest / 2;
+        bit += 1;
+    }
+}
+
+fn print_card(read: CardRead) {
+    let check = read.check;
+    match check {
+        CardCheck::Good => {
+            text::print(b"good");
+            let fields = read.fields;
+            print_fields(fields);
+        }
+        CardCheck::Refused(number) => {
+            text::print(b"refused ");
+            text::print_number(number as u32);
+        }
+    }
+    text::print(b"\n");
+}
+
+// The bytes have room for any line of the input.
+fn answer(line: &[u8]) {
+    let mut bytes = [0u8; 32768];
+    let n = text::read_hex(line, &mut bytes);
+    if line.len() == 2 * n {
+        print_card(wire::card::read(&bytes[..n]));
+    } else {
+        text::print(b"unread\n");
+    }
+}
+
+fn answer_lines(input: &[u8]) {
+    let mut from = 0;
+    while from < input.len() {
+        let end = text::line_end(input, from);
+        answer(&input[from..end]);
+        from = end + 1;
+    }
+}
+
+fn main() {
+    let mut input = io::large_buffer();
+    let n = io::read_full(STDIN_FILENO, &mut input);
+    answer_lines(&input[..n]);
+}

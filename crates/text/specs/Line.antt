@@ -1,0 +1,18 @@
+-- Lines of a text.
+use mathlib.Core.Path.{_≡_}
+use mathlib.Core.Bool.{cond}
+use mathlib.Core.List.{List, [], _∷_}
+use Prim.Native.Nat.{ℕ, suc, _+_, max, _≤_}
+use lib.Dec.{eqb}
+use lib.ListN.{length, drop}
+
+-- How many bytes come before the first newline, or in all.
+unfoldable pub lineLength : List ℕ → ℕ
+lineLength [] = 0
+lineLength (byte ∷ text) = cond (eqb byte 10) 0 (suc (lineLength text))
+
+-- The place behind the line that starts at `from`. The second and the third follow from the first, for callers that index.
+pub record LineEnd (text : List ℕ) (from end : ℕ) : Type 0 where
+  pub is : end ≡ from + lineLength (drop from text)
+  pub behind : from ≤ end
+  pub inside : end ≤ max from (length text)

@@ -1,0 +1,89 @@
+// Lines, hex digits and numbers as text, for the programs that test the crates.
+use base::party::within;
+use libc::STDOUT_FILENO;
+ghost use mathlib.Core.Path.{_≡_};
+ghost use Prim.Native.Nat.{_+_};
+ghost use lib.ListN.{getD};
+ghost use Rattle.text.specs.Hex.{hexValue, pairValue, HexRead, digitOf, DigitBelow};
+ghost use Rattle.text.specs.Line.{LineEnd};
+
+// The value of a digit or of a pair of digits, which other bytes lack.
+pub enum Digit {
+    Value(u8),
+    Nothing,
+}
+
+const NEWLINE: u8 = 10;
+
+// The value of a hex digit, capital or small.
+pub fn hex_value(byte: u8) -> Digit
+    ensures { λ r. ⌜ (digitOf r ≡ hexValue byte) × DigitBelow 16 r ⌝ }
+{
+    if within(b'0', b'9', byte) {
+        return Digit::Value(byte - 48);
+    }
+    if within(b'A', b'F', byte) {
+        return Digit::Value(byte - 55);
+    }
+    if within(b'a', b'f', byte) {
+        return Digit::Value(byte - 87);
+    }
+    Digit::Nothing
+}
+
+// The byte that two hex digits at a place write.
+pub fn hex_byte(line: &[u8], at: usize) -> Digit
+    ensures { λ r. ⌜ digitOf r ≡ pairValue (getD (now (line .entry)) at 0) (getD (now (line .entry)) (at + 1) 0) ⌝ }
+{
+    if line.len() <= at {
+        return Digit::Nothing;
+    }
+    let next = at + 1;
+    if line.len() <= next {
+        return Digit::Nothing;
+    }
+    let Digit::Value(high) = hex_value(line[at]) else {
+        return Digit::Nothing;
+    };
+    let Digit::Value(low) = hex_value(line[next]) else {
+        return Digit::Nothing;
+    };
+    Digit::Value(high * 16 + low)
+}
+
+// The bytes of the hex pairs at the front of a line, as many as there is room for; answers how many.
+pub fn read_hex(line: &[u8], out: &mut [u8]) -> usize
+    ensures { λ r. ⌜ HexRead (now (line .entry)) (now (out .entry)) (now (out .exit)) r ⌝ }
+{
+    let mut n = 0;
+    while n < out.len() {
+        let Digit::Value(byte) = hex_byte(line, 2 * n) else {
+            return n;
+        };
+        out[n] = byte;
+        n += 1;
+    }
+    n
+}
+
+// Where the line that starts at `from` ends: at its newline, or where the text ends.
+pub fn line_end(text: &[u8], from: usize) -> usize
+    ensures { λ r. ⌜ LineEnd (now (text .entry)) from r ⌝ }
+{
+    let mut at = from;
+    while at < text.len() {
+        if text[at] == NEWLINE {
+            return at;
+        }
+        at += 1;
+    }
+    at
+}
+
+pub fn print(text: &[u8]) {
+    io::write_all(STDOUT_FILENO, text);
+}
+
+pub fn print_number(n: u32) {
+    io::print_decimal(STDOUT_FILENO, n as u64);
+}

@@ -1,0 +1,3 @@
+pub mod Parsed
+pub mod Reading
+pub mod RoundTrip

@@ -1,0 +1,2 @@
+// SHA-256, cards, and the message reader and writer: the lower crate on whose contracts replica and client rest.
+pub mod card;
