@@ -1,2 +1,3 @@
 // SHA-256, cards, and the message reader and writer: the lower crate on whose contracts replica and client rest.
 pub mod card;
+pub mod message;

@@ -1,0 +1,9 @@
+pub mod Framed
+pub mod OneForm
+pub mod Parsed
+pub mod Parts
+pub mod Places
+pub mod ProofBytes
+pub mod RoundTrip
+pub mod Rows
+pub mod Size

@@ -1,0 +1,300 @@
+-- What an accepted reading says, kind by kind; reading and decoding refuse alike. Assumes nothing.
+use mathlib.Core.Path.{_≡_, refl, sym, ap, subst, _∙_}
+use mathlib.Core.Bool.{Bool, true, false, cond}
+use mathlib.Core.Logic.{_⊎_, inl, inr, ⊎-elim}
+use mathlib.Core.List.{List, [], _∷_}
+use mathlib.Core.Option.{Option, none, some}
+use Prim.Native.Nat.{ℕ, suc, _+_, _*_, _≤_, _<_}
+use native.Mathlib.Nat.{add-zero}
+use native.Mathlib.Omega.{arith}
+use lib.Dec.{eqb}
+use lib.ListN.{length, getD, take, drop}
+use lib.Seq.{drop-cons, drop-drop, getD-drop}
+use Rattle.base.specs.BigEndian.{fromBytes}
+use Rattle.base.specs.BitMap.{bit}
+use Rattle.base.specs.Outcome.{Outcome, accepted, refused, guard}
+use Rattle.base.specs.Range.{within}
+use Rattle.base.specs.Timestamp.{number}
+use Rattle.base.proofs.Timestamps.{number-ofNumber}
+use Rattle.wire.specs.Decode.{Kind, kinds, suits, ofKind, goodMap, framed, tested, decode, reading, fieldsIn, kindIn, clientIn, replicaIn, nonceIn, timestampIn, digestIn, cardIn, addressedIn, optional, preparedIn, writtenIn}
+use Rattle.wire.specs.Layout.{fixed, extent, preparedRule, writtenRule, rules, mapIn, place, field}
+use Rattle.wire.specs.Message.{Message, READ-STAMP, PREPARE, WRITE, READ, STAMP, PREPARED, WRITTEN, CARD, longest}
+use Rattle.wire.specs.Proof.{PreparedProof, WrittenProof, preparedFrom, writtenFrom, readPrepared, readWritten}
+use Rattle.wire.specs.declared.message.Fields.{Fields}
+use Rattle.wire.specs.declared.message.Party.{Party}
+use Rattle.wire.specs.declared.message.Party.the-variants.{Replica, Client}
+use Rattle.wire.proofs.Framed.{Framed, framed-passes, framed-accepted, field-part, first-bits, field-whole, place-rises, place-within, place-one, place-two}
+use Rattle.wire.proofs.ProofBytes.{accepts-prepared, accepts-written}
+use Rattle.wire.proofs.Rows.{Taken, read-stamp, prepare, write, read, stamp, prepared, written, card, Passed, row, accepted-passed}
+
+-- The proofs of bytes that passed 2 to 4, if their bits are set.
+abbrev pub preparedAt : List ℕ → Option PreparedProof
+preparedAt bytes = cond (bit (mapIn bytes) 6) (some (preparedFrom (field bytes 6))) none
+
+abbrev pub writtenAt : List ℕ → Option WrittenProof
+writtenAt bytes = cond (bit (mapIn bytes) 7) (some (writtenFrom (field bytes 7))) none
+
+module _ (bytes : List ℕ) (f : Framed bytes) where
+  -- Fields that are there, so these proofs always read.
+  pub prepared-whole : bit (mapIn bytes) 6 ≡ true → extent preparedRule (field bytes 6) ≡ length (field bytes 6)
+  unfolding rules
+  prepared-whole set = field-whole bytes f 6 (omega arith) set (omega arith)
+
+  pub written-whole : bit (mapIn bytes) 7 ≡ true → extent writtenRule (field bytes 7) ≡ length (field bytes 7)
+  unfolding rules
+  written-whole set = field-whole bytes f 7 (omega arith) set (omega arith)
+
+  pub prepared-reads : bit (mapIn bytes) 6 ≡ true → readPrepared (field bytes 6) ≡ accepted (preparedFrom (field bytes 6))
+  prepared-reads set = accepts-prepared (field bytes 6) (prepared-whole set)
+
+  pub prepared-in : preparedIn bytes ≡ accepted (preparedAt bytes)
+  prepared-in = go (bit (mapIn bytes) 6) refl
+    where
+      go : (t : Bool) → bit (mapIn bytes) 6 ≡ t → optional t (readPrepared (field bytes 6)) ≡ accepted (cond t (some (preparedFrom (field bytes 6))) none)
+      go true set = rw (prepared-reads set)
+      go false set = refl
+
+  pub written-in : writtenIn bytes ≡ accepted (writtenAt bytes)
+  written-in = go (bit (mapIn bytes) 7) refl
+    where
+      go : (t : Bool) → bit (mapIn bytes) 7 ≡ t → optional t (readWritten (field bytes 7)) ≡ accepted (cond t (some (writtenFrom (field bytes 7))) none)
+      go true set = rw (accepts-written (field bytes 7) (written-whole set))
+      go false set = refl
+
+  -- One byte is its number.
+  byte-at : (b at : ℕ) → getD rules b (fixed 0) ≡ fixed 1 → bit (mapIn bytes) b ≡ true → place bytes b ≡ at → at < length bytes → fromBytes (field bytes b) ≡ getD bytes at 0
+  unfolding fromBytes
+  byte-at b at rule set here h = rw (field-part bytes b set, rule, here, drop-cons bytes at 0 h) (omega arith)
+
+  -- The kind stands at 2, the sender at 3.
+  pub kind-at : kindIn bytes ≡ getD bytes 2 0
+  unfolding rules place
+  kind-at = byte-at 0 2 refl (first-bits bytes f .0) refl (omega (arith, place-within bytes f 9 (omega arith), place-rises bytes 0 9 (omega arith)))
+
+  pub sender-at : fromBytes (field bytes 1) ≡ getD bytes 3 0
+  unfolding rules
+  sender-at = byte-at 1 3 refl (first-bits bytes f .1) (place-one bytes f) (omega (arith, place-within bytes f 1 (omega arith), place-one bytes f))
+
+-- The digest and the card where they stand.
+pub digest-part : (bytes : List ℕ) → bit (mapIn bytes) 4 ≡ true → digestIn bytes ≡ take 32 (drop (place bytes 4) bytes)
+unfolding rules
+digest-part bytes set = field-part bytes 4 set
+
+pub card-part : (bytes : List ℕ) → bit (mapIn bytes) 5 ≡ true → cardIn bytes ≡ take (getD bytes (place bytes 5) 0) (drop (place bytes 5 + 1) bytes)
+unfolding rules
+card-part bytes set =
+    let at = place bytes 5 in
+    rw (field-part bytes 5 set) (go (drop at bytes) ∙ rw (getD-drop at bytes 0 0, add-zero at, drop-drop 1 at bytes))
+  where
+    go : (x : List ℕ) → drop 1 (take (1 + 1 * getD x 0 0) x) ≡ take (getD x 0 0) (drop 1 x)
+    go [] = refl
+    go (c ∷ cs) = let more : 1 + 1 * c ≡ suc c = omega arith in rw more
+
+-- The message of bytes that the table lets through.
+abbrev pub messageOf : {map kind : ℕ} {party : Party} → Taken map kind party → List ℕ → Message
+messageOf (read-stamp e) bytes = READ-STAMP (clientIn bytes) (nonceIn bytes)
+messageOf (prepare e) bytes = PREPARE (clientIn bytes) (timestampIn bytes) (digestIn bytes) (preparedAt bytes) (writtenAt bytes)
+messageOf (write e) bytes = WRITE (clientIn bytes) (cardIn bytes) (preparedFrom (field bytes 6))
+messageOf (read e) bytes = READ (clientIn bytes) (nonceIn bytes)
+messageOf (stamp e) bytes = STAMP (replicaIn bytes) (nonceIn bytes) (preparedAt bytes) (addressedIn bytes)
+messageOf (prepared e) bytes = PREPARED (replicaIn bytes) (timestampIn bytes) (digestIn bytes)
+messageOf (written e) bytes = WRITTEN (replicaIn bytes) (timestampIn bytes)
+messageOf (card e) bytes = CARD (replicaIn bytes) (nonceIn bytes) (cardIn bytes) (preparedAt bytes) (addressedIn bytes)
+
+row-message : (bytes : List ℕ) (kind : ℕ) (party : Party) → Framed bytes → (t : Taken (mapIn bytes) kind party) → row kind .message bytes ≡ accepted (messageOf t bytes)
+unfolding row kinds
+row-message bytes kind party f (read-stamp e) = refl
+row-message bytes kind party f (prepare e) = rw (prepared-in bytes f, written-in bytes f)
+row-message bytes kind party f (write e) = rw (prepared-reads bytes f (cc))
+row-message bytes kind party f (read e) = refl
+row-message bytes kind party f (stamp e) = rw (prepared-in bytes f)
+row-message bytes kind party f (prepared e) = refl
+row-message bytes kind party f (written e) = refl
+row-message bytes kind party f (card e) = rw (prepared-in bytes f)
+
+-- The tests 2 to 5 passed.
+pub record Tested (party : Party) (bytes : List ℕ) : Type 1 where
+  pub framed : Framed bytes
+  pub passed : Passed party (mapIn bytes) (kindIn bytes)
+
+pub tested-accepted : {A : Type 0} (party : Party) (bytes : List ℕ) (next : Kind → Outcome A) (a : A) → tested party bytes next ≡ accepted a → Tested party bytes
+tested-accepted party bytes next a e =
+    let found = framed-accepted bytes (ofKind party (mapIn bytes) (kindIn bytes) kinds next) a e in
+    record { framed = found .0; passed = accepted-passed party (mapIn bytes) (kindIn bytes) next a (found .1) }
+
+module _ (party : Party) (bytes : List ℕ) (t : Tested party bytes) where
+  tested-passes : (A : Type 0) (next : Kind → Outcome A) → tested party bytes next ≡ next (row (kindIn bytes))
+  tested-passes A next = framed-passes bytes (ofKind party (mapIn bytes) (kindIn bytes) kinds next) (t .framed) ∙ t .passed .passes A next
+
+  -- Then both reading and decoding accept.
+  pub decode-tested : decode party bytes ≡ accepted (messageOf (t .passed .taken) bytes)
+  unfolding decode
+  decode-tested = tested-passes Message (λ row. row .message bytes) ∙ row-message bytes (kindIn bytes) party (t .framed) (t .passed .taken)
+
+  pub reading-tested : reading party bytes ≡ accepted (fieldsIn bytes)
+  unfolding reading
+  reading-tested = tested-passes Fields (λ row. accepted (fieldsIn bytes))
+
+-- What an accepted reading says.
+pub record Parsed (party : Party) (bytes : List ℕ) (fs : Fields) : Type 0 where
+  pub same : fs ≡ fieldsIn bytes
+  pub framed : Framed bytes
+  -- Bits 0 and 1 are set: the sender stands at 3 and the other fields from 4 on.
+  pub second : place bytes 1 ≡ 3
+  pub third : place bytes 2 ≡ 4
+  pub rises : (a b : ℕ) → a ≤ b → place bytes a ≤ place bytes b
+  pub inside : (b : ℕ) → b ≤ 9 → place bytes b + 64 ≤ length bytes
+  pub taken : Taken (mapIn bytes) (fs .kind) party
+  pub decodes : decode party bytes ≡ accepted (messageOf taken bytes)
+
+module _ (party : Party) (bytes : List ℕ) (fs : Fields) (e : reading party bytes ≡ accepted fs) where
+  reading-passed : Tested party bytes
+  unfolding reading
+  reading-passed = tested-accepted party bytes (λ row. accepted (fieldsIn bytes)) fs e
+
+  pub parsed : Parsed party bytes fs
+  unfolding fieldsIn
+  parsed =
+      let t = reading-passed in
+      let same : fieldsIn bytes ≡ fs = cc (reading-tested party bytes t) in
+      let first : Parsed party bytes (fieldsIn bytes) =
+      record {
+        same = refl;
+        framed = t .framed;
+        second = place-one bytes (t .framed);
+        third = place-two bytes (t .framed);
+        rises = place-rises bytes;
+        inside = place-within bytes (t .framed);
+        taken = t .passed .taken;
+        decodes = decode-tested party bytes t;
+      }
+      in
+      subst (λ (fs : Fields). Parsed party bytes fs) same first
+
+module _ (party : Party) (bytes : List ℕ) (fs : Fields) (e : reading party bytes ≡ accepted fs) (k : ℕ) (same : fs .kind ≡ k) where
+  -- The bits of a kind: of these constructors one is left to match.
+  pub taken-kind : Taken (mapIn bytes) k party
+  taken-kind = subst (λ (n : ℕ). Taken (mapIn bytes) n party) same (parsed party bytes fs e .taken)
+
+  kind-row : decode party bytes ≡ row k .message bytes
+  unfolding decode fieldsIn
+  kind-row =
+      let p = parsed party bytes fs e in
+      let kind : kindIn bytes ≡ k = ap (λ (f : Fields). f .kind) (sym (p .same)) ∙ same in
+      tested-passes party bytes (reading-passed party bytes fs e) Message (λ row. row .message bytes) ∙ ap (λ (n : ℕ). row n .message bytes) kind
+
+write-set : {map : ℕ} → Taken map 3 Replica → bit map 6 ≡ true
+write-set (write e) = cc
+
+-- The message, kind by kind.
+pub reads-1 : (bytes : List ℕ) (fs : Fields) → reading Replica bytes ≡ accepted fs → fs .kind ≡ 1 → decode Replica bytes ≡ accepted (READ-STAMP (record { 0 = fs .sender }) (fs .nonce))
+unfolding row kinds fieldsIn
+reads-1 bytes fs e k = let p = parsed Replica bytes fs e in rw (kind-row Replica bytes fs e 1 k, p .same)
+
+pub reads-2 : (bytes : List ℕ) (fs : Fields) → reading Replica bytes ≡ accepted fs → fs .kind ≡ 2 → decode Replica bytes ≡ accepted (PREPARE (record { 0 = fs .sender }) (number (fs .timestamp)) (digestIn bytes) (preparedAt bytes) (writtenAt bytes))
+unfolding row kinds fieldsIn
+reads-2 bytes fs e k = let p = parsed Replica bytes fs e in rw (kind-row Replica bytes fs e 2 k, p .same, prepared-in bytes p.framed, written-in bytes p.framed, number-ofNumber (timestampIn bytes))
+
+pub reads-3 : (bytes : List ℕ) (fs : Fields) → reading Replica bytes ≡ accepted fs → fs .kind ≡ 3 → decode Replica bytes ≡ accepted (WRITE (record { 0 = fs .sender }) (cardIn bytes) (preparedFrom (field bytes 6)))
+unfolding row kinds fieldsIn
+reads-3 bytes fs e k = let p = parsed Replica bytes fs e in rw (kind-row Replica bytes fs e 3 k, p .same, prepared-reads bytes p.framed (write-set (taken-kind Replica bytes fs e 3 k)))
+
+pub reads-4 : (bytes : List ℕ) (fs : Fields) → reading Replica bytes ≡ accepted fs → fs .kind ≡ 4 → decode Replica bytes ≡ accepted (READ (record { 0 = fs .sender }) (fs .nonce))
+unfolding row kinds fieldsIn
+reads-4 bytes fs e k = let p = parsed Replica bytes fs e in rw (kind-row Replica bytes fs e 4 k, p .same)
+
+pub reads-5 : (bytes : List ℕ) (fs : Fields) → reading Client bytes ≡ accepted fs → fs .kind ≡ 5 → decode Client bytes ≡ accepted (STAMP (record { 0 = fs .sender }) (fs .nonce) (preparedAt bytes) (fs .addressed))
+unfolding row kinds fieldsIn
+reads-5 bytes fs e k = let p = parsed Client bytes fs e in rw (kind-row Client bytes fs e 5 k, p .same, prepared-in bytes p.framed)
+
+pub reads-6 : (bytes : List ℕ) (fs : Fields) → reading Client bytes ≡ accepted fs → fs .kind ≡ 6 → decode Client bytes ≡ accepted (PREPARED (record { 0 = fs .sender }) (number (fs .timestamp)) (digestIn bytes))
+unfolding row kinds fieldsIn
+reads-6 bytes fs e k = let p = parsed Client bytes fs e in rw (kind-row Client bytes fs e 6 k, p .same, number-ofNumber (timestampIn bytes))
+
+pub reads-7 : (bytes : List ℕ) (fs : Fields) → reading Client bytes ≡ accepted fs → fs .kind ≡ 7 → decode Client bytes ≡ accepted (WRITTEN (record { 0 = fs .sender }) (number (fs .timestamp)))
+unfolding row kinds fieldsIn
+reads-7 bytes fs e k = let p = parsed Client bytes fs e in rw (kind-row Client bytes fs e 7 k, p .same, number-ofNumber (timestampIn bytes))
+
+pub reads-8 : (bytes : List ℕ) (fs : Fields) → reading Client bytes ≡ accepted fs → fs .kind ≡ 8 → decode Client bytes ≡ accepted (CARD (record { 0 = fs .sender }) (fs .nonce) (cardIn bytes) (preparedAt bytes) (fs .addressed))
+unfolding row kinds fieldsIn
+reads-8 bytes fs e k = let p = parsed Client bytes fs e in rw (kind-row Client bytes fs e 8 k, p .same, prepared-in bytes p.framed)
+
+-- "holders 1 to 4, desks 5 to 8"
+pub replica-kind : {map kind : ℕ} → Taken map kind Replica → (kind ≡ 1) ⊎ ((kind ≡ 2) ⊎ ((kind ≡ 3) ⊎ (kind ≡ 4)))
+replica-kind (read-stamp e) = inl refl
+replica-kind (prepare e) = inr (inl refl)
+replica-kind (write e) = inr (inr (inl refl))
+replica-kind (read e) = inr (inr (inr refl))
+
+pub client-kind : {map kind : ℕ} → Taken map kind Client → (kind ≡ 5) ⊎ ((kind ≡ 6) ⊎ ((kind ≡ 7) ⊎ (kind ≡ 8)))
+client-kind (stamp e) = inl refl
+client-kind (prepared e) = inr (inl refl)
+client-kind (written e) = inr (inr (inl refl))
+client-kind (card e) = inr (inr (inr refl))
+
+-- Outcomes that only the tests refuse, refused alike whatever follows.
+module _ {A B : Type 0} (n : ℕ) where
+  guard-alike : (k : ℕ) (test : Bool) (x : Outcome A) (y : Outcome B) → (x ≡ refused n → y ≡ refused n) → guard k test x ≡ refused n → guard k test y ≡ refused n
+  unfolding guard
+  guard-alike k true x y alike e = alike e
+  guard-alike k false x y alike e = cc
+
+  rows-alike : (party : Party) (map number : ℕ) (rows : List Kind) (a : A) (next : Kind → Outcome B)
+      → ofKind party map number rows (λ row. accepted a) ≡ refused n → ofKind party map number rows next ≡ refused n
+  unfolding ofKind
+  rows-alike party map number [] a next e = cc
+  rows-alike party map number (r ∷ rows) a next e = go (rows-alike party map number rows a next) (eqb number (r .number)) e
+    where
+      go : (ofKind party map number rows (λ row. accepted a) ≡ refused n → ofKind party map number rows next ≡ refused n) → (t : Bool)
+          → cond t (guard 5 (suits party map r) (accepted a)) (ofKind party map number rows (λ row. accepted a)) ≡ refused n
+          → cond t (guard 5 (suits party map r) (next r)) (ofKind party map number rows next) ≡ refused n
+      go ih true e = guard-alike 5 (suits party map r) (accepted a) (next r) (λ z. let zero-one : _≡_ {A = ℕ} 0 1 = cc in absurd (omega arith)) e
+      go ih false e = ih e
+
+  tested-alike : (party : Party) (bytes : List ℕ) (a : A) (next : Kind → Outcome B) → tested party bytes (λ row. accepted a) ≡ refused n → tested party bytes next ≡ refused n
+  unfolding framed
+  tested-alike party bytes a next e =
+      let x = ofKind party (mapIn bytes) (kindIn bytes) kinds (λ row. accepted a) in
+      let y = ofKind party (mapIn bytes) (kindIn bytes) kinds next in
+      let four = eqb (place bytes 9 + 64) (length bytes) in
+      let three = goodMap (mapIn bytes) in
+      guard-alike 2 (within 2 longest (length bytes)) (guard 3 three (guard 4 four x)) (guard 3 three (guard 4 four y))
+      (guard-alike 3 three (guard 4 four x) (guard 4 four y) (guard-alike 4 four x y (rows-alike party (mapIn bytes) (kindIn bytes) kinds a next))) e
+
+-- Reading and decoding refuse alike.
+pub decode-refused : (party : Party) (bytes : List ℕ) (n : ℕ) → reading party bytes ≡ refused n → decode party bytes ≡ refused n
+unfolding reading decode
+decode-refused party bytes n e = tested-alike n party bytes (fieldsIn bytes) (λ row. row .message bytes) e
+
+pub reading-refused : (party : Party) (bytes : List ℕ) (n : ℕ) → decode party bytes ≡ refused n → reading party bytes ≡ refused n
+reading-refused party bytes n e = go (reading party bytes) refl
+  where
+    go : (o : Outcome Fields) → reading party bytes ≡ o → reading party bytes ≡ refused n
+    go (accepted fs) r = let p = parsed party bytes fs r .decodes in let z : _≡_ {A = ℕ} 0 1 = cc in absurd (omega arith)
+    go (refused k) r = let d = decode-refused party bytes k r in cc
+
+-- And accept alike.
+pub decode-accepted : (party : Party) (bytes : List ℕ) (m : Message) → decode party bytes ≡ accepted m → reading party bytes ≡ accepted (fieldsIn bytes)
+unfolding decode
+decode-accepted party bytes m e = reading-tested party bytes (tested-accepted party bytes (λ row. row .message bytes) m e)
+
+-- 5: what the table does not let through.
+rows-refuse : {A : Type 0} (party : Party) (map number : ℕ) (rows : List Kind) (a : A)
+    → (ofKind party map number rows (λ row. accepted a) ≡ accepted a) ⊎ (ofKind party map number rows (λ row. accepted a) ≡ refused 5)
+unfolding ofKind
+rows-refuse party map number [] a = inr refl
+rows-refuse party map number (r ∷ rows) a = go (eqb number (r .number)) (suits party map r) (rows-refuse party map number rows a)
+  where
+    go : (t s : Bool) → (ofKind party map number rows (λ row. accepted a) ≡ accepted a) ⊎ (ofKind party map number rows (λ row. accepted a) ≡ refused 5)
+        → (cond t (guard 5 s (accepted a)) (ofKind party map number rows (λ row. accepted a)) ≡ accepted a) ⊎ (cond t (guard 5 s (accepted a)) (ofKind party map number rows (λ row. accepted a)) ≡ refused 5)
+    go true true ih = inl (unfold guard in refl)
+    go true false ih = inr (unfold guard in refl)
+    go false s ih = ih
+
+pub reading-untaken : (party : Party) (bytes : List ℕ) → Framed bytes → (Taken (mapIn bytes) (kindIn bytes) party → ⊥) → reading party bytes ≡ refused 5
+unfolding reading
+reading-untaken party bytes f untaken =
+    let next : Kind → Outcome Fields = λ row. accepted (fieldsIn bytes) in
+    let table = ofKind party (mapIn bytes) (kindIn bytes) kinds next in
+    framed-passes bytes table f
+    ∙ ⊎-elim (λ e. absurd (untaken (accepted-passed party (mapIn bytes) (kindIn bytes) next (fieldsIn bytes) e .taken))) (λ e. e) (rows-refuse party (mapIn bytes) (kindIn bytes) kinds (fieldsIn bytes))

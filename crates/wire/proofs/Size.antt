@@ -1,0 +1,137 @@
+-- The fields of a message obey their rules; its size; the longest message. Assumes nothing.
+use mathlib.Core.Path.{_≡_, refl, sym, _∙_}
+use mathlib.Core.List.{List, [], _∷_}
+use mathlib.Core.Option.{Option, none, some}
+use Prim.Native.Nat.{ℕ, zero, suc, _+_, _≤_, _<_}
+use native.Mathlib.Omega.{arith}
+use lib.ListN.{length, getD, length-append, replicate}
+use Rattle.base.proofs.BigEndian.{length-toBytes}
+use Rattle.wire.specs.Checks.{preparedOf, writtenOf}
+use Rattle.wire.specs.Layout.{fixed, counted, preparedRule, writtenRule, rules}
+use Rattle.wire.specs.Message.{Message, READ-STAMP, PREPARE, WRITE, READ, STAMP, PREPARED, WRITTEN, CARD, number, sized, preparedField, writtenField, fields, joined, body, encode, IsSignature, PreparedFits, WrittenFits, IfThere, Fits, preparedSize, writtenSize, EachFits, Legal, size, longest}
+use Rattle.wire.specs.Proof.{Entry, PreparedProof, WrittenProof}
+use Rattle.wire.proofs.Places.{content, Obeys, AllObey}
+use Rattle.wire.proofs.ProofBytes.{length-prepared, length-written, prepared-obeys, written-obeys}
+
+number-obeys : (width n : ℕ) → Obeys (fixed width) (number width n)
+number-obeys width n rest = sym (length-toBytes width n)
+
+sized-obeys : (card : List ℕ) → Obeys (counted 1 1) (sized card)
+sized-obeys card rest = omega arith
+
+preparedField-obeys : (proof : Option PreparedProof) → IfThere PreparedFits proof → Obeys preparedRule (preparedField proof)
+preparedField-obeys none fits = tt
+preparedField-obeys (some p) fits = prepared-obeys p fits
+
+writtenField-obeys : (proof : Option WrittenProof) → IfThere WrittenFits proof → Obeys writtenRule (writtenField proof)
+writtenField-obeys none fits = tt
+writtenField-obeys (some p) fits = written-obeys p fits
+
+pub fields-obey : (m : Message) → Fits m → AllObey rules (fields m)
+unfolding fields rules Fits
+fields-obey (READ-STAMP c n) fits = (number-obeys 1 1, (number-obeys 1 (c .0), (number-obeys 8 n, (tt, (tt, (tt, (tt, (tt, (tt, tt)))))))))
+fields-obey (PREPARE c t d proof last) fits =
+    (number-obeys 1 2, (number-obeys 1 (c .0), (tt, (number-obeys 5 t, ((λ rest. sym (fits .2 .0)), (tt, (preparedField-obeys proof (fits .3), (writtenField-obeys last (fits .4), (tt, tt)))))))))
+fields-obey (WRITE c card proof) fits = (number-obeys 1 3, (number-obeys 1 (c .0), (tt, (tt, (tt, (sized-obeys card, (prepared-obeys proof (fits .2), (tt, (tt, tt)))))))))
+fields-obey (READ c n) fits = (number-obeys 1 4, (number-obeys 1 (c .0), (number-obeys 8 n, (tt, (tt, (tt, (tt, (tt, (tt, tt)))))))))
+fields-obey (STAMP r n proof c) fits =
+    (number-obeys 1 5, (number-obeys 1 (r .0), (number-obeys 8 n, (tt, (tt, (tt, (preparedField-obeys proof (fits .2), (tt, (number-obeys 1 (c .0), tt)))))))))
+fields-obey (PREPARED r t d) fits = (number-obeys 1 6, (number-obeys 1 (r .0), (tt, (number-obeys 5 t, ((λ rest. sym (fits .2 .0)), (tt, (tt, (tt, (tt, tt)))))))))
+fields-obey (WRITTEN r t) fits = (number-obeys 1 7, (number-obeys 1 (r .0), (tt, (number-obeys 5 t, (tt, (tt, (tt, (tt, (tt, tt)))))))))
+fields-obey (CARD r n card proof c) fits =
+    (number-obeys 1 8, (number-obeys 1 (r .0), (number-obeys 8 n, (tt, (tt, (sized-obeys card, (preparedField-obeys proof (fits .3), (tt, (number-obeys 1 (c .0), tt)))))))))
+
+-- The lengths of fields, added up.
+total : List (Option (List ℕ)) → ℕ
+total [] = 0
+total (f ∷ fs) = length (content f) + total fs
+
+length-joined : (fs : List (Option (List ℕ))) → length (joined fs) ≡ total fs
+unfolding joined total
+length-joined [] = refl
+length-joined (none ∷ fs) = length-joined fs ∙ omega arith
+length-joined (some x ∷ fs) = rw (length-append, length-joined fs)
+
+length-preparedField : (proof : Option PreparedProof) → IfThere PreparedFits proof → length (content (preparedField proof)) ≡ preparedSize proof
+length-preparedField none fits = refl
+length-preparedField (some p) fits = length-prepared p fits
+
+length-writtenField : (proof : Option WrittenProof) → IfThere WrittenFits proof → length (content (writtenField proof)) ≡ writtenSize proof
+length-writtenField none fits = refl
+length-writtenField (some p) fits = length-written p fits
+
+total-size : (m : Message) → Fits m → 2 + total (fields m) + 64 ≡ size m
+unfolding total fields Fits size
+total-size (READ-STAMP c n) fits = simp length-toBytes (omega arith)
+total-size (PREPARE c t d proof last) fits =
+    let digest = fits .2 .0 in
+    simp (length-toBytes, length-preparedField proof (fits .3), length-writtenField last (fits .4)) (omega arith)
+total-size (WRITE c card proof) fits = simp (length-toBytes, length-prepared proof (fits .2)) (omega arith)
+total-size (READ c n) fits = simp length-toBytes (omega arith)
+total-size (STAMP r n proof c) fits = simp (length-toBytes, length-preparedField proof (fits .2)) (omega arith)
+total-size (PREPARED r t d) fits = let digest = fits .2 .0 in simp length-toBytes (omega arith)
+total-size (WRITTEN r t) fits = simp length-toBytes (omega arith)
+total-size (CARD r n card proof c) fits = simp (length-toBytes, length-preparedField proof (fits .3)) (omega arith)
+
+-- How many bytes are written.
+pub encode-size : (m : Message) (signature : List ℕ) → Fits m → IsSignature signature → length (encode m signature) ≡ size m
+unfolding encode body
+encode-size m signature fits sig =
+    let whole = total-size m fits in
+    let end = sig .0 in
+    simp (length-append, length-toBytes, length-joined) (omega arith)
+
+-- The card of a message, empty where it has none.
+abbrev pub cardBytes : Message → List ℕ
+cardBytes (READ-STAMP c n) = []
+cardBytes (PREPARE c t d proof last) = []
+cardBytes (WRITE c card proof) = card
+cardBytes (READ c n) = []
+cardBytes (STAMP r n proof c) = []
+cardBytes (PREPARED r t d) = []
+cardBytes (WRITTEN r t) = []
+cardBytes (CARD r n card proof c) = card
+
+few-prepared : (proof : Option PreparedProof) → IfThere (λ (p : PreparedProof). length (p .entries) ≤ 11) proof → preparedSize proof ≤ 753
+few-prepared none few = omega arith
+few-prepared (some p) few = omega arith
+
+few-written : (proof : Option WrittenProof) → IfThere (λ (p : WrittenProof). length (p .entries) ≤ 11) proof → writtenSize proof ≤ 721
+few-written none few = omega arith
+few-written (some p) few = omega arith
+
+-- "The longest message has 1,579 bytes", for cards of at most 17 bytes and proofs of at most 11 entries.
+pub at-most-longest : (m : Message) → length (cardBytes m) ≤ 17
+    → IfThere (λ (p : PreparedProof). length (p .entries) ≤ 11) (preparedOf m) → IfThere (λ (p : WrittenProof). length (p .entries) ≤ 11) (writtenOf m) → size m ≤ longest
+unfolding size
+at-most-longest (READ-STAMP c n) card prepared written = omega arith
+at-most-longest (PREPARE c t d proof last) card prepared written = omega (arith, few-prepared proof prepared, few-written last written)
+at-most-longest (WRITE c bytes proof) card prepared written = omega arith
+at-most-longest (READ c n) card prepared written = omega arith
+at-most-longest (STAMP r n proof c) card prepared written = omega (arith, few-prepared proof prepared)
+at-most-longest (PREPARED r t d) card prepared written = omega arith
+at-most-longest (WRITTEN r t) card prepared written = omega arith
+at-most-longest (CARD r n bytes proof c) card prepared written = omega (arith, few-prepared proof prepared)
+
+-- A PREPARE with two proofs of 11 entries has that many.
+blank : Entry
+blank = record { signer = record { 0 = 1 }; signature = replicate 64 0 }
+
+pub longestMessage : Message
+longestMessage =
+    PREPARE (record { 0 = 1 }) 513 (replicate 32 0) (some (record { timestamp = 257; digest = replicate 32 0; entries = replicate 11 blank })) (some (record { timestamp = 257; entries = replicate 11 blank }))
+
+zeros : (n i : ℕ) → getD (replicate n 0) i 0 < 256
+zeros zero i = omega arith
+zeros (suc n) zero = omega arith
+zeros (suc n) (suc i) = zeros n i
+
+blanks-fit : (n : ℕ) → EachFits (replicate n blank)
+unfolding blank
+blanks-fit zero = tt
+blanks-fit (suc n) = ((omega arith, (refl, zeros 64)), blanks-fit n)
+
+pub longest-reached : (size longestMessage ≡ longest) × Legal longestMessage
+unfolding size longestMessage Fits
+longest-reached =
+    (refl, record { fits = (omega arith, omega arith, (refl, zeros 32), (omega arith, (refl, zeros 32), (omega arith, blanks-fit 11)), (omega arith, (omega arith, blanks-fit 11))); short = omega arith })

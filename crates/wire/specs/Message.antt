@@ -1,0 +1,134 @@
+-- Document 01, "Messages": the eight kinds as data, their bytes, and which are legal.
+use mathlib.Core.Path.{_≡_}
+use mathlib.Core.List.{List, [], _∷_, _++_}
+use mathlib.Core.Option.{Option, none, some}
+use Prim.Native.Nat.{ℕ, _+_, _*_, _^_, _<_, _≤_}
+use lib.ListN.{length}
+use Rattle.base.specs.BigEndian.{toBytes, Bytes}
+use Rattle.base.specs.BitMap.{mapOf}
+use Rattle.base.specs.declared.party.ClientId.{ClientId}
+use Rattle.base.specs.declared.party.ReplicaId.{ReplicaId}
+use Rattle.wire.specs.Proof.{Entry, PreparedProof, WrittenProof, preparedBytes, writtenBytes}
+
+-- A message but for its signature. Fields stand in the order of their bits; a timestamp is its number.
+pub data Message : Type 0 where
+  READ-STAMP : ClientId → ℕ → Message  -- sender, nonce
+  PREPARE : ClientId → ℕ → List ℕ → Option PreparedProof → Option WrittenProof → Message  -- sender, timestamp, digest, proofs
+  WRITE : ClientId → List ℕ → PreparedProof → Message  -- sender, card, proof
+  READ : ClientId → ℕ → Message  -- sender, nonce
+  STAMP : ReplicaId → ℕ → Option PreparedProof → ClientId → Message  -- sender, nonce, proof, client addressed
+  PREPARED : ReplicaId → ℕ → List ℕ → Message  -- sender, timestamp, digest
+  WRITTEN : ReplicaId → ℕ → Message  -- sender, timestamp
+  CARD : ReplicaId → ℕ → List ℕ → Option PreparedProof → ClientId → Message  -- sender, nonce, card, proof, client addressed
+
+-- A field that is there: a number of so many bytes, a card behind its length, an optional proof.
+abbrev pub number : ℕ → ℕ → Option (List ℕ)
+number width n = some (toBytes width n)
+
+abbrev pub sized : List ℕ → Option (List ℕ)
+sized bytes = some (length bytes ∷ bytes)
+
+abbrev pub preparedField : Option PreparedProof → Option (List ℕ)
+preparedField none = none
+preparedField (some proof) = some (preparedBytes proof)
+
+abbrev pub writtenField : Option WrittenProof → Option (List ℕ)
+writtenField none = none
+writtenField (some proof) = some (writtenBytes proof)
+
+-- The fields by bit: 0 kind, 1 sender, 2 nonce, 3 timestamp, 4 digest, 5 card, 6 prepared proof, 7 written proof, 8 client addressed.
+unfoldable pub fields : Message → List (Option (List ℕ))
+fields (READ-STAMP client nonce) = number 1 1 ∷ number 1 (client .0) ∷ number 8 nonce ∷ none ∷ none ∷ none ∷ none ∷ none ∷ none ∷ []
+fields (PREPARE client timestamp digest proof last) =
+    number 1 2 ∷ number 1 (client .0) ∷ none ∷ number 5 timestamp ∷ some digest ∷ none ∷ preparedField proof ∷ writtenField last ∷ none ∷ []
+fields (WRITE client card proof) = number 1 3 ∷ number 1 (client .0) ∷ none ∷ none ∷ none ∷ sized card ∷ some (preparedBytes proof) ∷ none ∷ none ∷ []
+fields (READ client nonce) = number 1 4 ∷ number 1 (client .0) ∷ number 8 nonce ∷ none ∷ none ∷ none ∷ none ∷ none ∷ none ∷ []
+fields (STAMP replica nonce proof client) =
+    number 1 5 ∷ number 1 (replica .0) ∷ number 8 nonce ∷ none ∷ none ∷ none ∷ preparedField proof ∷ none ∷ number 1 (client .0) ∷ []
+fields (PREPARED replica timestamp digest) =
+    number 1 6 ∷ number 1 (replica .0) ∷ none ∷ number 5 timestamp ∷ some digest ∷ none ∷ none ∷ none ∷ none ∷ []
+fields (WRITTEN replica timestamp) = number 1 7 ∷ number 1 (replica .0) ∷ none ∷ number 5 timestamp ∷ none ∷ none ∷ none ∷ none ∷ none ∷ []
+fields (CARD replica nonce card proof client) =
+    number 1 8 ∷ number 1 (replica .0) ∷ number 8 nonce ∷ none ∷ none ∷ sized card ∷ preparedField proof ∷ none ∷ number 1 (client .0) ∷ []
+
+-- The fields that are there, one after the other.
+unfoldable pub joined : List (Option (List ℕ)) → List ℕ
+joined [] = []
+joined (none ∷ fields) = joined fields
+joined (some bytes ∷ fields) = bytes ++ joined fields
+
+-- The bytes that the signature covers: bit map and fields.
+unfoldable pub body : Message → List ℕ
+body message = toBytes 2 (mapOf (fields message)) ++ joined (fields message)
+
+-- "then a 64-byte seal over all bytes before it"
+unfoldable pub encode : Message → List ℕ → List ℕ
+encode message signature = body message ++ signature
+
+-- What fits its field's width. Said of the data alone, not of its bytes.
+abbrev pub IsDigest : List ℕ → Type 0
+IsDigest digest = (length digest ≡ 32) × Bytes digest
+
+abbrev pub IsSignature : List ℕ → Type 0
+IsSignature signature = (length signature ≡ 64) × Bytes signature
+
+abbrev pub EachFits : List Entry → Type 0
+EachFits [] = Unit {0}
+EachFits (entry ∷ entries) = ((entry .signer .0 < 256) × IsSignature (entry .signature)) × EachFits entries
+
+abbrev pub EntriesFit : List Entry → Type 0
+EntriesFit entries = (length entries < 256) × EachFits entries
+
+abbrev pub PreparedFits : PreparedProof → Type 0
+PreparedFits proof = (proof .timestamp < 2 ^ 40) × IsDigest (proof .digest) × EntriesFit (proof .entries)
+
+abbrev pub WrittenFits : WrittenProof → Type 0
+WrittenFits proof = (proof .timestamp < 2 ^ 40) × EntriesFit (proof .entries)
+
+abbrev pub IfThere : {A : Type 0} → (A → Type 0) → Option A → Type 0
+IfThere P none = Unit {0}
+IfThere P (some a) = P a
+
+abbrev pub CardFits : List ℕ → Type 0
+CardFits card = (length card < 256) × Bytes card
+
+unfoldable pub Fits : Message → Type 0
+Fits (READ-STAMP client nonce) = (client .0 < 256) × (nonce < 2 ^ 64)
+Fits (PREPARE client timestamp digest proof last) = (client .0 < 256) × (timestamp < 2 ^ 40) × IsDigest digest × IfThere PreparedFits proof × IfThere WrittenFits last
+Fits (WRITE client card proof) = (client .0 < 256) × CardFits card × PreparedFits proof
+Fits (READ client nonce) = (client .0 < 256) × (nonce < 2 ^ 64)
+Fits (STAMP replica nonce proof client) = (replica .0 < 256) × (nonce < 2 ^ 64) × IfThere PreparedFits proof × (client .0 < 256)
+Fits (PREPARED replica timestamp digest) = (replica .0 < 256) × (timestamp < 2 ^ 40) × IsDigest digest
+Fits (WRITTEN replica timestamp) = (replica .0 < 256) × (timestamp < 2 ^ 40)
+Fits (CARD replica nonce card proof client) = (replica .0 < 256) × (nonce < 2 ^ 64) × CardFits card × IfThere PreparedFits proof × (client .0 < 256)
+
+-- How many bytes a message has, its signature included.
+abbrev pub preparedSize : Option PreparedProof → ℕ
+preparedSize none = 0
+preparedSize (some proof) = 38 + 65 * length (proof .entries)
+
+abbrev pub writtenSize : Option WrittenProof → ℕ
+writtenSize none = 0
+writtenSize (some proof) = 6 + 65 * length (proof .entries)
+
+-- Bit map, kind and sender in front, the signature behind.
+abbrev pub sizeWith : ℕ → ℕ
+sizeWith others = 2 + 1 + 1 + others + 64
+
+unfoldable pub size : Message → ℕ
+size (READ-STAMP client nonce) = sizeWith 8
+size (PREPARE client timestamp digest proof last) = sizeWith (5 + 32 + preparedSize proof + writtenSize last)
+size (WRITE client card proof) = sizeWith (1 + length card + preparedSize (some proof))
+size (READ client nonce) = sizeWith 8
+size (STAMP replica nonce proof client) = sizeWith (8 + preparedSize proof + 1)
+size (PREPARED replica timestamp digest) = sizeWith (5 + 32)
+size (WRITTEN replica timestamp) = sizeWith 5
+size (CARD replica nonce card proof client) = sizeWith (8 + 1 + length card + preparedSize proof + 1)
+
+-- "The longest message has 1,579 bytes."
+abbrev pub longest : ℕ
+longest = 1_579
+
+pub record Legal (message : Message) : Type 0 where
+  pub fits : Fits message
+  pub short : size message ≤ longest
