@@ -1,11 +1,12 @@
 -- Numbers as bytes: writing then reading, and reading then writing, at every width. Assumes nothing.
-use mathlib.Core.Path.{_≡_, refl, sym, ap, _∙_}
-use mathlib.Core.List.{List, [], _∷_, _++_}
+use mathlib.Core.Path.{_≡_, refl, ap, _∙_}
+use mathlib.Core.List.{List, [], _∷_, _++_, append-nil, append-assoc}
 use Prim.Native.Nat.{ℕ, zero, suc, _+_, _*_, _/_, _%_, _^_, _≤_, _<_}
 use native.Mathlib.Nat.{pow-suc}
+use native.Mathlib.Numerals.{add-one}
 use native.Mathlib.Omega.{arith}
-use lib.ListN.{length, getD, take, length-append}
-use lib.Seq.{take-suc, take-length}
+use lib.ListN.{length, getD, take, drop, replicate, length-append, replicate-append-replicate}
+use lib.Seq.{take-suc, take-length, getD-drop}
 use Rattle.base.specs.BigEndian.{appended, fromBytes, toBytes, Bytes}
 
 appended-snoc : (n : ℕ) (bs : List ℕ) (b : ℕ) → appended n (bs ++ b ∷ []) ≡ appended n bs * 256 + b
@@ -71,3 +72,29 @@ bytes-toBytes (suc width) n i = bytes-append (toBytes width (n / 256)) (n % 256 
     one : Bytes (n % 256 ∷ [])
     one zero = omega arith
     one (suc j) = omega arith
+
+pub bytes-drop : (n : ℕ) (l : List ℕ) → Bytes l → Bytes (drop n l)
+bytes-drop n l small i = rw getD-drop (small (n + i))
+
+pub bytes-take : (n : ℕ) (l : List ℕ) → Bytes l → Bytes (take n l)
+bytes-take zero l small i = omega arith
+bytes-take (suc n) [] small i = omega arith
+bytes-take (suc n) (x ∷ l) small zero = small 0
+bytes-take (suc n) (x ∷ l) small (suc i) = bytes-take n l (λ j. small (suc j)) i
+
+toBytes-zero : (width : ℕ) → toBytes width 0 ≡ replicate width 0
+unfolding toBytes
+toBytes-zero zero = refl
+toBytes-zero (suc width) = rw (toBytes-zero width) (replicate-append-replicate width 1 0 ∙ ap (λ (n : ℕ). replicate n 0) (add-one width))
+
+-- A number that fits fewer bytes than it is written in has zero bytes in front.
+pub toBytes-zeros : (more width n : ℕ) → n < 256 ^ width → toBytes (more + width) n ≡ replicate more 0 ++ toBytes width n
+unfolding toBytes
+toBytes-zeros more zero n h =
+    let e : n ≡ 0 = omega (arith, h) in
+    let f : more + 0 ≡ more = omega arith in
+    rw (e, f, append-nil) (toBytes-zero more)
+toBytes-zeros more (suc width) n h =
+    let e : more + suc width ≡ suc (more + width) = omega arith in
+    let p = pow-suc 256 width in
+    rw (e, toBytes-zeros more width (n / 256) (omega (arith, h, p)), append-assoc)

@@ -19,7 +19,7 @@ use Rattle.base.proofs.Range.{inside, bounds}
 use Rattle.wire.specs.Decode.{framed, goodMap}
 use Rattle.wire.specs.Layout.{Rule, fixed, counted, extent, rules, mapIn, place, field}
 use Rattle.wire.specs.Message.{longest}
-use Rattle.wire.proofs.Parts.{bytes-take, bytes-drop}
+use Rattle.base.proofs.BigEndian.{bytes-take, bytes-drop}
 
 -- The tests 2 to 4 passed.
 pub record Framed (bytes : List ℕ) : Type 0 where

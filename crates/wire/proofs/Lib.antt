@@ -1,3 +1,4 @@
+pub mod Digest
 pub mod Framed
 pub mod OneForm
 pub mod Parsed

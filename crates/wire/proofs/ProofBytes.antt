@@ -14,7 +14,8 @@ use Rattle.base.proofs.Outcome.{guard-passes, guard-accepted}
 use Rattle.wire.specs.Layout.{Rule, extent, preparedRule, writtenRule}
 use Rattle.wire.specs.Message.{EachFits, EntriesFit, PreparedFits, WrittenFits}
 use Rattle.wire.specs.Proof.{Entry, PreparedProof, WrittenProof, entriesBytes, countedEntries, preparedBytes, writtenBytes, readEntries, preparedFrom, writtenFrom, readPrepared, readWritten}
-use Rattle.wire.proofs.Parts.{bytes-take, bytes-drop, rewritten, below}
+use Rattle.base.proofs.BigEndian.{bytes-take, bytes-drop}
+use Rattle.wire.proofs.Parts.{rewritten, below}
 
 -- Entries written.
 pub length-entries : (es : List Entry) → EachFits es → length (entriesBytes es) ≡ 65 * length es

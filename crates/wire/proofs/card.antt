@@ -1,3 +1,4 @@
+pub mod Digests
 pub mod Parsed
 pub mod Reading
 pub mod RoundTrip

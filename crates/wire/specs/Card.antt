@@ -12,8 +12,10 @@ use Rattle.base.specs.Range.{within}
 use Rattle.wire.specs.declared.card.Row.{Row}
 use Rattle.wire.specs.declared.card.FieldRead.{FieldRead}
 use Rattle.wire.specs.declared.card.FieldRead.the-variants.{Value, Nothing}
+use Rattle.wire.specs.Sha256.{sha256}
 use Rattle.wire.specs.declared.card.CardCheck.{CardCheck}
 use Rattle.wire.specs.declared.card.CardCheck.the-variants.{Good, Refused}
+use Rattle.wire.specs.declared.card.CardDigest.{CardDigest}
 use Rattle.wire.specs.declared.card.CardFields.{CardFields}
 use Rattle.wire.specs.declared.card.CardRead.{CardRead}
 
@@ -140,3 +142,11 @@ readAnswer (some fields) = record { check = Good; fields = fieldsRecord fields }
 
 abbrev pub cardRead : List ℕ → CardRead
 cardRead card = readAnswer (readCard card)
+
+-- "The card digest is SHA-256 of its bytes."
+abbrev pub digestAnswer : Bool → List ℕ → CardDigest
+digestAnswer true card = record { check = Good; bytes = sha256 card }
+digestAnswer false card = record { check = Refused 14; bytes = replicate 32 0 }
+
+abbrev pub cardDigest : List ℕ → CardDigest
+cardDigest card = digestAnswer (isCard card) card

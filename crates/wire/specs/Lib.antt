@@ -5,3 +5,4 @@ pub mod Decode
 pub mod Layout
 pub mod Message
 pub mod Proof
+pub mod Sha256

@@ -4,7 +4,7 @@ ghost use mathlib.Core.Option.{none};
 ghost use Prim.Native.Nat.{_+_, _≤_, _<_};
 ghost use lib.ListN.{length, getD, drop};
 ghost use Rattle.base.specs.BigEndian.{fromBytes};
-ghost use Rattle.wire.specs.Card.{row, table, standing, readFields, goodMap, checkCard, cardOutcome, fieldOf, readAnswer, cardRead};
+ghost use Rattle.wire.specs.Card.{row, table, standing, readFields, goodMap, checkCard, cardOutcome, fieldOf, readAnswer, cardRead, cardDigest};
 
 pub enum CardCheck {
     Good,
@@ -20,6 +20,12 @@ pub struct CardFields {
 pub struct CardRead {
     pub check: CardCheck,
     pub fields: CardFields,
+}
+
+// A card's digest; 32 zero bytes where the card is refused.
+pub struct CardDigest {
+    pub check: CardCheck,
+    pub bytes: [u8; 32],
 }
 
 // A row of the card's table: how many bytes the field has, its least and its greatest value.
@@ -181,4 +187,21 @@ pub fn check(card: &[u8]) -> CardCheck
     ensures { λ r. ⌜ cardOutcome r ≡ checkCard (now (card .entry)) ⌝ }
 {
     read(card).check
+}
+
+// The digest of a card alone, or refusal 14.
+pub fn digest(card: &[u8]) -> CardDigest
+    ensures { λ r. ⌜ r ≡ cardDigest (now (card .entry)) ⌝ }
+{
+    let CardCheck::Good = check(card) else {
+        return CardDigest {
+            check: CardCheck::Refused(BREAKS_TABLE),
+            bytes: [0; 32],
+        };
+    };
+    let bytes = crate::sha256::sha256(card).bytes;
+    CardDigest {
+        check: CardCheck::Good,
+        bytes,
+    }
 }

@@ -11,7 +11,7 @@ use lib.ListN.{length, take, drop, replicate, length-append, length-drop, take-a
 use lib.Seq.{getD-drop, take-at, drop-at, length-take-le}
 use Rattle.base.specs.BigEndian.{fromBytes, toBytes, Bytes}
 use Rattle.base.specs.Range.{within}
-use Rattle.base.proofs.BigEndian.{length-toBytes, fromBytes-toBytes, toBytes-fromBytes}
+use Rattle.base.proofs.BigEndian.{length-toBytes, fromBytes-toBytes, toBytes-fromBytes, bytes-take, bytes-drop}
 use Rattle.base.proofs.Booleans.{and-true-both}
 use Rattle.base.proofs.Range.{bounds}
 use Rattle.base.specs.BitMap.{mapOf}
@@ -81,15 +81,6 @@ unfolding inRange
 ranged ended = refl
 ranged (missing even r) = ranged r
 ranged (present {row = row} {bytes = bytes} {value = value} odd s r) = rw (stood row bytes value s .2) (ranged r)
-
-bytes-take : (n : ℕ) (bytes : List ℕ) → Bytes bytes → Bytes (take n bytes)
-bytes-take zero bytes small i = omega arith
-bytes-take (suc n) [] small i = omega arith
-bytes-take (suc n) (b ∷ bytes) small zero = small 0
-bytes-take (suc n) (b ∷ bytes) small (suc i) = bytes-take n bytes (λ j. small (suc j)) i
-
-bytes-drop : (n : ℕ) (bytes : List ℕ) → Bytes bytes → Bytes (drop n bytes)
-bytes-drop n bytes small i = rw getD-drop (small (n + i))
 
 -- Bytes in front that were read are written again.
 front-again : (n : ℕ) (bytes : List ℕ) → Bytes bytes → n ≤ length bytes → toBytes n (fromBytes (take n bytes)) ≡ take n bytes

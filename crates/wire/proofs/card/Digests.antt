@@ -1,0 +1,40 @@
+-- What a card's check says of it, and that a good card has a digest. Assumes nothing.
+use mathlib.Core.Path.{_≡_, refl, ap, sym, _∙_}
+use mathlib.Core.Bool.{Bool, true, false}
+use mathlib.Core.List.{List}
+use mathlib.Core.Option.{Option, none, some}
+use Prim.Native.Nat.{ℕ, _≤_}
+use native.Mathlib.Omega.{arith}
+use borrow.Author.Tests.{le-leb}
+use lib.ListN.{length}
+use Rattle.base.specs.Outcome.{Outcome, accepted, refused, guard}
+use Rattle.base.proofs.Outcome.{guard-passes, guard-refuses}
+use Rattle.wire.specs.Card.{Fields, readCard, isSome, isCard, checkCard, cardOutcome}
+use Rattle.wire.specs.Sha256.{sha256, answer, digestOf, longestMessage}
+use Rattle.wire.specs.declared.card.CardCheck.{CardCheck}
+use Rattle.wire.specs.declared.card.CardCheck.the-variants.{Good, Refused}
+use Rattle.wire.proofs.card.RoundTrip.{at-most-17}
+
+module _ (card : List ℕ) (check : CardCheck) (e : cardOutcome check ≡ checkCard card) where
+  pub checked-good : check ≡ Good → isCard card ≡ true
+  checked-good g = go (isCard card) refl
+    where
+      go : (b : Bool) → isCard card ≡ b → b ≡ true
+      go true h = refl
+      go false h = let p = guard-refuses {A = Unit {0}} 14 (isCard card) (accepted tt) h in let z : _≡_ {A = ℕ} 0 1 = cc (ap cardOutcome g) in absurd (omega arith)
+
+  pub checked-refused : (number : ℕ) → check ≡ Refused number → isCard card ≡ false
+  checked-refused number g = go (isCard card) refl
+    where
+      go : (b : Bool) → isCard card ≡ b → b ≡ false
+      go true h = let p = guard-passes {A = Unit {0}} 14 (isCard card) (accepted tt) h in let z : _≡_ {A = ℕ} 0 1 = cc (ap cardOutcome g) in absurd (omega arith)
+      go false h = refl
+
+-- A good card is short enough for the digest routine.
+pub good-digest : (card : List ℕ) → isCard card ≡ true → digestOf card ≡ answer true card
+unfolding digestOf
+good-digest card h = go (readCard card) refl
+  where
+    go : (fields : Option Fields) → readCard card ≡ fields → digestOf card ≡ answer true card
+    go none e = let z : _≡_ {A = ℕ} 0 1 = cc (ap isSome e) in absurd (omega arith)
+    go (some fields) e = let short = at-most-17 card fields e in rw (le-leb (length card) longestMessage (omega arith))

@@ -1,0 +1,2 @@
+-- The lemmas of `sha256::functions`.
+pub mod Bits

@@ -1,0 +1,2 @@
+-- The lemmas of `sha256::padding`.
+pub mod Padded

@@ -1,0 +1,2 @@
+-- The lemmas of `sha256::rounds`.
+pub mod Schedule

@@ -1,0 +1,67 @@
+-- `first_rounds`: after t rounds the schedule has t more words. Assumes nothing.
+use mathlib.Core.Path.{_≡_, refl}
+use Prim.Native.Nat.{_+_, _-_, _%_, _≤_}
+use native.Mathlib.Omega.{arith}
+use lib.ListN.{take}
+use Rattle.wire.specs.Sha256.{schedule, rounds}
+use Rattle.wire.proofs.sha256.rounds.Schedule.{Turned, turn, turned-all}
+use borrow.Author.Needs.{needs}
+use Rattle.wire.proofs.sha256.rounds.first_rounds.Statement.{statement}
+use Rattle.wire.proofs.sha256.rounds.first_rounds.Tie as tie
+
+abbrev Inv-loop : tie.InvT-loop
+Inv-loop k w₀ v₀ t₀ w v t = (t ≤ 48) × (t % 4 ≡ 0) × Turned (take 16 w₀) v₀ w v t
+
+abbrev μ-loop : tie.MeasureT-loop
+μ-loop k w₀ v₀ t₀ w v t = 48 - t
+
+loop-holds : tie.Need-loop-holds Inv-loop μ-loop
+unfolding schedule rounds
+loop-holds c = (omega arith, omega arith, record { size = c .pre .1; scheduled = refl; variables = refl })
+
+round-and-word-requires : tie.Need-round-and-word-requires Inv-loop μ-loop
+round-and-word-requires c κs = (omega arith, c .before .before .before .pre .0, c .before .before .loop .inv .2 .size)
+
+round-and-word-requires-2 : tie.Need-round-and-word-requires-2 Inv-loop μ-loop
+round-and-word-requires-2 c κs = (omega arith, c .before .before .before .before .before .pre .0, c .before .round-and-word .ensures .2)
+
+round-and-word-requires-3 : tie.Need-round-and-word-requires-3 Inv-loop μ-loop
+round-and-word-requires-3 c κs = (omega arith, c .before .before .before .before .before .before .before .pre .0, c .before .round-and-word2 .ensures .2)
+
+round-and-word-requires-4 : tie.Need-round-and-word-requires-4 Inv-loop μ-loop
+round-and-word-requires-4 c κs = (omega arith, c .before .before .before .before .before .before .before .before .before .pre .0, c .before .round-and-word3 .ensures .2)
+
+loop-again : tie.Need-loop-again Inv-loop μ-loop
+loop-again c =
+    let l = c .before .before .before .before .before .before .before .before .before .loop in
+    let r₁ = c .before .before .before .before .before .before .round-and-word .ensures in
+    let r₂ = c .before .before .before .before .round-and-word2 .ensures in
+    let r₃ = c .before .before .round-and-word3 .ensures in
+    let r₄ = c .round-and-word4 .ensures in
+    let s₁ = turn (l .t + 1) (omega arith) (omega arith) (l .inv .2) (r₁ .0) (r₁ .1) (r₁ .2) in
+    let s₂ = turn (l .t + 2) (omega arith) (omega arith) s₁ (r₂ .0) (r₂ .1) (r₂ .2) in
+    let s₃ = turn (l .t + 3) (omega arith) (omega arith) s₂ (r₃ .0) (r₃ .1) (r₃ .2) in
+    let s₄ = turn (l .t + 4) (omega arith) (omega arith) s₃ (r₄ .0) (r₄ .1) (r₄ .2) in
+    (omega arith, omega arith, s₄)
+
+returns : tie.Need-returns Inv-loop μ-loop
+returns c = turned-all (c .before .loop .t) (omega arith) (c .before .loop .inv .2)
+
+pub first-rounds-spec : {M : Type 1} → statement M
+first-rounds-spec =
+    tie.close
+    (tie.spec
+    Inv-loop
+    μ-loop
+    loop-holds
+    round-and-word-requires
+    (λ c. search needs)
+    round-and-word-requires-2
+    (λ c. search needs)
+    round-and-word-requires-3
+    (λ c. search needs)
+    round-and-word-requires-4
+    (λ c. search needs)
+    (λ c. search needs)
+    loop-again
+    returns)
