@@ -30,11 +30,14 @@ module _ (card : List ℕ) (check : CardCheck) (e : cardOutcome check ≡ checkC
       go true h = let p = guard-passes {A = Unit {0}} 14 (isCard card) (accepted tt) h in let z : _≡_ {A = ℕ} 0 1 = cc (ap cardOutcome g) in absurd (omega arith)
       go false h = refl
 
+pub card-short : (card : List ℕ) → isCard card ≡ true → length card ≤ 17
+card-short card h = go (readCard card) refl
+  where
+    go : (fields : Option Fields) → readCard card ≡ fields → length card ≤ 17
+    go none e = let z : _≡_ {A = ℕ} 0 1 = cc (ap isSome e) in absurd (omega arith)
+    go (some fields) e = at-most-17 card fields e
+
 -- A good card is short enough for the digest routine.
 pub good-digest : (card : List ℕ) → isCard card ≡ true → digestOf card ≡ answer true card
 unfolding digestOf
-good-digest card h = go (readCard card) refl
-  where
-    go : (fields : Option Fields) → readCard card ≡ fields → digestOf card ≡ answer true card
-    go none e = let z : _≡_ {A = ℕ} 0 1 = cc (ap isSome e) in absurd (omega arith)
-    go (some fields) e = let short = at-most-17 card fields e in rw (le-leb (length card) longestMessage (omega arith))
+good-digest card h = let short = card-short card h in rw (le-leb (length card) longestMessage (omega arith))

@@ -1,0 +1,106 @@
+-- What one step of a client does: how it begins, and one case for each way in which a message is taken. Assumes nothing.
+use mathlib.Core.Path.{_≡_, refl}
+use mathlib.Core.Bool.{true}
+use mathlib.Core.List.{List}
+use Prim.Native.Nat.{ℕ, _+_, _^_, _≤_, _<_}
+use native.Mathlib.Omega.{arith}
+use borrow.Author.Tests.{ltb-true}
+use lib.Dec.{ltb}
+use lib.ListN.{length}
+use Rattle.base.specs.BigEndian.{Bytes}
+use Rattle.base.specs.Outcome.{Outcome, accepted}
+use Rattle.base.specs.Party.{isReplica}
+use Rattle.base.specs.ReplicaSet.{empty}
+use Rattle.base.specs.Timestamp.{start}
+use Rattle.base.specs.declared.party.ReplicaId.{ReplicaId}
+use Rattle.base.proofs.Booleans.{and-true-both}
+use Rattle.wire.specs.Checks.{checked}
+use Rattle.wire.specs.Message.{Message, READ-STAMP, PREPARE, WRITE, READ, STAMP, PREPARED, WRITTEN, CARD, Fits, size, Legal, IsSignature}
+use Rattle.protocol.specs.Client.{send, Turn, isIdle, mayBegin, beginning, beginWrite, beginRead, fromReplica, onMessage}
+use Rattle.protocol.specs.Parts.{startCard}
+use Rattle.protocol.specs.declared.client.Client.{Client}
+use Rattle.protocol.specs.declared.client.Phase.{Phase}
+use Rattle.protocol.specs.declared.client.Phase.the-variants.{Idle, Stamps, Prepareds, Writtens, Cards, WriteBack}
+use Rattle.protocol.proofs.Accepts.{Accepts, by-value, by-refusal, by-guard}
+use Rattle.protocol.proofs.ArrayLaws.{bytes-zeros, card-kept}
+use Rattle.wire.proofs.card.Digests.{card-short}
+use Rattle.protocol.proofs.ClientKept.{beginning-fits}
+use Rattle.protocol.proofs.ClientReplies.{stamp-facts, prepared-facts, written-facts, card-facts}
+use Rattle.protocol.proofs.Fit.{ClientFits}
+use Rattle.protocol.proofs.Passed.{Passed, checked-passed}
+pub use Rattle.protocol.proofs.ClientCases.{Begun, Leaves, SameCard, NewFrom, betterCard, ClientCase, stamp-counted, stamps-enough, stamps-ended, prepared-counted, prepareds-enough, written-counted, writtens-enough, card-counted, cards-agree, cards-differ, back-counted, back-enough, LegalAnswer, PhaseFits, ClientFacts}
+
+idle-phase : (phase : Phase) → isIdle phase ≡ true → phase ≡ Idle
+idle-phase Idle e = refl
+idle-phase (Stamps nonce best counts) e = let z : _≡_ {A = ℕ} 0 1 = cc in absurd (omega arith)
+idle-phase (Prepareds timestamp counts) e = let z : _≡_ {A = ℕ} 0 1 = cc in absurd (omega arith)
+idle-phase (Writtens timestamp counts) e = let z : _≡_ {A = ℕ} 0 1 = cc in absurd (omega arith)
+idle-phase (Cards nonce best counts showed) e = let z : _≡_ {A = ℕ} 0 1 = cc in absurd (omega arith)
+idle-phase (WriteBack timestamp counts) e = let z : _≡_ {A = ℕ} 0 1 = cc in absurd (omega arith)
+
+begun : (before : Client) (question : Message) (phase : Phase) (card : List ℕ) → ClientFits before → mayBegin before ≡ true → Bytes card → length card ≤ 17
+    → (before .«last_nonce» + 1 < 2 ^ 64 → Legal question)
+    → Begun before question phase card (record { answer = send question; next = beginning (before .«last_nonce» + 1) phase card before })
+begun before question phase card fits may bytes short legal =
+    let both = and-true-both (isIdle (before .phase)) (ltb (before .«last_nonce» + 1) (2 ^ 64)) may in
+    let small = ltb-true (before .«last_nonce» + 1) (2 ^ 64) (both .1) in
+    record {
+      was-idle = idle-phase (before .phase) (both .0);
+      nonce-fits = small;
+      sends = refl;
+      same-f = refl;
+      same-id = refl;
+      nonce = refl;
+      phase-is = refl;
+      card-is = card-kept card short;
+      fits = beginning-fits (before .«last_nonce» + 1) phase card before small bytes fits;
+      legal = legal small;
+    }
+
+pub begins-write : (before : Client) (card : List ℕ) (turn : Turn) → ClientFits before → Bytes card → beginWrite before card ≡ accepted turn
+    → Begun before (READ-STAMP (before .id) (before .«last_nonce» + 1)) (Stamps (before .«last_nonce» + 1) start empty) card turn
+begins-write before card turn fits bytes e = outcome .holds turn e
+  where
+    outcome : Accepts (Begun before (READ-STAMP (before .id) (before .«last_nonce» + 1)) (Stamps (before .«last_nonce» + 1) start empty) card) (beginWrite before card)
+    outcome =
+        unfold beginWrite Fits size in
+        by-guard 14 (λ is-card. by-guard 17 (λ may. by-value
+        (begun before _ _ card fits may bytes (card-short card is-card) (λ small. record { fits = (fits .id-fits, small); short = omega arith }))))
+
+pub begins-read : (before : Client) (turn : Turn) → ClientFits before → beginRead before ≡ accepted turn
+    → Begun before (READ (before .id) (before .«last_nonce» + 1)) (Cards (before .«last_nonce» + 1) start empty empty) startCard turn
+begins-read before turn fits e = outcome .holds turn e
+  where
+    outcome : Accepts (Begun before (READ (before .id) (before .«last_nonce» + 1)) (Cards (before .«last_nonce» + 1) start empty empty) startCard) (beginRead before)
+    outcome =
+        unfold beginRead Fits size in
+        by-guard 17 (λ may. by-value
+        (begun before _ _ startCard fits may (bytes-zeros 2) (omega arith) (λ small. record { fits = (fits .id-fits, small); short = omega arith })))
+
+module _ (before : Client) (verdicts mark : List ℕ) (fits : ClientFits before) (phase-fits : PhaseFits (before .phase)) (mark-fits : IsSignature mark) where
+  -- The sender is a replica, the message passed 7 to 11, and the rest holds.
+  from-replica : (sender : ReplicaId) (message : Message) (next : Outcome Turn)
+      → (isReplica (before .f) sender ≡ true → Passed (before .f) message verdicts → Accepts (ClientFacts before verdicts message) next)
+      → Accepts (ClientFacts before verdicts message) (fromReplica before sender (checked (before .f) message verdicts next))
+  from-replica sender message next h =
+      by-guard 6 (λ in-range. record { holds = λ turn e. let (passed, rest) = checked-passed (before .f) message verdicts next turn e in h in-range passed .holds turn rest })
+
+  facts : (message : Message) → Fits message → Accepts (ClientFacts before verdicts message) (onMessage before verdicts mark message)
+  unfolding onMessage Fits
+  facts (STAMP sender nonce proof addressed) message-fits =
+      from-replica sender _ _ (λ in-range passed. stamp-facts before verdicts fits sender in-range nonce proof addressed passed (message-fits .2) (before .phase) refl phase-fits)
+  facts (PREPARED sender timestamp digest) message-fits =
+      from-replica sender _ _ (λ in-range passed. prepared-facts before verdicts fits sender in-range mark mark-fits timestamp digest passed (before .phase) refl phase-fits)
+  facts (WRITTEN sender timestamp) message-fits =
+      from-replica sender _ _ (λ in-range passed. written-facts before verdicts fits sender in-range mark mark-fits timestamp passed (before .phase) refl phase-fits)
+  facts (CARD sender nonce card proof addressed) message-fits =
+      from-replica sender _ _ (λ in-range passed. by-guard 14 (λ stands.
+      card-facts before verdicts fits sender in-range nonce card proof addressed passed (message-fits .2 .1) (message-fits .3) stands (before .phase) refl phase-fits))
+  facts (READ-STAMP sender nonce) message-fits = by-refusal
+  facts (PREPARE sender timestamp digest proof last) message-fits = by-refusal
+  facts (WRITE sender card proof) message-fits = by-refusal
+  facts (READ sender nonce) message-fits = by-refusal
+
+pub client-facts : (before : Client) (verdicts mark : List ℕ) (message : Message) (turn : Turn) → ClientFits before → PhaseFits (before .phase)
+    → Rattle.wire.specs.Message.Fits message → IsSignature mark → onMessage before verdicts mark message ≡ accepted turn → ClientFacts before verdicts message turn
+client-facts before verdicts mark message turn fits phase-fits message-fits mark-fits e = facts before verdicts mark fits phase-fits mark-fits message message-fits .holds turn e

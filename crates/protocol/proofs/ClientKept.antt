@@ -1,0 +1,119 @@
+-- Each change of a client's record: the record still fits, and what it keeps. Assumes nothing.
+use mathlib.Core.Path.{_≡_, refl}
+use mathlib.Core.Bool.{Bool, true, false, cond}
+use mathlib.Core.List.{List}
+use mathlib.Core.Option.{Option, none, some}
+use Prim.Native.Nat.{ℕ, _^_, _≤_, _<_}
+use lib.Dec.{ltb}
+use lib.ListN.{length}
+use Rattle.base.specs.BigEndian.{Bytes}
+use Rattle.base.specs.Timestamp.{number}
+use Rattle.base.specs.declared.timestamp.Timestamp.{Timestamp}
+use Rattle.wire.specs.Message.{IsDigest, EachFits, PreparedFits, IfThere}
+use Rattle.wire.specs.Proof.{Entry, PreparedProof}
+use Rattle.protocol.specs.Client.{currentCard, beginning, withPhase, withProof, withCard, withDigest, withSignatures, withLastWritten, keepBetter, keepBetterCard}
+use Rattle.protocol.specs.declared.client.Client.{Client}
+use Rattle.protocol.specs.declared.client.Phase.{Phase}
+use Rattle.protocol.proofs.ArrayLaws.{zeros-fit, filled-fits, card-kept, entries-filled}
+use Rattle.protocol.proofs.ClientCases.{betterCard}
+use Rattle.protocol.proofs.Fit.{Array, TimestampFits, ClientFits}
+
+-- The record still fits, of the same client in the same operation.
+pub record Kept (before after : Client) : Type 0 where
+  pub same-f : after .f ≡ before .f
+  pub same-id : after .id ≡ before .id
+  pub same-nonce : after .«last_nonce» ≡ before .«last_nonce»
+  pub fits : ClientFits after
+
+pub beginning-fits : (nonce : ℕ) (phase : Phase) (card : List ℕ) (client : Client) → nonce < 2 ^ 64 → Bytes card → ClientFits client → ClientFits (beginning nonce phase card client)
+beginning-fits nonce phase card client small bytes fits =
+    record {
+      id-fits = fits .id-fits;
+      nonce-fits = small;
+      card-fits = filled-fits 17 card bytes;
+      digest-fits = zeros-fit 32;
+      entries-fit = zeros-fit 715;
+      signatures-fit = zeros-fit 1_024;
+      written-fits = fits .written-fits;
+      written-entries-fit = fits .written-entries-fit;
+    }
+
+module _ (before : Client) where
+  pub itself-kept : ClientFits before → Kept before before
+  itself-kept fits = record { same-f = refl; same-id = refl; same-nonce = refl; fits = fits }
+
+  module _ (client : Client) (kept : Kept before client) where
+    -- A client with the kept numbers, whose arrays fit.
+    changed : (after : Client) → after .f ≡ client .f → after .id ≡ client .id → after .«last_nonce» ≡ client .«last_nonce»
+        → Array 17 (after .card) → IsDigest (after .digest) → Array 715 (after .entries)
+        → Array 1_024 (after .signatures) → TimestampFits (after .written) → Array 715 (after .«written_entries») → Kept before after
+    changed after f id nonce card digest entries signatures written written-entries =
+        let before-id : after .id ≡ before .id = cc in
+        let before-nonce : after .«last_nonce» ≡ before .«last_nonce» = cc in
+        record {
+          same-f = cc;
+          same-id = before-id;
+          same-nonce = before-nonce;
+          fits =
+              record {
+                id-fits = rw id (kept .fits .id-fits);
+                nonce-fits = rw nonce (kept .fits .nonce-fits);
+                card-fits = card;
+                digest-fits = digest;
+                entries-fit = entries;
+                signatures-fit = signatures;
+                written-fits = written;
+                written-entries-fit = written-entries;
+              };
+        }
+
+    open ClientFits (kept .fits) using (card-fits, digest-fits, entries-fit, signatures-fit, written-fits, written-entries-fit)
+
+    pub phase-kept : (phase : Phase) → Kept before (withPhase phase client)
+    phase-kept phase = changed (withPhase phase client) refl refl refl card-fits digest-fits entries-fit signatures-fit written-fits written-entries-fit
+
+    pub proof-kept : (proof : PreparedProof) → PreparedFits proof → Kept before (withProof proof client)
+    proof-kept proof h = changed (withProof proof client) refl refl refl card-fits (h .1) (entries-filled (proof .entries) (h .2 .1)) signatures-fit written-fits written-entries-fit
+
+    pub card-changed : (card : List ℕ) → Bytes card → Kept before (withCard card client)
+    card-changed card h = changed (withCard card client) refl refl refl (filled-fits 17 card h) digest-fits entries-fit signatures-fit written-fits written-entries-fit
+
+    pub digest-changed : (digest : List ℕ) → IsDigest digest → Kept before (withDigest digest client)
+    digest-changed digest h = changed (withDigest digest client) refl refl refl card-fits h (zeros-fit 715) signatures-fit written-fits written-entries-fit
+
+    pub signatures-changed : (signatures : List ℕ) → Array 1_024 signatures → Kept before (withSignatures signatures client)
+    signatures-changed signatures h = changed (withSignatures signatures client) refl refl refl card-fits digest-fits entries-fit h written-fits written-entries-fit
+
+    pub written-changed : (timestamp : Timestamp) (entries : List Entry) → TimestampFits timestamp → EachFits entries → Kept before (withLastWritten timestamp entries client)
+    written-changed timestamp entries t h =
+        changed (withLastWritten timestamp entries client) refl refl refl card-fits digest-fits entries-fit signatures-fit t (entries-filled entries h)
+
+  module _ (best : Timestamp) (fits : ClientFits before) where
+    -- A better reply's proof is kept, the card stays.
+    pub better-kept : (proof : Option PreparedProof) → IfThere PreparedFits proof
+        → Kept before (keepBetter best proof before) × (currentCard (keepBetter best proof before) ≡ currentCard before)
+    better-kept none h = go (ltb (number best) 0)
+      where
+        go : (b : Bool) → Kept before (cond b before before) × (currentCard (cond b before before) ≡ currentCard before)
+        go true = (itself-kept fits, refl)
+        go false = (itself-kept fits, refl)
+    better-kept (some proof) h = go (ltb (number best) (proof .timestamp))
+      where
+        go : (b : Bool) → Kept before (cond b (withProof proof before) before) × (currentCard (cond b (withProof proof before) before) ≡ currentCard before)
+        go true = (proof-kept before (itself-kept fits) proof h, refl)
+        go false = (itself-kept fits, refl)
+
+    -- A better reply's proof and card are kept.
+    pub better-card-kept : (card : List ℕ) (proof : Option PreparedProof) → length card ≤ 17 → Bytes card → IfThere PreparedFits proof
+        → Kept before (keepBetterCard best card proof before) × (currentCard (keepBetterCard best card proof before) ≡ betterCard best proof card before)
+    better-card-kept card none short bytes h = go (ltb (number best) 0)
+      where
+        go : (b : Bool) → Kept before (cond b (withCard card before) before) × (currentCard (cond b (withCard card before) before) ≡ cond b card (currentCard before))
+        go true = (card-changed before (itself-kept fits) card bytes, card-kept card short)
+        go false = (itself-kept fits, refl)
+    better-card-kept card (some proof) short bytes h = go (ltb (number best) (proof .timestamp))
+      where
+        go : (b : Bool) → Kept before (cond b (withCard card (withProof proof before)) before)
+            × (currentCard (cond b (withCard card (withProof proof before)) before) ≡ cond b card (currentCard before))
+        go true = (card-changed (withProof proof before) (proof-kept before (itself-kept fits) proof h) card bytes, card-kept card short)
+        go false = (itself-kept fits, refl)

@@ -1,0 +1,294 @@
+-- What a client makes of each kind of reply, by its phase. Assumes nothing.
+use mathlib.Core.Path.{_≡_, refl, ap, subst}
+use mathlib.Core.Bool.{Bool, true, false, _&&_, cond}
+use mathlib.Core.List.{List}
+use mathlib.Core.Option.{Option, none, some}
+use Prim.Native.Nat.{ℕ, _≤_}
+use native.Mathlib.Omega.{arith}
+use borrow.Author.Tests.{eqb-true, not-true}
+use lib.Dec.{eqb}
+use lib.ListN.{length, replicate}
+use Rattle.base.specs.BigEndian.{Bytes}
+use Rattle.base.specs.Party.{isReplica, replicaCount}
+use Rattle.base.specs.ReplicaSet.{empty, has, with, isQuorum}
+use Rattle.base.specs.Same.{same}
+use Rattle.base.specs.Timestamp.{number, successor}
+use Rattle.base.specs.declared.party.ClientId.{ClientId}
+use Rattle.base.specs.declared.party.ReplicaId.{ReplicaId}
+use Rattle.base.specs.declared.replica_set.ReplicaSet.{ReplicaSet}
+use Rattle.base.specs.declared.timestamp.Timestamp.{Timestamp}
+use Rattle.base.proofs.Booleans.{and-true-both}
+use Rattle.base.proofs.Range.{bounds}
+use Rattle.base.proofs.Same.{same-equal}
+use Rattle.wire.specs.Card.{isCard}
+use Rattle.wire.specs.Message.{Message, PREPARE, WRITE, STAMP, PREPARED, WRITTEN, CARD, IsSignature, PreparedFits, WrittenFits, IfThere, Legal, Fits, size, writtenSize}
+use Rattle.wire.specs.Proof.{PreparedProof}
+use Rattle.wire.specs.Sha256.{sha256}
+use Rattle.protocol.specs.Client.{done, Turn, currentCard, bestProof, lastWritten, built, withSignature, withSignatures, withDigest, withLastWritten, isNew, bestOf, showedBy, toPrepare, afterStamp, onStamp, afterPrepared, onPrepared, afterWritten, afterWriteBack, onWritten, afterCard, onCard}
+use Rattle.protocol.specs.Parts.{startCard, entriesIn, ifIssued, cardStands}
+use Rattle.protocol.specs.declared.client.Client.{Client}
+use Rattle.protocol.specs.declared.client.Phase.{Phase}
+use Rattle.protocol.specs.declared.client.Phase.the-variants.{Idle, Stamps, Prepareds, Writtens, Cards, WriteBack}
+use Rattle.protocol.proofs.Accepts.{Accepts, by-value, by-refusal, by-guard, by-cases}
+use Rattle.protocol.proofs.ArrayLaws.{zeros-fit, card-in-bytes, card-in-short, entries-in-length, entries-in-fit, issued-there, issued-timestamp, issued-size}
+use Rattle.wire.proofs.card.Digests.{card-short}
+use Rattle.protocol.proofs.ClientArrays.{digest-fits, signature-put, built-fit, built-few, number-fits, best-fits, successor-fits}
+use Rattle.protocol.proofs.ClientCases.{Leaves, NewFrom, betterCard, ClientCase, stamp-counted, stamps-enough, stamps-ended, prepared-counted, prepareds-enough, written-counted, writtens-enough, card-counted, cards-agree, cards-differ, back-counted, back-enough, LegalAnswer, PhaseFits, ClientFacts}
+use Rattle.protocol.proofs.ClientKept.{Kept, itself-kept, phase-kept, digest-changed, signatures-changed, written-changed, better-kept, better-card-kept}
+use Rattle.protocol.proofs.Fit.{Array, TimestampFits, ClientFits}
+use Rattle.protocol.proofs.Passed.{Passed}
+
+-- ---- Messages that a client sends
+
+module _ (client : Client) (fits : ClientFits client) where
+  last-fits : IfThere WrittenFits (lastWritten client)
+  last-fits =
+      issued-there (number (client .written)) _ WrittenFits
+      (number-fits (client .written) (fits .written-fits), entries-in-fit (client .«written_entries») (client .«written_count») (fits .written-entries-fit))
+
+  last-short : writtenSize (lastWritten client) ≤ 721
+  last-short = go (eqb (number (client .written)) 0)
+    where
+      go : (b : Bool) → writtenSize (cond b none (some (record { timestamp = number (client .written); entries = entriesIn (client .«written_entries») (client .«written_count») }))) ≤ 721
+      go true = omega arith
+      go false = omega (arith, entries-in-length (client .«written_entries») (client .«written_count»))
+
+  module _ (best : Timestamp) (best-fit : TimestampFits best) where
+    proof-fits : PreparedFits (bestProof client best)
+    proof-fits = (number-fits best best-fit, fits .digest-fits, entries-in-fit (client .entries) (client .«entry_count») (fits .entries-fit))
+
+    prepare-legal : (next : Timestamp) → TimestampFits next
+        → Legal (PREPARE (client .id) (number next) (sha256 (currentCard client)) (ifIssued (number best) (bestProof client best)) (lastWritten client))
+    unfolding Fits size
+    prepare-legal next next-fit =
+        record {
+          fits = (fits .id-fits, number-fits next next-fit, digest-fits (currentCard client), issued-there (number best) (bestProof client best) PreparedFits proof-fits, last-fits);
+          short = omega (arith, issued-size (number best) (bestProof client best), entries-in-length (client .entries) (client .«entry_count»), last-short);
+        }
+
+  write-legal : (proof : PreparedProof) → PreparedFits proof → length (proof .entries) ≤ 11 → Legal (WRITE (client .id) (currentCard client) proof)
+  unfolding Fits size
+  write-legal proof h few =
+      let short = card-in-short (client .card) (client .«card_length») in
+      record {
+        fits = (fits .id-fits, (omega arith, card-in-bytes (client .card) (client .«card_length») (fits .card-fits .1)), h);
+        short = omega arith;
+      }
+
+-- ---- Tests
+
+same-client : (a b : ClientId) → eqb (a .0) (b .0) ≡ true → a ≡ b
+same-client a b e = ap {B = ClientId} (λ (n : ℕ). record { 0 = n }) (eqb-true (a .0) (b .0) e)
+
+replica-range : (f : ℕ) (id : ReplicaId) → isReplica f id ≡ true → (1 ≤ id .0) × (id .0 ≤ 16)
+replica-range f id e = let range = bounds 1 (replicaCount f) (id .0) e in (range .0, omega arith)
+
+-- A card that stands has at most 17 bytes.
+standing-short : (card : List ℕ) (proof : Option PreparedProof) → cardStands card proof ≡ true → length card ≤ 17
+standing-short card none e = rw (same-equal card startCard e) (omega arith)
+standing-short card (some proof) e = card-short card (and-true-both (isCard card) (same (sha256 card) (proof .digest)) e .0)
+
+leaves : {turn : Turn} → Leaves turn (turn .answer) (turn .next .phase)
+leaves = record { answer-is = refl; phase-is = refl }
+
+-- ---- Replies
+
+module _ (before : Client) (verdicts : List ℕ) (message : Message) (passed : Passed (before .f) message verdicts) (fits : ClientFits before) where
+  took : (turn : Turn) → Kept before (turn .next) → PhaseFits (turn .next .phase) → LegalAnswer (turn .answer) → ClientCase before message turn → ClientFacts before verdicts message turn
+  took turn kept phase-fits legal case =
+      record {
+        same-f = kept .same-f;
+        same-id = kept .same-id;
+        same-nonce = kept .same-nonce;
+        fits = kept .fits;
+        phase-fits = phase-fits;
+        legal = legal;
+        passed = passed;
+        case = case;
+      }
+
+  quorum-before : (client : Client) → Kept before client → (set : ReplicaSet) → isQuorum (client .f) set ≡ true → isQuorum (before .f) set ≡ true
+  quorum-before client kept set h = subst (λ (f : ℕ). isQuorum f set ≡ true) (kept .same-f) h
+
+  -- STAMPs
+  module _ (sender : ReplicaId) (nonce : ℕ) (proof : Option PreparedProof) (best : Timestamp) (counts : ReplicaSet) (best-fit : TimestampFits (bestOf best proof))
+      (is-message : message ≡ STAMP sender nonce proof (before .id)) (at : before .phase ≡ Stamps nonce best counts) (new : NewFrom before sender counts)
+      (client : Client) (kept : Kept before client) (same-card : currentCard client ≡ currentCard before) where
+    to-prepare : isQuorum (before .f) (with counts sender) ≡ true → (next : Option Timestamp) → successor (bestOf best proof) (client .id) ≡ next
+        → Accepts (ClientFacts before verdicts message) (toPrepare client (bestOf best proof) next)
+    to-prepare quorum none e =
+        by-value (took _ (phase-kept before client kept Idle) tt tt (stamps-ended sender nonce proof best counts is-message at leaves))
+    to-prepare quorum (some next) e =
+        let next-fit = successor-fits (bestOf best proof) next (client .id) best-fit (kept .fits .id-fits) e in
+        let digest = sha256 (currentCard client) in
+        by-value (took _
+        (phase-kept before (withDigest digest client) (digest-changed before client kept digest (digest-fits (currentCard client))) (Prepareds next empty))
+        next-fit
+        (prepare-legal client (kept .fits) (bestOf best proof) best-fit next next-fit)
+        (stamps-enough sender nonce proof best counts next (ifIssued (number (bestOf best proof)) (bestProof client (bestOf best proof))) (lastWritten client)
+        is-message at new quorum (rw (← kept .same-id) e) same-card (ap sha256 same-card)
+        (issued-timestamp (number (bestOf best proof)) (bestProof client (bestOf best proof)) refl)
+        (record { answer-is = cc; phase-is = refl })))
+
+    after-stamp : Accepts (ClientFacts before verdicts message) (afterStamp nonce (bestOf best proof) (with counts sender) client)
+    unfolding afterStamp
+    after-stamp =
+        by-cases (λ quorum. to-prepare (quorum-before client kept (with counts sender) quorum) (successor (bestOf best proof) (client .id)) refl)
+        (λ few. by-value (took _ (phase-kept before client kept (Stamps nonce (bestOf best proof) (with counts sender))) best-fit tt
+        (stamp-counted sender nonce proof best counts is-message at new same-card leaves)))
+
+  -- PREPAREDs, the sender's signature among the signatures
+  module _ (sender : ReplicaId) (timestamp : Timestamp) (counts : ReplicaSet) (timestamp-fits : TimestampFits timestamp) (new : NewFrom before sender counts)
+      (signatures : List ℕ) (signatures-fit : Array 1_024 signatures) where
+    signed-kept : Kept before (withSignatures signatures before)
+    signed-kept = signatures-changed before before (itself-kept before fits) signatures signatures-fit
+
+    after-prepared : message ≡ PREPARED sender (number timestamp) (before .digest) → before .phase ≡ Prepareds timestamp counts
+        → Accepts (ClientFacts before verdicts message) (afterPrepared timestamp (with counts sender) (withSignatures signatures before))
+    unfolding afterPrepared
+    after-prepared is-message at =
+        let replicas = with counts sender in
+        let entries-fit = built-fit (replicaCount (before .f)) replicas signatures (omega arith) signatures-fit in
+        let few = built-few (replicaCount (before .f)) replicas signatures in
+        let proof : PreparedProof = record { timestamp = number timestamp; digest = before .digest; entries = built before replicas signatures } in
+        by-cases
+        (λ quorum. by-value (took _
+        (phase-kept before (withSignatures (replicate 1_024 0) before) (signatures-changed before before (itself-kept before fits) (replicate 1_024 0) (zeros-fit 1_024)) (Writtens timestamp empty))
+        timestamp-fits
+        (write-legal before fits proof (number-fits timestamp timestamp-fits, fits .digest-fits, (omega arith, entries-fit)) few)
+        (prepareds-enough sender timestamp counts proof is-message at new quorum (record { card-kept = refl; digest-kept = refl }) refl refl leaves)))
+        (λ less. by-value (took _ (phase-kept before (withSignatures signatures before) signed-kept (Prepareds timestamp replicas)) timestamp-fits tt
+        (prepared-counted sender timestamp counts is-message at new (record { card-kept = refl; digest-kept = refl }) leaves)))
+
+    -- WRITTENs that end a write, likewise
+    after-written : message ≡ WRITTEN sender (number timestamp) → before .phase ≡ Writtens timestamp counts
+        → Accepts (ClientFacts before verdicts message) (afterWritten timestamp (with counts sender) (withSignatures signatures before))
+    unfolding afterWritten
+    after-written is-message at =
+        let replicas = with counts sender in
+        let entries-fit = built-fit (replicaCount (before .f)) replicas signatures (omega arith) signatures-fit in
+        by-cases
+        (λ quorum. by-value (took _
+        (phase-kept before (withLastWritten timestamp (built before replicas signatures) (withSignatures signatures before))
+        (written-changed before (withSignatures signatures before) signed-kept timestamp (built before replicas signatures) timestamp-fits entries-fit) Idle)
+        tt tt (writtens-enough sender timestamp counts is-message at new quorum leaves)))
+        (λ less. by-value (took _ (phase-kept before (withSignatures signatures before) signed-kept (Writtens timestamp replicas)) timestamp-fits tt
+        (written-counted sender timestamp counts is-message at new (record { card-kept = refl; digest-kept = refl }) leaves)))
+
+  -- WRITTENs that end a write-back
+  after-write-back : (sender : ReplicaId) (timestamp : Timestamp) (counts : ReplicaSet) → TimestampFits timestamp → NewFrom before sender counts
+      → message ≡ WRITTEN sender (number timestamp) → before .phase ≡ WriteBack timestamp counts → Accepts (ClientFacts before verdicts message) (afterWriteBack timestamp (with counts sender) before)
+  unfolding afterWriteBack
+  after-write-back sender timestamp counts timestamp-fits new is-message at =
+      by-cases
+      (λ quorum. by-value (took _ (phase-kept before before (itself-kept before fits) Idle) tt tt
+      (back-enough sender timestamp counts is-message at new quorum leaves)))
+      (λ less. by-value (took _ (phase-kept before before (itself-kept before fits) (WriteBack timestamp (with counts sender))) timestamp-fits tt
+      (back-counted sender timestamp counts is-message at new (record { card-kept = refl; digest-kept = refl }) leaves)))
+
+  -- CARDs
+  after-card : (sender : ReplicaId) (nonce : ℕ) (card : List ℕ) (proof : Option PreparedProof) (best : Timestamp) (counts showed : ReplicaSet) → TimestampFits (bestOf best proof)
+      → message ≡ CARD sender nonce card proof (before .id) → before .phase ≡ Cards nonce best counts showed → NewFrom before sender counts → cardStands card proof ≡ true
+      → (client : Client) → Kept before client → currentCard client ≡ betterCard best proof card before
+      → Accepts (ClientFacts before verdicts message) (afterCard nonce (bestOf best proof) (with counts sender) (showedBy best proof sender showed) client)
+  unfolding afterCard
+  after-card sender nonce card proof best counts showed best-fit is-message at new stands client kept better =
+      let now = bestOf best proof in
+      let showing = showedBy best proof sender showed in
+      by-cases
+      (λ quorum.
+      let full = quorum-before client kept (with counts sender) quorum in
+      by-cases
+      (λ agree. by-value (took _ (phase-kept before client kept Idle) tt tt
+      (cards-agree sender nonce card proof best counts showed is-message at new stands full (quorum-before client kept showing agree)
+      (record { answer-is = ap (done now) better; phase-is = refl }))))
+      (λ differ. by-value (took _ (phase-kept before client kept (WriteBack now showing)) best-fit
+      (write-legal client (kept .fits) (bestProof client now) (proof-fits client (kept .fits) now best-fit) (entries-in-length (client .entries) (client .«entry_count»)))
+      (cards-differ sender nonce card proof best counts showed (bestProof client now) is-message at new stands full better (record { answer-is = cc; phase-is = refl })))))
+      (λ less. by-value (took _ (phase-kept before client kept (Cards nonce now (with counts sender) showing)) best-fit tt
+      (card-counted sender nonce card proof best counts showed is-message at new stands better leaves)))
+
+-- ---- Phases: the others await another kind
+
+module _ (before : Client) (verdicts : List ℕ) (fits : ClientFits before) (sender : ReplicaId) (in-range : isReplica (before .f) sender ≡ true) where
+  -- A reply to this nonce, to this client, of a replica not yet counted.
+  answers-nonce : (nonce asked : ℕ) (addressed : ClientId) (counts : ReplicaSet) → (eqb nonce asked && (eqb (addressed .0) (before .id .0) && isNew counts sender)) ≡ true
+      → (nonce ≡ asked) × (addressed ≡ before .id) × NewFrom before sender counts
+  answers-nonce nonce asked addressed counts e =
+      let first = and-true-both (eqb nonce asked) (eqb (addressed .0) (before .id .0) && isNew counts sender) e in
+      let rest = and-true-both (eqb (addressed .0) (before .id .0)) (isNew counts sender) (first .1) in
+      (eqb-true nonce asked (first .0), same-client addressed (before .id) (rest .0), (in-range, not-true (has counts sender) (rest .1)))
+
+  pub stamp-facts : (nonce : ℕ) (proof : Option PreparedProof) (addressed : ClientId) → Passed (before .f) (STAMP sender nonce proof addressed) verdicts → IfThere PreparedFits proof
+      → (phase : Phase) → before .phase ≡ phase → PhaseFits phase
+      → Accepts (ClientFacts before verdicts (STAMP sender nonce proof addressed)) (onStamp before sender nonce proof addressed phase)
+  unfolding onStamp
+  stamp-facts nonce proof addressed passed proof-fit (Stamps asked best counts) at best-fit =
+      by-guard 18 (λ e.
+      let (same-nonce, same-client, new) = answers-nonce nonce asked addressed counts e in
+      let (kept, same-card) = better-kept before best fits proof proof-fit in
+      after-stamp before verdicts (STAMP sender nonce proof addressed) passed fits sender asked proof best counts (best-fits best proof best-fit proof-fit) (cc) at new _ kept same-card)
+  stamp-facts nonce proof addressed passed proof-fit Idle at h = by-refusal
+  stamp-facts nonce proof addressed passed proof-fit (Prepareds timestamp counts) at h = by-refusal
+  stamp-facts nonce proof addressed passed proof-fit (Writtens timestamp counts) at h = by-refusal
+  stamp-facts nonce proof addressed passed proof-fit (Cards asked best counts showed) at h = by-refusal
+  stamp-facts nonce proof addressed passed proof-fit (WriteBack timestamp counts) at h = by-refusal
+
+  pub card-facts : (nonce : ℕ) (card : List ℕ) (proof : Option PreparedProof) (addressed : ClientId) → Passed (before .f) (CARD sender nonce card proof addressed) verdicts
+      → Bytes card → IfThere PreparedFits proof → cardStands card proof ≡ true → (phase : Phase) → before .phase ≡ phase → PhaseFits phase
+      → Accepts (ClientFacts before verdicts (CARD sender nonce card proof addressed)) (onCard before sender nonce card proof addressed phase)
+  unfolding onCard
+  card-facts nonce card proof addressed passed bytes proof-fit stands (Cards asked best counts showed) at best-fit =
+      by-guard 18 (λ e.
+      let (same-nonce, same-client, new) = answers-nonce nonce asked addressed counts e in
+      let (kept, better) = better-card-kept before best fits card proof (standing-short card proof stands) bytes proof-fit in
+      after-card before verdicts (CARD sender nonce card proof addressed) passed fits sender asked card proof best counts showed
+      (best-fits best proof best-fit proof-fit) (cc) at new stands _ kept better)
+  card-facts nonce card proof addressed passed bytes proof-fit stands Idle at h = by-refusal
+  card-facts nonce card proof addressed passed bytes proof-fit stands (Stamps asked best counts) at h = by-refusal
+  card-facts nonce card proof addressed passed bytes proof-fit stands (Prepareds timestamp counts) at h = by-refusal
+  card-facts nonce card proof addressed passed bytes proof-fit stands (Writtens timestamp counts) at h = by-refusal
+  card-facts nonce card proof addressed passed bytes proof-fit stands (WriteBack timestamp counts) at h = by-refusal
+
+  module _ (mark : List ℕ) (mark-fits : IsSignature mark) where
+    signatures-fit : Array 1_024 (withSignature (before .signatures) sender mark)
+    signatures-fit = let range = replica-range (before .f) sender in-range in signature-put (before .signatures) mark sender (range .0) (range .1) (fits .signatures-fit) mark-fits
+
+    pub prepared-facts : (timestamp : ℕ) (digest : List ℕ) → Passed (before .f) (PREPARED sender timestamp digest) verdicts → (phase : Phase) → before .phase ≡ phase → PhaseFits phase
+        → Accepts (ClientFacts before verdicts (PREPARED sender timestamp digest)) (onPrepared before sender timestamp digest mark phase)
+    unfolding onPrepared
+    prepared-facts timestamp digest passed (Prepareds asked counts) at asked-fits =
+        by-guard 18 (λ e.
+        let first = and-true-both (eqb timestamp (number asked)) (same digest (before .digest) && isNew counts sender) e in
+        let rest = and-true-both (same digest (before .digest)) (isNew counts sender) (first .1) in
+        let same-timestamp = eqb-true timestamp (number asked) (first .0) in
+        let same-digest = same-equal digest (before .digest) (rest .0) in
+        after-prepared before verdicts (PREPARED sender timestamp digest) passed fits sender asked counts asked-fits (in-range, not-true (has counts sender) (rest .1))
+        (withSignature (before .signatures) sender mark) signatures-fit (cc) at)
+    prepared-facts timestamp digest passed Idle at h = by-refusal
+    prepared-facts timestamp digest passed (Stamps nonce best counts) at h = by-refusal
+    prepared-facts timestamp digest passed (Writtens asked counts) at h = by-refusal
+    prepared-facts timestamp digest passed (Cards nonce best counts showed) at h = by-refusal
+    prepared-facts timestamp digest passed (WriteBack asked counts) at h = by-refusal
+
+    answers-timestamp : (timestamp : ℕ) (asked : Timestamp) (counts : ReplicaSet) → (eqb timestamp (number asked) && isNew counts sender) ≡ true
+        → (timestamp ≡ number asked) × NewFrom before sender counts
+    answers-timestamp timestamp asked counts e =
+        let both = and-true-both (eqb timestamp (number asked)) (isNew counts sender) e in
+        (eqb-true timestamp (number asked) (both .0), (in-range, not-true (has counts sender) (both .1)))
+
+    pub written-facts : (timestamp : ℕ) → Passed (before .f) (WRITTEN sender timestamp) verdicts → (phase : Phase) → before .phase ≡ phase → PhaseFits phase
+        → Accepts (ClientFacts before verdicts (WRITTEN sender timestamp)) (onWritten before sender timestamp mark phase)
+    unfolding onWritten
+    written-facts timestamp passed (Writtens asked counts) at asked-fits =
+        by-guard 18 (λ e.
+        let (same-timestamp, new) = answers-timestamp timestamp asked counts e in
+        after-written before verdicts (WRITTEN sender timestamp) passed fits sender asked counts asked-fits new (withSignature (before .signatures) sender mark) signatures-fit (cc) at)
+    written-facts timestamp passed (WriteBack asked counts) at asked-fits =
+        by-guard 18 (λ e.
+        let (same-timestamp, new) = answers-timestamp timestamp asked counts e in
+        after-write-back before verdicts (WRITTEN sender timestamp) passed fits sender asked counts asked-fits new (cc) at)
+    written-facts timestamp passed Idle at h = by-refusal
+    written-facts timestamp passed (Stamps nonce best counts) at h = by-refusal
+    written-facts timestamp passed (Prepareds asked counts) at h = by-refusal
+    written-facts timestamp passed (Cards nonce best counts showed) at h = by-refusal

@@ -1,0 +1,42 @@
+-- Records whose arrays have their lengths and hold bytes: what the code's types say of them. Assumes nothing.
+use mathlib.Core.Path.{_≡_}
+use mathlib.Core.List.{List}
+use Prim.Native.Nat.{ℕ, _^_, _<_}
+use lib.ListN.{length, getD}
+use Rattle.base.specs.BigEndian.{Bytes}
+use Rattle.base.specs.declared.timestamp.Timestamp.{Timestamp}
+use Rattle.wire.specs.Message.{IsDigest}
+use Rattle.protocol.specs.declared.client.Client.{Client}
+use Rattle.protocol.specs.declared.replica.Register.{Register}
+use Rattle.protocol.specs.declared.replica.Replica.{Replica}
+
+abbrev pub TimestampFits : Timestamp → Type 0
+TimestampFits t = (t .count < 2 ^ 32) × (t .client .0 < 256)
+
+-- So many bytes.
+abbrev pub Array : ℕ → List ℕ → Type 0
+Array width bytes = (length bytes ≡ width) × Bytes bytes
+
+pub record RegisterFits (register : Register) : Type 0 where
+  pub counts-long : length (register .counts) ≡ 64
+  pub counts-fit : (i : ℕ) → getD (register .counts) i 0 < 2 ^ 32
+  pub digests-fit : Array 2048 (register .digests)
+  pub written-fits : TimestampFits (register .written)
+  pub timestamp-fits : TimestampFits (register .timestamp)
+  pub card-fits : Array 17 (register .card)
+  pub digest-fits : IsDigest (register .digest)
+  pub entries-fit : Array 715 (register .entries)
+
+pub record ReplicaFits (replica : Replica) : Type 0 where
+  pub id-fits : replica .id .0 < 256
+  pub register-fits : RegisterFits (replica .register)
+
+pub record ClientFits (client : Client) : Type 0 where
+  pub id-fits : client .id .0 < 256
+  pub nonce-fits : client .«last_nonce» < 2 ^ 64
+  pub card-fits : Array 17 (client .card)
+  pub digest-fits : IsDigest (client .digest)
+  pub entries-fit : Array 715 (client .entries)
+  pub signatures-fit : Array 1024 (client .signatures)
+  pub written-fits : TimestampFits (client .written)
+  pub written-entries-fit : Array 715 (client .«written_entries»)

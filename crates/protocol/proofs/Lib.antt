@@ -1,0 +1,13 @@
+pub mod Accepts
+pub mod ArrayLaws
+pub mod Calls
+pub mod ClientArrays
+pub mod ClientCases
+pub mod ClientFacts
+pub mod ClientKept
+pub mod ClientReplies
+pub mod Examples
+pub mod Fit
+pub mod OperationMessages
+pub mod Passed
+pub mod ReplicaFacts

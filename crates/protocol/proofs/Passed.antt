@@ -1,0 +1,68 @@
+-- What a message that passed 7 to 11 satisfies. Assumes nothing.
+use mathlib.Core.Path.{_≡_, refl}
+use mathlib.Core.Bool.{Bool, true, _&&_}
+use mathlib.Core.List.{List}
+use Prim.Native.Nat.{ℕ}
+use lib.ListN.{drop}
+use Rattle.base.specs.Outcome.{Outcome, accepted, guard}
+use Rattle.base.proofs.Booleans.{and-true-both}
+use Rattle.base.proofs.Outcome.{guard-accepted}
+use Rattle.wire.specs.Checks.{preparedOf, writtenOf, timestampOf, ifThere, oneEach, ownGenuine, shaped, genuine, issued, proven, checked}
+use Rattle.wire.specs.Message.{Message}
+use Rattle.wire.specs.Proof.{PreparedProof, WrittenProof}
+
+pub record Passed (f : ℕ) (message : Message) (verdicts : List ℕ) : Type 0 where
+  pub one-each : oneEach message verdicts ≡ true
+  pub own : ownGenuine verdicts ≡ true
+  pub entries-genuine : genuine (drop 1 verdicts) ≡ true
+  pub prepared-shaped : ifThere (λ (proof : PreparedProof). shaped f (proof .entries)) (preparedOf message) ≡ true
+  pub written-shaped : ifThere (λ (proof : WrittenProof). shaped f (proof .entries)) (writtenOf message) ≡ true
+  pub field-issued : ifThere issued (timestampOf message) ≡ true
+  pub prepared-issued : ifThere (λ (proof : PreparedProof). issued (proof .timestamp)) (preparedOf message) ≡ true
+  pub written-issued : ifThere (λ (proof : WrittenProof). issued (proof .timestamp)) (writtenOf message) ≡ true
+
+pub checked-passed : {A : Type 0} (f : ℕ) (message : Message) (verdicts : List ℕ) (next : Outcome A) (a : A)
+    → checked f message verdicts next ≡ accepted a → Passed f message verdicts × (next ≡ accepted a)
+unfolding checked proven
+checked-passed f message verdicts next a e =
+    let seventh = guard-accepted 7 (oneEach message verdicts) (guard 8 (ownGenuine verdicts) (proven f message (drop 1 verdicts) next)) a e in
+    let eighth = guard-accepted 8 (ownGenuine verdicts) (proven f message (drop 1 verdicts) next) a (seventh .1) in
+    let ninth = guard-accepted 9 (prepared-shaped && written-shaped) (guard 10 (genuine (drop 1 verdicts)) (guard 11 (field-issued && (prepared-issued && written-issued)) next)) a (eighth .1) in
+    let tenth = guard-accepted 10 (genuine (drop 1 verdicts)) (guard 11 (field-issued && (prepared-issued && written-issued)) next) a (ninth .1) in
+    let eleventh = guard-accepted 11 (field-issued && (prepared-issued && written-issued)) next a (tenth .1) in
+    let shapes = and-true-both prepared-shaped written-shaped (ninth .0) in
+    let stamps = and-true-both field-issued (prepared-issued && written-issued) (eleventh .0) in
+    let proofs = and-true-both prepared-issued written-issued (stamps .1) in (
+      record {
+        one-each = seventh .0;
+        own = eighth .0;
+        entries-genuine = tenth .0;
+        prepared-shaped = shapes .0;
+        written-shaped = shapes .1;
+        field-issued = stamps .0;
+        prepared-issued = proofs .0;
+        written-issued = proofs .1;
+      },
+      eleventh .1,
+    )
+  where
+    prepared-shaped : Bool
+    prepared-shaped = ifThere (λ (proof : PreparedProof). shaped f (proof .entries)) (preparedOf message)
+
+    written-shaped : Bool
+    written-shaped = ifThere (λ (proof : WrittenProof). shaped f (proof .entries)) (writtenOf message)
+
+    field-issued : Bool
+    field-issued = ifThere issued (timestampOf message)
+
+    prepared-issued : Bool
+    prepared-issued = ifThere (λ (proof : PreparedProof). issued (proof .timestamp)) (preparedOf message)
+
+    written-issued : Bool
+    written-issued = ifThere (λ (proof : WrittenProof). issued (proof .timestamp)) (writtenOf message)
+
+-- The other way: a message that satisfies all that is left to what follows.
+pub passed-checked : {A : Type 0} (f : ℕ) (message : Message) (verdicts : List ℕ) (next : Outcome A) → Passed f message verdicts → checked f message verdicts next ≡ next
+unfolding checked proven guard
+passed-checked f message verdicts next p =
+    rw (p .one-each, p .own, p .prepared-shaped, p .written-shaped, p .entries-genuine, p .field-issued, p .prepared-issued, p .written-issued) refl

@@ -1,0 +1,435 @@
+-- Document 01, "A desk": how a client begins, and what it makes of a message.
+use mathlib.Core.Bool.{Bool, true, false, _&&_, not, cond}
+use mathlib.Core.List.{List, [], _∷_, _++_}
+use mathlib.Core.Option.{Option, none, some}
+use Prim.Native.Nat.{ℕ, zero, suc, _+_, _-_, _*_, _^_, min}
+use lib.Dec.{eqb, leb, ltb}
+use lib.ListN.{length, take, drop, replicate}
+use Rattle.base.specs.Counting.{replica}
+use Rattle.base.specs.Outcome.{Outcome, accepted, refused, guard, _>>=_}
+use Rattle.base.specs.Party.{isReplica, replicaCount}
+use Rattle.base.specs.ReplicaSet.{empty, has, with, isQuorum}
+use Rattle.base.specs.Same.{same}
+use Rattle.base.specs.Timestamp.{number, ofNumber, start, successor}
+use Rattle.base.specs.declared.party.ClientId.{ClientId}
+use Rattle.base.specs.declared.party.ReplicaId.{ReplicaId}
+use Rattle.base.specs.declared.replica_set.ReplicaSet.{ReplicaSet}
+use Rattle.base.specs.declared.timestamp.Timestamp.{Timestamp}
+use Rattle.wire.specs.Card.{isCard}
+use Rattle.wire.specs.Checks.{checked}
+use Rattle.wire.specs.Decode.{decode}
+use Rattle.wire.specs.Layout.{signature}
+use Rattle.wire.specs.Message.{Message, READ-STAMP, PREPARE, WRITE, READ, STAMP, PREPARED, WRITTEN, CARD}
+use Rattle.wire.specs.Proof.{Entry, PreparedProof, WrittenProof, entriesBytes}
+use Rattle.wire.specs.Sha256.{sha256}
+use Rattle.wire.specs.declared.message.Party.the-variants.{Client as AtClient}
+use Rattle.protocol.specs.Parts.{filled, startCard, cardIn, entriesIn, ifIssued, timestampOf, cardStands}
+use Rattle.protocol.specs.Replica.{sent, inFront, withOutput}
+use Rattle.protocol.specs.declared.client.Client.{Client}
+use Rattle.protocol.specs.declared.client.ClientAnswer.{ClientAnswer}
+use Rattle.protocol.specs.declared.client.ClientAnswer.the-variants.{Send, Counted, Done, Ended, Refused}
+use Rattle.protocol.specs.declared.client.Phase.{Phase}
+use Rattle.protocol.specs.declared.client.Phase.the-variants.{Idle, Stamps, Prepareds, Writtens, Cards, WriteBack}
+
+-- ---- What a client's record holds
+
+abbrev pub currentCard : Client → List ℕ
+currentCard client = cardIn (client .card) (client .«card_length»)
+
+-- The prepared proof of the best reply, whose timestamp the phase has.
+abbrev pub bestProof : Client → Timestamp → PreparedProof
+bestProof client best = record { timestamp = number best; digest = client .digest; entries = entriesIn (client .entries) (client .«entry_count») }
+
+-- "the desk's last written proof, if any"
+abbrev pub lastWritten : Client → Option WrittenProof
+lastWritten client =
+    ifIssued (number (client .written)) (record { timestamp = number (client .written); entries = entriesIn (client .«written_entries») (client .«written_count») })
+
+abbrev pub signatureAt : List ℕ → ReplicaId → List ℕ
+signatureAt signatures id = take 64 (drop (64 * (id .0 - 1)) signatures)
+
+-- "Built proofs list their holders in rising order": the counted replicas among 1 to n with their signatures.
+unfoldable pub gathered : ℕ → ReplicaSet → List ℕ → List Entry
+gathered zero counted signatures = []
+gathered (suc n) counted signatures =
+    gathered n counted signatures ++ cond (has counted (replica (suc n))) (record { signer = replica (suc n); signature = signatureAt signatures (replica (suc n)) } ∷ []) []
+
+-- A record of any value builds at most the 11 entries of the largest quorum.
+abbrev pub built : Client → ReplicaSet → List ℕ → List Entry
+built client counted signatures = take 11 (gathered (replicaCount (client .f)) counted signatures)
+
+abbrev pub withSignature : List ℕ → ReplicaId → List ℕ → List ℕ
+withSignature signatures id mark = take (64 * (id .0 - 1)) signatures ++ (mark ++ drop (64 * id .0) signatures)
+
+-- "a desk is made with its first nonce"
+abbrev pub freshClient : ℕ → ClientId → ℕ → Client
+freshClient f id firstNonce =
+    record {
+      f = f;
+      id = id;
+      «last_nonce» = firstNonce - 1;
+      phase = Idle;
+      «card_length» = 0;
+      card = replicate 17 0;
+      digest = replicate 32 0;
+      «entry_count» = 0;
+      entries = replicate 715 0;
+      signatures = replicate 1024 0;
+      written = start;
+      «written_count» = 0;
+      «written_entries» = replicate 715 0;
+    }
+
+-- ---- Changes of a record
+
+abbrev pub withPhase : Phase → Client → Client
+withPhase phase client =
+    record {
+      f = client .f;
+      id = client .id;
+      «last_nonce» = client .«last_nonce»;
+      phase = phase;
+      «card_length» = client .«card_length»;
+      card = client .card;
+      digest = client .digest;
+      «entry_count» = client .«entry_count»;
+      entries = client .entries;
+      signatures = client .signatures;
+      written = client .written;
+      «written_count» = client .«written_count»;
+      «written_entries» = client .«written_entries»;
+    }
+
+-- A new operation: its nonce, its card, no reply yet.
+abbrev pub beginning : ℕ → Phase → List ℕ → Client → Client
+beginning nonce phase card client =
+    record {
+      f = client .f;
+      id = client .id;
+      «last_nonce» = nonce;
+      phase = phase;
+      «card_length» = length card;
+      card = filled 17 card;
+      digest = replicate 32 0;
+      «entry_count» = 0;
+      entries = replicate 715 0;
+      signatures = replicate 1024 0;
+      written = client .written;
+      «written_count» = client .«written_count»;
+      «written_entries» = client .«written_entries»;
+    }
+
+-- A better reply's proof is kept.
+abbrev pub withProof : PreparedProof → Client → Client
+withProof proof client =
+    record {
+      f = client .f;
+      id = client .id;
+      «last_nonce» = client .«last_nonce»;
+      phase = client .phase;
+      «card_length» = client .«card_length»;
+      card = client .card;
+      digest = proof .digest;
+      «entry_count» = length (proof .entries);
+      entries = filled 715 (entriesBytes (proof .entries));
+      signatures = client .signatures;
+      written = client .written;
+      «written_count» = client .«written_count»;
+      «written_entries» = client .«written_entries»;
+    }
+
+abbrev pub withCard : List ℕ → Client → Client
+withCard card client =
+    record {
+      f = client .f;
+      id = client .id;
+      «last_nonce» = client .«last_nonce»;
+      phase = client .phase;
+      «card_length» = length card;
+      card = filled 17 card;
+      digest = client .digest;
+      «entry_count» = client .«entry_count»;
+      entries = client .entries;
+      signatures = client .signatures;
+      written = client .written;
+      «written_count» = client .«written_count»;
+      «written_entries» = client .«written_entries»;
+    }
+
+abbrev pub withDigest : List ℕ → Client → Client
+withDigest digest client =
+    record {
+      f = client .f;
+      id = client .id;
+      «last_nonce» = client .«last_nonce»;
+      phase = client .phase;
+      «card_length» = client .«card_length»;
+      card = client .card;
+      digest = digest;
+      «entry_count» = 0;
+      entries = replicate 715 0;
+      signatures = client .signatures;
+      written = client .written;
+      «written_count» = client .«written_count»;
+      «written_entries» = client .«written_entries»;
+    }
+
+abbrev pub withSignatures : List ℕ → Client → Client
+withSignatures signatures client =
+    record {
+      f = client .f;
+      id = client .id;
+      «last_nonce» = client .«last_nonce»;
+      phase = client .phase;
+      «card_length» = client .«card_length»;
+      card = client .card;
+      digest = client .digest;
+      «entry_count» = client .«entry_count»;
+      entries = client .entries;
+      signatures = signatures;
+      written = client .written;
+      «written_count» = client .«written_count»;
+      «written_entries» = client .«written_entries»;
+    }
+
+abbrev pub withLastWritten : Timestamp → List Entry → Client → Client
+withLastWritten timestamp entries client =
+    record {
+      f = client .f;
+      id = client .id;
+      «last_nonce» = client .«last_nonce»;
+      phase = client .phase;
+      «card_length» = client .«card_length»;
+      card = client .card;
+      digest = client .digest;
+      «entry_count» = client .«entry_count»;
+      entries = client .entries;
+      signatures = client .signatures;
+      written = timestamp;
+      «written_count» = length entries;
+      «written_entries» = filled 715 (entriesBytes entries);
+    }
+
+-- ---- Answers
+
+-- "Each call's answer is one of"
+pub data Answer : Type 0 where
+  send : Message → Answer  -- "a message to send"
+  counted : Answer  -- "counted, nothing to send"
+  done : Timestamp → List ℕ → Answer  -- "done, with stamp and card"
+  ended : Answer  -- "ended, where no successor exists (the desk is then idle)"
+
+-- An answer, and the record afterwards.
+pub record Turn : Type 0 where
+  pub answer : Answer
+  pub next : Client
+
+abbrev pub turn : Answer → Client → Outcome Turn
+turn answer next = accepted (record { answer = answer; next = next })
+
+-- ---- Beginnings
+
+abbrev pub isIdle : Phase → Bool
+isIdle Idle = true
+isIdle (Stamps nonce best counts) = false
+isIdle (Prepareds timestamp counts) = false
+isIdle (Writtens timestamp counts) = false
+isIdle (Cards nonce best counts showed) = false
+isIdle (WriteBack timestamp counts) = false
+
+-- 17: "An operation is begun on a busy desk, or after nonce 2^64 − 1 was used."
+abbrev pub mayBegin : Client → Bool
+mayBegin client = isIdle (client .phase) && ltb (client .«last_nonce» + 1) (2 ^ 64)
+
+-- "Beginning a write checks 1, of 14 only that the card keeps its table, then 17"
+unfoldable pub beginWrite : Client → List ℕ → Outcome Turn
+beginWrite client card =
+    guard 14 (isCard card)
+    (guard 17 (mayBegin client)
+    (let nonce = client .«last_nonce» + 1 in
+    turn (send (READ-STAMP (client .id) nonce)) (beginning nonce (Stamps nonce start empty) card client)))
+
+-- "beginning a read 1, 17"
+unfoldable pub beginRead : Client → Outcome Turn
+beginRead client =
+    guard 17 (mayBegin client)
+    (let nonce = client .«last_nonce» + 1 in
+    turn (send (READ (client .id) nonce)) (beginning nonce (Cards nonce start empty empty) startCard client))
+
+-- ---- Replies
+
+-- 18: "A reply has another kind, nonce, desk, stamp or digest than awaited (an idle desk awaits none), or its holder's
+-- reply was already taken in this phase, or, in a write-back, its CARD showed the stamp written back."
+abbrev pub awaited : {A : Type 0} → Bool → Outcome A → Outcome A
+awaited test next = guard 18 test next
+
+abbrev pub unawaited : {A : Type 0} → Outcome A
+unawaited = refused 18
+
+abbrev pub isNew : ReplicaSet → ReplicaId → Bool
+isNew counts sender = not (has counts sender)
+
+-- "Of replies with the same largest stamp the first one taken gives proof and card."
+abbrev pub bestOf : Timestamp → Option PreparedProof → Timestamp
+bestOf best proof = cond (ltb (number best) (timestampOf proof)) (ofNumber (timestampOf proof)) best
+
+abbrev pub keepProof : Option PreparedProof → Client → Client
+keepProof none client = client
+keepProof (some proof) client = withProof proof client
+
+abbrev pub keepBetter : Timestamp → Option PreparedProof → Client → Client
+keepBetter best proof client = cond (ltb (number best) (timestampOf proof)) (keepProof proof client) client
+
+-- From q STAMPs: "PREPARE its successor with its proof and the desk's last written proof, if any"
+abbrev pub toPrepare : Client → Timestamp → Option Timestamp → Outcome Turn
+toPrepare client best none = turn ended (withPhase Idle client)
+toPrepare client best (some next) =
+    let digest = sha256 (currentCard client) in
+    turn (send (PREPARE (client .id) (number next) digest (ifIssued (number best) (bestProof client best)) (lastWritten client)))
+    (withPhase (Prepareds next empty) (withDigest digest client))
+
+unfoldable pub afterStamp : ℕ → Timestamp → ReplicaSet → Client → Outcome Turn
+afterStamp nonce best counts client =
+    cond (isQuorum (client .f) counts) (toPrepare client best (successor best (client .id))) (turn counted (withPhase (Stamps nonce best counts) client))
+
+unfoldable pub onStamp : Client → ReplicaId → ℕ → Option PreparedProof → ClientId → Phase → Outcome Turn
+onStamp client sender nonce proof addressed (Stamps asked best counts) =
+    awaited (eqb nonce asked && (eqb (addressed .0) (client .id .0) && isNew counts sender))
+    (afterStamp asked (bestOf best proof) (with counts sender) (keepBetter best proof client))
+onStamp client sender nonce proof addressed Idle = unawaited
+onStamp client sender nonce proof addressed (Prepareds timestamp counts) = unawaited
+onStamp client sender nonce proof addressed (Writtens timestamp counts) = unawaited
+onStamp client sender nonce proof addressed (Cards asked best counts showed) = unawaited
+onStamp client sender nonce proof addressed (WriteBack timestamp counts) = unawaited
+
+-- "from q PREPAREDs build the proof; WRITE"
+unfoldable pub afterPrepared : Timestamp → ReplicaSet → Client → Outcome Turn
+afterPrepared timestamp counts client =
+    cond (isQuorum (client .f) counts)
+    (turn (send (WRITE (client .id) (currentCard client) (record { timestamp = number timestamp; digest = client .digest; entries = built client counts (client .signatures) })))
+    (withPhase (Writtens timestamp empty) (withSignatures (replicate 1024 0) client)))
+    (turn counted (withPhase (Prepareds timestamp counts) client))
+
+unfoldable pub onPrepared : Client → ReplicaId → ℕ → List ℕ → List ℕ → Phase → Outcome Turn
+onPrepared client sender timestamp digest mark (Prepareds asked counts) =
+    awaited (eqb timestamp (number asked) && (same digest (client .digest) && isNew counts sender))
+    (afterPrepared asked (with counts sender) (withSignatures (withSignature (client .signatures) sender mark) client))
+onPrepared client sender timestamp digest mark Idle = unawaited
+onPrepared client sender timestamp digest mark (Stamps nonce best counts) = unawaited
+onPrepared client sender timestamp digest mark (Writtens asked counts) = unawaited
+onPrepared client sender timestamp digest mark (Cards nonce best counts showed) = unawaited
+onPrepared client sender timestamp digest mark (WriteBack asked counts) = unawaited
+
+-- "q WRITTENs end it and are the next written proof"
+unfoldable pub afterWritten : Timestamp → ReplicaSet → Client → Outcome Turn
+afterWritten timestamp counts client =
+    cond (isQuorum (client .f) counts)
+    (turn (done timestamp (currentCard client)) (withPhase Idle (withLastWritten timestamp (built client counts (client .signatures)) client)))
+    (turn counted (withPhase (Writtens timestamp counts) client))
+
+-- "each uncounted holder's WRITTEN counts, until q"
+unfoldable pub afterWriteBack : Timestamp → ReplicaSet → Client → Outcome Turn
+afterWriteBack timestamp counts client =
+    cond (isQuorum (client .f) counts) (turn (done timestamp (currentCard client)) (withPhase Idle client)) (turn counted (withPhase (WriteBack timestamp counts) client))
+
+unfoldable pub onWritten : Client → ReplicaId → ℕ → List ℕ → Phase → Outcome Turn
+onWritten client sender timestamp mark (Writtens asked counts) =
+    awaited (eqb timestamp (number asked) && isNew counts sender)
+    (afterWritten asked (with counts sender) (withSignatures (withSignature (client .signatures) sender mark) client))
+onWritten client sender timestamp mark (WriteBack asked counts) =
+    awaited (eqb timestamp (number asked) && isNew counts sender) (afterWriteBack asked (with counts sender) client)
+onWritten client sender timestamp mark Idle = unawaited
+onWritten client sender timestamp mark (Stamps nonce best counts) = unawaited
+onWritten client sender timestamp mark (Prepareds asked counts) = unawaited
+onWritten client sender timestamp mark (Cards nonce best counts showed) = unawaited
+
+-- "Holders that showed it count.": those of the largest timestamp so far.
+abbrev pub showedBy : Timestamp → Option PreparedProof → ReplicaId → ReplicaSet → ReplicaSet
+showedBy best proof sender showed =
+    cond (ltb (number best) (timestampOf proof)) (with empty sender) (cond (eqb (number best) (timestampOf proof)) (with showed sender) showed)
+
+abbrev pub keepBetterCard : Timestamp → List ℕ → Option PreparedProof → Client → Client
+keepBetterCard best card proof client = cond (ltb (number best) (timestampOf proof)) (withCard card (keepProof proof client)) client
+
+-- "If they are q it is done; else WRITE it back"
+unfoldable pub afterCard : ℕ → Timestamp → ReplicaSet → ReplicaSet → Client → Outcome Turn
+afterCard nonce best counts showed client =
+    cond (isQuorum (client .f) counts)
+    (cond (isQuorum (client .f) showed) (turn (done best (currentCard client)) (withPhase Idle client))
+    (turn (send (WRITE (client .id) (currentCard client) (bestProof client best))) (withPhase (WriteBack best showed) client)))
+    (turn counted (withPhase (Cards nonce best counts showed) client))
+
+unfoldable pub onCard : Client → ReplicaId → ℕ → List ℕ → Option PreparedProof → ClientId → Phase → Outcome Turn
+onCard client sender nonce card proof addressed (Cards asked best counts showed) =
+    awaited (eqb nonce asked && (eqb (addressed .0) (client .id .0) && isNew counts sender))
+    (afterCard asked (bestOf best proof) (with counts sender) (showedBy best proof sender showed) (keepBetterCard best card proof client))
+onCard client sender nonce card proof addressed Idle = unawaited
+onCard client sender nonce card proof addressed (Stamps asked best counts) = unawaited
+onCard client sender nonce card proof addressed (Prepareds timestamp counts) = unawaited
+onCard client sender nonce card proof addressed (Writtens timestamp counts) = unawaited
+onCard client sender nonce card proof addressed (WriteBack timestamp counts) = unawaited
+
+-- 6: "The sender's number is outside its range."
+abbrev pub fromReplica : {A : Type 0} → Client → ReplicaId → Outcome A → Outcome A
+fromReplica client sender next = guard 6 (isReplica (client .f) sender) next
+
+-- The four replies, once 2 to 5 are passed, with the message's own signature. The other kinds do not get here: 5 refuses them.
+unfoldable pub onMessage : Client → List ℕ → List ℕ → Message → Outcome Turn
+onMessage client verdicts mark (STAMP sender nonce proof addressed) =
+    fromReplica client sender
+    (checked (client .f) (STAMP sender nonce proof addressed) verdicts
+    (onStamp client sender nonce proof addressed (client .phase)))
+onMessage client verdicts mark (PREPARED sender timestamp digest) =
+    fromReplica client sender
+    (checked (client .f) (PREPARED sender timestamp digest) verdicts
+    (onPrepared client sender timestamp digest mark (client .phase)))
+onMessage client verdicts mark (WRITTEN sender timestamp) =
+    fromReplica client sender
+    (checked (client .f) (WRITTEN sender timestamp) verdicts
+    (onWritten client sender timestamp mark (client .phase)))
+onMessage client verdicts mark (CARD sender nonce card proof addressed) =
+    fromReplica client sender
+    (checked (client .f) (CARD sender nonce card proof addressed) verdicts
+    (guard 14 (cardStands card proof)
+    (onCard client sender nonce card proof addressed (client .phase))))
+onMessage client verdicts mark (READ-STAMP sender nonce) = refused 5
+onMessage client verdicts mark (PREPARE sender timestamp digest proof last) = refused 5
+onMessage client verdicts mark (WRITE sender card proof) = refused 5
+onMessage client verdicts mark (READ sender nonce) = refused 5
+
+-- A client is handed bytes with verdicts.
+unfoldable pub clientStep : Client → List ℕ → List ℕ → Outcome Turn
+clientStep client bytes verdicts = decode AtClient bytes >>= onMessage client verdicts (signature bytes)
+
+-- ---- The calls
+
+-- What a call of a client leaves: answer, card, record, and the output buffer.
+pub record ClientCall : Type 0 where
+  pub answer : ClientAnswer
+  pub «card_length» : ℕ
+  pub card : List ℕ
+  pub client : Client
+  pub output : List ℕ
+
+-- The card stands beside Done, zeros behind it; zeros beside the other answers.
+abbrev pub call : ClientAnswer → List ℕ → Client → List ℕ → ClientCall
+call answer card client output = record { answer = answer; «card_length» = length card; card = filled 17 card; client = client; output = output }
+
+abbrev pub answered : List ℕ → Answer → Client → ClientCall
+answered old (send message) next = call (Send (length (sent message))) [] next (inFront (sent message) old)
+answered old counted next = call Counted [] next old
+answered old (done timestamp card) next = call (Done timestamp) card next old
+answered old ended next = call Ended [] next old
+
+abbrev pub clientAnswers : Client → List ℕ → Outcome Turn → ClientCall
+clientAnswers client old (accepted turn) = answered old (turn .answer) (turn .next)
+clientAnswers client old (refused number) = call (Refused number) [] client old
+
+unfoldable pub beginWriteCall : Client → List ℕ → List ℕ → ClientCall
+beginWriteCall client card old = clientAnswers client old (withOutput old (beginWrite client card))
+
+unfoldable pub beginReadCall : Client → List ℕ → ClientCall
+beginReadCall client old = clientAnswers client old (withOutput old (beginRead client))
+
+unfoldable pub clientCall : Client → List ℕ → List ℕ → List ℕ → ClientCall
+clientCall client bytes verdicts old = clientAnswers client old (withOutput old (clientStep client bytes verdicts))

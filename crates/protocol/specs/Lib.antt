@@ -1,0 +1,3 @@
+pub mod Client
+pub mod Parts
+pub mod Replica

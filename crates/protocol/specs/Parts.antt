@@ -1,0 +1,41 @@
+-- Cards and proofs as the records keep them: arrays with zeros behind what is kept.
+use mathlib.Core.Bool.{Bool, _&&_, cond}
+use mathlib.Core.List.{List, [], _∷_, _++_}
+use mathlib.Core.Option.{Option, none, some}
+use Prim.Native.Nat.{ℕ, min}
+use lib.Dec.{eqb}
+use lib.ListN.{length, take, replicate}
+use Rattle.base.specs.Same.{same}
+use Rattle.base.specs.Timestamp.{number}
+use Rattle.base.specs.declared.timestamp.Timestamp.{Timestamp}
+use Rattle.wire.specs.Card.{isCard}
+use Rattle.wire.specs.Proof.{Entry, PreparedProof, WrittenProof, readEntries, entriesBytes}
+use Rattle.wire.specs.Sha256.{sha256}
+
+-- The bytes in an array of so many, zeros behind them; what does not fit is cut.
+abbrev pub filled : ℕ → List ℕ → List ℕ
+filled width bytes = take width (bytes ++ replicate width 0)
+
+-- "The starting card is `00 00` hex."
+abbrev pub startCard : List ℕ
+startCard = 0 ∷ 0 ∷ []
+
+-- The card in an array, and the entries in an array; a record of any value has at most 17 bytes and 11 entries there.
+abbrev pub cardIn : List ℕ → ℕ → List ℕ
+cardIn array kept = take (min kept 17) array
+
+abbrev pub entriesIn : List ℕ → ℕ → List Entry
+entriesIn array kept = readEntries (min kept 11) array
+
+-- "A missing prepared proof means stamp 0.0."
+abbrev pub ifIssued : {A : Type 0} → ℕ → A → Option A
+ifIssued timestamp proof = cond (eqb timestamp 0) none (some proof)
+
+abbrev pub timestampOf : Option PreparedProof → ℕ
+timestampOf none = 0
+timestampOf (some proof) = proof .timestamp
+
+-- 14: "A card breaks its table, its digest differs from the proof's, or it lacks a proof and is not `00 00`."
+abbrev pub cardStands : List ℕ → Option PreparedProof → Bool
+cardStands card none = same card startCard
+cardStands card (some proof) = isCard card && same (sha256 card) (proof .digest)

@@ -1,0 +1,49 @@
+// A client's record (document 01: a desk's).
+use base::party::ClientId;
+use base::replica_set::ReplicaSet;
+use base::timestamp::Timestamp;
+
+// What a client is waiting for, with the replicas counted so far.
+pub enum Phase {
+    Idle,
+    // STAMPs for a write: nonce, largest timestamp, counted.
+    Stamps(u64, Timestamp, ReplicaSet),
+    // PREPAREDs: timestamp, counted.
+    Prepareds(Timestamp, ReplicaSet),
+    // WRITTENs that end a write: timestamp, counted.
+    Writtens(Timestamp, ReplicaSet),
+    // CARDs for a read: nonce, largest timestamp, counted, and those of them that showed it.
+    Cards(u64, Timestamp, ReplicaSet, ReplicaSet),
+    // WRITTENs that end a write-back: timestamp, counted, the replicas that showed it among them.
+    WriteBack(Timestamp, ReplicaSet),
+}
+
+pub struct Client {
+    pub f: u8,
+    pub id: ClientId,
+    // The nonce of the last operation.
+    pub last_nonce: u64,
+    pub phase: Phase,
+    // The card that is written, or the best card read.
+    pub card_length: u8,
+    pub card: [u8; 17],
+    // The best reply's prepared proof but for its timestamp; from PREPARE on the card's digest.
+    pub digest: [u8; 32],
+    pub entry_count: u8,
+    pub entries: [u8; 715],
+    // The signatures counted in this phase, replica r's at 64 (r - 1).
+    pub signatures: [u8; 1024],
+    // The last written proof; 0.0 for none.
+    pub written: Timestamp,
+    pub written_count: u8,
+    pub written_entries: [u8; 715],
+}
+
+// The answer of a call of a client; the card of Done stands beside it.
+pub enum ClientAnswer {
+    Send(usize),
+    Counted,
+    Done(Timestamp),
+    Ended,
+    Refused(u8),
+}
