@@ -266,6 +266,10 @@ awaited test next = guard 18 test next
 abbrev pub unawaited : {A : Type 0} → Outcome A
 unawaited = refused 18
 
+-- "q": replies of a quorum were taken.
+abbrev pub enough : Client → ReplicaSet → Bool
+enough client counts = isQuorum (client .f) counts
+
 abbrev pub isNew : ReplicaSet → ReplicaId → Bool
 isNew counts sender = not (has counts sender)
 
@@ -290,7 +294,7 @@ toPrepare client best (some next) =
 
 unfoldable pub afterStamp : ℕ → Timestamp → ReplicaSet → Client → Outcome Turn
 afterStamp nonce best counts client =
-    cond (isQuorum (client .f) counts) (toPrepare client best (successor best (client .id))) (turn counted (withPhase (Stamps nonce best counts) client))
+    cond (enough client counts) (toPrepare client best (successor best (client .id))) (turn counted (withPhase (Stamps nonce best counts) client))
 
 unfoldable pub onStamp : Client → ReplicaId → ℕ → Option PreparedProof → ClientId → Phase → Outcome Turn
 onStamp client sender nonce proof addressed (Stamps asked best counts) =
@@ -305,7 +309,7 @@ onStamp client sender nonce proof addressed (WriteBack timestamp counts) = unawa
 -- "from q PREPAREDs build the proof; WRITE"
 unfoldable pub afterPrepared : Timestamp → ReplicaSet → Client → Outcome Turn
 afterPrepared timestamp counts client =
-    cond (isQuorum (client .f) counts)
+    cond (enough client counts)
     (turn (send (WRITE (client .id) (currentCard client) (record { timestamp = number timestamp; digest = client .digest; entries = built client counts (client .signatures) })))
     (withPhase (Writtens timestamp empty) (withSignatures (replicate 1024 0) client)))
     (turn counted (withPhase (Prepareds timestamp counts) client))
@@ -323,14 +327,14 @@ onPrepared client sender timestamp digest mark (WriteBack asked counts) = unawai
 -- "q WRITTENs end it and are the next written proof"
 unfoldable pub afterWritten : Timestamp → ReplicaSet → Client → Outcome Turn
 afterWritten timestamp counts client =
-    cond (isQuorum (client .f) counts)
+    cond (enough client counts)
     (turn (done timestamp (currentCard client)) (withPhase Idle (withLastWritten timestamp (built client counts (client .signatures)) client)))
     (turn counted (withPhase (Writtens timestamp counts) client))
 
 -- "each uncounted holder's WRITTEN counts, until q"
 unfoldable pub afterWriteBack : Timestamp → ReplicaSet → Client → Outcome Turn
 afterWriteBack timestamp counts client =
-    cond (isQuorum (client .f) counts) (turn (done timestamp (currentCard client)) (withPhase Idle client)) (turn counted (withPhase (WriteBack timestamp counts) client))
+    cond (enough client counts) (turn (done timestamp (currentCard client)) (withPhase Idle client)) (turn counted (withPhase (WriteBack timestamp counts) client))
 
 unfoldable pub onWritten : Client → ReplicaId → ℕ → List ℕ → Phase → Outcome Turn
 onWritten client sender timestamp mark (Writtens asked counts) =
@@ -354,8 +358,8 @@ keepBetterCard best card proof client = cond (ltb (number best) (timestampOf pro
 -- "If they are q it is done; else WRITE it back"
 unfoldable pub afterCard : ℕ → Timestamp → ReplicaSet → ReplicaSet → Client → Outcome Turn
 afterCard nonce best counts showed client =
-    cond (isQuorum (client .f) counts)
-    (cond (isQuorum (client .f) showed) (turn (done best (currentCard client)) (withPhase Idle client))
+    cond (enough client counts)
+    (cond (enough client showed) (turn (done best (currentCard client)) (withPhase Idle client))
     (turn (send (WRITE (client .id) (currentCard client) (bestProof client best))) (withPhase (WriteBack best showed) client)))
     (turn counted (withPhase (Cards nonce best counts showed) client))
 

@@ -1,0 +1,9 @@
+pub mod Bodies
+pub mod Demand3
+pub mod Held
+pub mod Nonces
+pub mod Operations
+pub mod Order
+pub mod SentMessages
+pub mod Slots
+pub mod Turns

@@ -1,0 +1,549 @@
+-- An operation from its beginning to its end: what holds in each phase. Assumes nothing.
+use mathlib.Core.Path.{_≡_, refl, sym, ap, subst, _∙_}
+use mathlib.Core.Logic.{_⊎_, inl, inr, ⊎-elim}
+use mathlib.Core.Bool.{Bool, true, false, cond}
+use mathlib.Core.List.{List}
+use mathlib.Core.Option.{Option, none, some}
+use Prim.Native.Nat.{ℕ, suc, _/_, _%_, _≤_, _<_}
+use native.Mathlib.Omega.{arith}
+use borrow.Author.Tests.{eqb-true, leb-true, ltb-true, ltb-false}
+use lib.Dec.{eqb, leb, ltb}
+use Rattle.base.specs.Counting.{count}
+use Rattle.base.specs.Outcome.{accepted}
+use Rattle.base.specs.Party.{replicaCount, quorumSize, isReplica}
+use Rattle.base.specs.Range.{within}
+use Rattle.base.specs.ReplicaSet.{empty, has, with, isQuorum}
+use Rattle.base.specs.Same.{same}
+use Rattle.base.specs.Timestamp.{number, ofNumber, successor}
+use Rattle.base.specs.declared.party.ClientId.{ClientId}
+use Rattle.base.specs.declared.party.ReplicaId.{ReplicaId}
+use Rattle.base.specs.declared.replica_set.ReplicaSet.{ReplicaSet}
+use Rattle.base.specs.declared.timestamp.Timestamp.{Timestamp}
+use Rattle.base.proofs.Booleans.{and-true-both}
+use Rattle.base.proofs.Counting.{or-is}
+use Rattle.base.proofs.Range.{bounds}
+use Rattle.base.proofs.ReplicaSet.{has-with, has-empty}
+use Rattle.base.proofs.Same.{same-equal}
+use Rattle.base.proofs.Timestamps.{successor-number}
+use Rattle.wire.specs.Card.{isCard}
+use Rattle.wire.specs.Checks.{issued}
+use Rattle.wire.specs.Message.{Message, READ-STAMP, READ, STAMP, PREPARED, WRITTEN, CARD}
+use Rattle.wire.specs.Proof.{PreparedProof}
+use Rattle.wire.specs.Sha256.{sha256}
+use Rattle.protocol.specs.Client.{Answer, send, counted, done, ended, Turn, currentCard, bestOf, showedBy}
+use Rattle.protocol.specs.Parts.{startCard, timestampOf, cardStands}
+use Rattle.protocol.specs.declared.client.Client.{Client}
+use Rattle.protocol.specs.declared.client.Phase.{Phase}
+use Rattle.protocol.specs.declared.client.Phase.the-variants.{Idle, Stamps, Prepareds, Writtens, Cards, WriteBack}
+use Rattle.protocol.proofs.Fit.{TimestampFits}
+use Rattle.protocol.proofs.Passed.{Passed}
+use Rattle.protocol.proofs.ClientCases.{Leaves, betterCard, PhaseFits, ClientCase, stamp-counted, stamps-enough, stamps-ended, prepared-counted, prepareds-enough, written-counted, writtens-enough, card-counted, cards-agree, cards-differ, back-counted, back-enough}
+use Rattle.run.specs.Premises.{CardOfRun, Premises}
+use Rattle.run.specs.Run.{replica, client, Run, clientAt, answerAt}
+use Rattle.run.proofs.Turns.{apart, same-replica, correct-replica-range, correct-client-range, GoodClient, good-client, ClientStep, Heard}
+use Rattle.run.proofs.SentMessages.{or-true, Said, said-later, heard-said}
+use Rattle.run.proofs.Slots.{Backed, backed-later, meet, card-backed}
+use Rattle.run.proofs.Held.{held, held-rises, written-held, Showed, stamp-showed, card-showed}
+use Rattle.run.proofs.Nonces.{Asks, for-stamps, for-cards, asked-since}
+
+-- ---- The best of the replies
+
+best-least : (best : Timestamp) (proof : Option PreparedProof) → (number best ≤ number (bestOf best proof)) × (timestampOf proof ≤ number (bestOf best proof))
+best-least best proof = go (ltb (number best) (timestampOf proof)) refl
+  where
+    go : (b : Bool) → ltb (number best) (timestampOf proof) ≡ b
+        → (number best ≤ number (cond b (ofNumber (timestampOf proof)) best)) × (timestampOf proof ≤ number (cond b (ofNumber (timestampOf proof)) best))
+    go true e = let l = ltb-true (number best) (timestampOf proof) e in omega arith
+    go false e = let l = ltb-false (number best) (timestampOf proof) e in omega arith
+
+best-fits : (best : Timestamp) (proof : Option PreparedProof) → best .client .0 < 256 → bestOf best proof .client .0 < 256
+best-fits best proof h = go (ltb (number best) (timestampOf proof))
+  where
+    go : (b : Bool) → cond b (ofNumber (timestampOf proof)) best .client .0 < 256
+    go true = omega arith
+    go false = h
+
+abbrev isDone : Answer → Bool
+isDone (send message) = false
+isDone counted = false
+isDone (done timestamp card) = true
+isDone ended = false
+
+carried-fits : {timestamp : Timestamp} → TimestampFits timestamp → timestamp .client .0 < 256
+carried-fits fits = fits .1
+
+-- Nobody is in the empty set.
+pub none-in : {A : Type 0} (id : ReplicaId) → has empty id ≡ true → A
+none-in id h = let no-one = has-empty id in apart (cc)
+
+module _ (R : Run) where
+  -- What is true of each correct member of a set.
+  abbrev pub Each : ReplicaSet → (ReplicaId → Type 0) → Type 0
+  Each set Q = (id : ReplicaId) → has set id ≡ true → R .correct-replica id ≡ true → Q id
+
+  -- One more member: the new one, or an old one.
+  more : (Q : ReplicaId → Type 0) (sender : ReplicaId) (set : ReplicaSet) → 1 ≤ sender .0 → sender .0 ≤ 16 → (R .correct-replica sender ≡ true → Q sender)
+      → Each set Q → Each (with set sender) Q
+  more Q sender set low high new old id member c =
+      let range = correct-replica-range R id c in
+      let one-of : or-is sender (has set) id ≡ true = sym (has-with set sender (id .0) low high (range .0) (omega arith)) ∙ member in
+      ⊎-elim
+      (λ e. let is : sender ≡ id = same-replica sender id (sym (eqb-true (id .0) (sender .0) e)) in subst (λ (i : ReplicaId). R .correct-replica i ≡ true → Q i) is new c)
+      (λ e. old id e c)
+      (or-true (eqb (id .0) (sender .0)) (has set id) one-of)
+
+  -- A quorum whose correct members hold s or more before event t.
+  pub record Settled (t s : ℕ) : Type 0 where
+    pub who : ReplicaId → Bool
+    pub enough : quorumSize (R .f) ≤ count (replicaCount (R .f)) who
+    pub hold : (id : ReplicaId) → who id ≡ true → R .correct-replica id ≡ true → s ≤ held R id t
+
+  pub settled-later : (t t′ s : ℕ) → t ≤ t′ → Settled t s → Settled t′ s
+  settled-later t t′ s l a = record {
+    who = a .who;
+    enough = a .enough;
+    hold = λ id k c. let then = a .hold id k c in let rose = held-rises R id c t t′ l in omega arith;
+  }
+
+  -- What a timestamp is shown with: the starting card, or a card of the run whose digest a quorum backs.
+  pub record Vouched (t s : ℕ) (card : List ℕ) : Type 0 where
+    pub positive : 1 ≤ s
+    pub backed : Backed R t s (sha256 card)
+    pub card-in : CardOfRun R card
+
+  abbrev pub Shown : ℕ → ℕ → List ℕ → Type 0
+  Shown t s card = ((s ≡ 0) × (card ≡ startCard)) ⊎ Vouched t s card
+
+  pub shown-later : (t t′ s : ℕ) (card : List ℕ) → t ≤ t′ → Shown t s card → Shown t′ s card
+  shown-later t t′ s card l (inl e) = inl e
+  shown-later t t′ s card l (inr v) = inr (record { positive = v .positive; backed = backed-later R t t′ s (sha256 card) l (v .backed); card-in = v .card-in })
+
+  -- ---- The phases of a write of a card, begun by a client at t₀
+
+  abbrev pub Holds : ReplicaSet → ℕ → ℕ → Type 0
+  Holds set s t = Each set (λ id. s ≤ held R id t)
+
+  holds-later : (set : ReplicaSet) (s t : ℕ) → Holds set s t → Holds set s (suc t)
+  holds-later set s t h id k c = let then = h id k c in let rose = held-rises R id c t (suc t) (omega arith) in omega arith
+
+  -- The timestamp of a write: above all that was settled at t₀, and the client's own.
+  pub record Chosen (id : ClientId) (t₀ s : ℕ) : Type 0 where
+    pub positive : 1 ≤ s
+    pub own : s % 256 ≡ id .0
+    pub above : (s′ : ℕ) → Settled t₀ s′ → s′ < s
+
+  pub record Stamping (id : ClientId) (card : List ℕ) (t₀ : ℕ) (now : Client) (nonce best : ℕ) (counts : ReplicaSet) : Type 0 where
+    pub card-is : currentCard now ≡ card
+    pub new : clientAt R id t₀ .«last_nonce» < nonce
+    pub seen : Each counts (λ r. held R r t₀ ≤ best)
+
+  pub record Preparing (id : ClientId) (card : List ℕ) (t₀ t : ℕ) (now : Client) (s : ℕ) (counts : ReplicaSet) : Type 0 where
+    pub card-is : currentCard now ≡ card
+    pub digest-is : now .digest ≡ sha256 card
+    pub chosen : Chosen id t₀ s
+    pub signed : Each counts (λ r. Said R (replica r) (PREPARED r s (sha256 card)) t)
+
+  pub record Writing (id : ClientId) (card : List ℕ) (t₀ t : ℕ) (now : Client) (s : ℕ) (counts : ReplicaSet) : Type 0 where
+    pub card-is : currentCard now ≡ card
+    pub chosen : Chosen id t₀ s
+    pub backed : Backed R t s (sha256 card)
+    pub stored : Holds counts s t
+
+  abbrev pub WriteIn : ClientId → List ℕ → ℕ → ℕ → Client → Phase → Type 0
+  WriteIn id card t₀ t now Idle = ⊥
+  WriteIn id card t₀ t now (Stamps nonce best counts) = Stamping id card t₀ now nonce (number best) counts
+  WriteIn id card t₀ t now (Prepareds timestamp counts) = Preparing id card t₀ t now (number timestamp) counts
+  WriteIn id card t₀ t now (Writtens timestamp counts) = Writing id card t₀ t now (number timestamp) counts
+  WriteIn id card t₀ t now (Cards nonce best counts showed) = ⊥
+  WriteIn id card t₀ t now (WriteBack timestamp counts) = ⊥
+
+  write-later : (id : ClientId) (card : List ℕ) (t₀ t : ℕ) (now : Client) (phase : Phase) → WriteIn id card t₀ t now phase → WriteIn id card t₀ (suc t) now phase
+  write-later id card t₀ t now Idle x = x
+  write-later id card t₀ t now (Stamps nonce best counts) x = x
+  write-later id card t₀ t now (Prepareds timestamp counts) x = record {
+    card-is = x .card-is;
+    digest-is = x .digest-is;
+    chosen = x .chosen;
+    signed = λ r k c. said-later R (replica r) (PREPARED r (number timestamp) (sha256 card)) t (suc t) (omega arith) (x .signed r k c);
+  }
+  write-later id card t₀ t now (Writtens timestamp counts) x = record {
+    card-is = x .card-is;
+    chosen = x .chosen;
+    backed = backed-later R t (suc t) (number timestamp) (sha256 card) (omega arith) (x .backed);
+    stored = holds-later counts (number timestamp) t (x .stored);
+  }
+  write-later id card t₀ t now (Cards nonce best counts showed) x = x
+  write-later id card t₀ t now (WriteBack timestamp counts) x = x
+
+  -- ---- The phases of a read
+
+  pub record Reading (id : ClientId) (t₀ t : ℕ) (now : Client) (nonce best : ℕ) (counts showed : ReplicaSet) : Type 0 where
+    pub new : clientAt R id t₀ .«last_nonce» < nonce
+    pub seen : Each counts (λ r. held R r t₀ ≤ best)
+    pub shown-by : Holds showed best t
+    pub is-shown : Shown t best (currentCard now)
+
+  pub record WritingBack (t₀ t : ℕ) (now : Client) (s : ℕ) (counts : ReplicaSet) : Type 0 where
+    pub above : (s′ : ℕ) → Settled t₀ s′ → s′ ≤ s
+    pub stored : Holds counts s t
+    pub is-shown : Shown t s (currentCard now)
+
+  abbrev pub ReadIn : ClientId → ℕ → ℕ → Client → Phase → Type 0
+  ReadIn id t₀ t now Idle = ⊥
+  ReadIn id t₀ t now (Stamps nonce best counts) = ⊥
+  ReadIn id t₀ t now (Prepareds timestamp counts) = ⊥
+  ReadIn id t₀ t now (Writtens timestamp counts) = ⊥
+  ReadIn id t₀ t now (Cards nonce best counts showed) = Reading id t₀ t now nonce (number best) counts showed
+  ReadIn id t₀ t now (WriteBack timestamp counts) = WritingBack t₀ t now (number timestamp) counts
+
+  read-later : (id : ClientId) (t₀ t : ℕ) (now : Client) (phase : Phase) → ReadIn id t₀ t now phase → ReadIn id t₀ (suc t) now phase
+  read-later id t₀ t now Idle x = x
+  read-later id t₀ t now (Stamps nonce best counts) x = x
+  read-later id t₀ t now (Prepareds timestamp counts) x = x
+  read-later id t₀ t now (Writtens timestamp counts) x = x
+  read-later id t₀ t now (Cards nonce best counts showed) x = record {
+    new = x .new;
+    seen = x .seen;
+    shown-by = holds-later showed (number best) t (x .shown-by);
+    is-shown = shown-later t (suc t) (number best) (currentCard now) (omega arith) (x .is-shown);
+  }
+  read-later id t₀ t now (WriteBack timestamp counts) x = record {
+    above = x .above;
+    stored = holds-later counts (number timestamp) t (x .stored);
+    is-shown = shown-later t (suc t) (number timestamp) (currentCard now) (omega arith) (x .is-shown);
+  }
+
+  -- ---- Both kinds of operation; true for a write
+
+  abbrev pub During : Bool → ClientId → List ℕ → ℕ → ℕ → Client → Phase → Type 0
+  During true id card t₀ t now phase = WriteIn id card t₀ t now phase
+  During false id card t₀ t now phase = ReadIn id t₀ t now phase
+
+  pub during-later : (w : Bool) (id : ClientId) (card : List ℕ) (t₀ t : ℕ) (now : Client) (phase : Phase) → During w id card t₀ t now phase → During w id card t₀ (suc t) now phase
+  during-later true id card t₀ t now phase x = write-later id card t₀ t now phase x
+  during-later false id card t₀ t now phase x = read-later id t₀ t now phase x
+
+  pub not-idle : {A : Type 0} (w : Bool) (id : ClientId) (card : List ℕ) (t₀ t : ℕ) (now : Client) → During w id card t₀ t now Idle → A
+  not-idle true id card t₀ t now x = absurd x
+  not-idle false id card t₀ t now x = absurd x
+
+  -- The record after event t, from what the step leaves.
+  pub moved : (w : Bool) (id : ClientId) (card : List ℕ) (t₀ t : ℕ) (turn : Turn) (phase : Phase) → ClientStep R id t turn → turn .next .phase ≡ phase
+      → During w id card t₀ (suc t) (turn .next) phase → During w id card t₀ (suc t) (clientAt R id (suc t)) (clientAt R id (suc t) .phase)
+  moved w id card t₀ t turn phase step e x =
+      subst (λ (after : Client). During w id card t₀ (suc t) after (after .phase)) (sym (step .next-is)) (subst (During w id card t₀ (suc t) (turn .next)) (sym e) x)
+
+  -- Strict for a write.
+  abbrev pub Above : Bool → ℕ → ℕ → Type 0
+  Above true t₀ s = (s′ : ℕ) → Settled t₀ s′ → s′ < s
+  Above false t₀ s = (s′ : ℕ) → Settled t₀ s′ → s′ ≤ s
+
+  -- An operation of a client at its done, with timestamp and card.
+  pub record AtDone (w : Bool) (id : ClientId) (begun : List ℕ) (t₀ t : ℕ) (timestamp : Timestamp) (card : List ℕ) : Type 0 where
+    pub fits : timestamp .client .0 < 256
+    pub own : w ≡ true → (number timestamp % 256 ≡ id .0) × (card ≡ begun)
+    pub settled : Settled t (number timestamp)
+    pub above : Above w t₀ (number timestamp)
+    pub is-shown : Shown t (number timestamp) card
+
+  -- Event t at the client while its operation is under way.
+  pub data Next (w : Bool) (id : ClientId) (card : List ℕ) (t₀ t : ℕ) : Type 0 where
+    goes-on : During w id card t₀ (suc t) (clientAt R id (suc t)) (clientAt R id (suc t) .phase)
+        → ((timestamp : Timestamp) (shown : List ℕ) → answerAt R t ≡ accepted (done timestamp shown) → ⊥) → Next w id card t₀ t
+    finishes : (timestamp : Timestamp) (shown : List ℕ) → answerAt R t ≡ accepted (done timestamp shown) → AtDone w id card t₀ (suc t) timestamp shown → Next w id card t₀ t
+    stops : answerAt R t ≡ accepted ended → Next w id card t₀ t
+
+  module _ (P : Premises R) (id : ClientId) (correct : R .correct-client id ≡ true) (t₀ t : ℕ) where
+    abbrev now : Client
+    now = clientAt R id t
+
+    good : GoodClient R id now
+    good = good-client R id correct t
+
+    -- A quorum that answered since t₀, none with more than m: what was settled at t₀ is at most m.
+    below : (m : ℕ) (counts : ReplicaSet) → quorumSize (R .f) ≤ count (replicaCount (R .f)) (has counts) → Each counts (λ r. held R r t₀ ≤ m) → (s : ℕ) → Settled t₀ s → s ≤ m
+    below m counts enough seen s a =
+        let c = meet R P (has counts) (a .who) enough (a .enough) in
+        let low = seen (c .at) (c .in-p) (c .in-r) in
+        let high = a .hold (c .at) (c .in-q) (c .in-r) in
+        omega arith
+
+    quorum : (counts : ReplicaSet) → isQuorum (now .f) counts ≡ true → quorumSize (R .f) ≤ count (replicaCount (R .f)) (has counts)
+    quorum counts q =
+        let at-run : isQuorum (R .f) counts ≡ true = subst (λ (f : ℕ). isQuorum f counts ≡ true) (good .f-is) q in
+        leb-true (quorumSize (R .f)) (count (replicaCount (R .f)) (has counts)) at-run
+
+    sender-range : (sender : ReplicaId) → isReplica (now .f) sender ≡ true → (1 ≤ sender .0) × (sender .0 ≤ 16)
+    sender-range sender h = let range = bounds 1 (replicaCount (now .f)) (sender .0) h in (range .0, omega arith)
+
+    -- What a reply shows lies between what its replica held at t₀ and what it holds now.
+    within-time : (sender : ReplicaId) → R .correct-replica sender ≡ true → (question : Message) (nonce shown : ℕ) → Asks id nonce question → clientAt R id t₀ .«last_nonce» < nonce
+        → Showed R sender t question id shown → (held R sender t₀ ≤ shown) × (shown ≤ held R sender t)
+    within-time sender c question nonce shown a new w =
+        let since : t₀ ≤ w .asked .time = asked-since R id correct t₀ (w .time) nonce question a new (w .asked) in
+        let asked-before = w .asked .earlier in
+        let shown-before = w .earlier in
+        let shows = w .shows in
+        let from = held-rises R sender c t₀ (w .time) (omega arith) in
+        let to = held-rises R sender c (w .time) t (omega arith) in
+        (omega arith, omega arith)
+
+    module _ (h : Heard R id t) (sender : ReplicaId) (nonce : ℕ) (proof : Option PreparedProof) (new : clientAt R id t₀ .«last_nonce» < nonce) (c : R .correct-replica sender ≡ true) where
+      stamp-within : h .message ≡ STAMP sender nonce proof (now .id) → (held R sender t₀ ≤ timestampOf proof) × (timestampOf proof ≤ held R sender t)
+      stamp-within e =
+          let is : h .message ≡ STAMP sender nonce proof id = e ∙ ap (STAMP sender nonce proof) (good .id-is) in
+          within-time sender c (READ-STAMP id nonce) nonce (timestampOf proof) (for-stamps refl) new
+          (stamp-showed R P sender c id correct nonce proof t (heard-said R P id t h (STAMP sender nonce proof id) is c))
+
+      card-within : (card : List ℕ) → h .message ≡ CARD sender nonce card proof (now .id) → (held R sender t₀ ≤ timestampOf proof) × (timestampOf proof ≤ held R sender t)
+      card-within card e =
+          let is : h .message ≡ CARD sender nonce card proof id = e ∙ ap (CARD sender nonce card proof) (good .id-is) in
+          within-time sender c (READ id nonce) nonce (timestampOf proof) (for-cards refl) new
+          (card-showed R P sender c id correct nonce proof t card (heard-said R P id t h (CARD sender nonce card proof id) is c))
+
+    seen-more : (sender : ReplicaId) (counts : ReplicaSet) (best : Timestamp) (proof : Option PreparedProof) → isReplica (now .f) sender ≡ true
+        → (R .correct-replica sender ≡ true → held R sender t₀ ≤ timestampOf proof) → Each counts (λ r. held R r t₀ ≤ number best)
+        → Each (with counts sender) (λ r. held R r t₀ ≤ number (bestOf best proof))
+    seen-more sender counts best proof inside new old =
+        let range = sender-range sender inside in
+        let least = best-least best proof in
+        more (λ r. held R r t₀ ≤ number (bestOf best proof)) sender counts (range .0) (range .1)
+        (λ c. let l = new c in omega arith) (λ r k c. let l = old r k c in omega arith)
+
+    stored-more : (h : Heard R id t) (sender : ReplicaId) (counts : ReplicaSet) (s : ℕ) → isReplica (now .f) sender ≡ true → h .message ≡ WRITTEN sender s
+        → Holds counts s t → Holds (with counts sender) s (suc t)
+    stored-more h sender counts s inside e old =
+        let range = sender-range sender inside in
+        more (λ r. s ≤ held R r (suc t)) sender counts (range .0) (range .1)
+        (λ c. let then = written-held R sender c t s (heard-said R P id t h (WRITTEN sender s) e c) in let rose = held-rises R sender c t (suc t) (omega arith) in omega arith)
+        (holds-later counts s t old)
+
+    goes-to : (w : Bool) (card : List ℕ) (turn : Turn) (answer : Answer) (phase : Phase) → ClientStep R id t turn → Leaves turn answer phase
+        → ((timestamp : Timestamp) (shown : List ℕ) → answer ≡ done timestamp shown → ⊥) → During w id card t₀ (suc t) (turn .next) phase → Next w id card t₀ t
+    goes-to w card turn answer phase step left not-done x =
+        goes-on (moved w id card t₀ t turn phase step (left .phase-is) x) (λ timestamp shown e. not-done timestamp shown (cc (step .answer-is, left .answer-is)))
+
+    done-is : (turn : Turn) (answer : Answer) (phase : Phase) → ClientStep R id t turn → Leaves turn answer phase → answerAt R t ≡ accepted answer
+    done-is turn answer phase step left = step .answer-is ∙ ap accepted (left .answer-is)
+
+    -- ---- A write takes a message
+
+    take-stamp : (card : List ℕ) (h : Heard R id t) (sender : ReplicaId) (nonce : ℕ) (proof : Option PreparedProof) (best : Timestamp) (counts : ReplicaSet)
+        → h .message ≡ STAMP sender nonce proof (now .id) → isReplica (now .f) sender ≡ true → Stamping id card t₀ now nonce (number best) counts
+        → Each (with counts sender) (λ r. held R r t₀ ≤ number (bestOf best proof))
+    take-stamp card h sender nonce proof best counts e inside x =
+        seen-more sender counts best proof inside (λ c. stamp-within h sender nonce proof (x .new) c e .0) (x .seen)
+
+    -- The successor of the best timestamp, for this client.
+    choose : (best next : Timestamp) → best .client .0 < 256 → successor best (now .id) ≡ some next → ((s : ℕ) → Settled t₀ s → s ≤ number best) → Chosen id t₀ (number next)
+    choose best next fits e least =
+        let is = successor-number best next (now .id) fits e in
+        let same-id : now .id .0 ≡ id .0 = ap (λ (i : ClientId). i .0) (good .id-is) in
+        let range = correct-client-range R id correct in
+        record { positive = omega arith; own = omega arith; above = λ s a. let l = least s a in omega arith }
+
+    take-prepared : (card : List ℕ) (h : Heard R id t) (sender : ReplicaId) (s : ℕ) (counts : ReplicaSet) → h .message ≡ PREPARED sender s (now .digest) → isReplica (now .f) sender ≡ true
+        → Preparing id card t₀ t now s counts → Each (with counts sender) (λ r. Said R (replica r) (PREPARED r s (sha256 card)) (suc t))
+    take-prepared card h sender s counts e inside x =
+        let range = sender-range sender inside in
+        let is : h .message ≡ PREPARED sender s (sha256 card) = e ∙ ap (PREPARED sender s) (x .digest-is) in
+        more (λ r. Said R (replica r) (PREPARED r s (sha256 card)) (suc t)) sender counts (range .0) (range .1)
+        (λ c. said-later R (replica sender) (PREPARED sender s (sha256 card)) t (suc t) (omega arith) (heard-said R P id t h (PREPARED sender s (sha256 card)) is c))
+        (λ r k c. said-later R (replica r) (PREPARED r s (sha256 card)) t (suc t) (omega arith) (x .signed r k c))
+
+    no-done : (answer : Answer) → isDone answer ≡ false → (timestamp : Timestamp) (shown : List ℕ) → answer ≡ done timestamp shown → ⊥
+    no-done answer e timestamp shown q = let p : isDone answer ≡ true = ap isDone q in apart (cc)
+
+    write-heard : (card : List ℕ) → CardOfRun R card → (h : Heard R id t) → WriteIn id card t₀ t now (now .phase) → ClientCase now (h .message) (h .turn) → Next true id card t₀ t
+    write-heard card in-run h x (stamp-counted sender nonce proof best counts e phase new kept left) =
+        let y : Stamping id card t₀ now nonce (number best) counts = subst (WriteIn id card t₀ t now) phase x in
+        goes-to true card (h .turn) counted (Stamps nonce (bestOf best proof) (with counts sender)) (h .step) left (no-done counted refl)
+        (record { card-is = kept ∙ y .card-is; new = y .new; seen = take-stamp card h sender nonce proof best counts e (new .0) y })
+    write-heard card in-run h x (stamps-enough sender nonce proof best counts next shown last e phase new full succ kept digest of left) =
+        let y : Stamping id card t₀ now nonce (number best) counts = subst (WriteIn id card t₀ t now) phase x in
+        let fits : TimestampFits best = subst PhaseFits phase (good .phase-fits) in
+        goes-to true card (h .turn) _ (Prepareds next empty) (h .step) left (no-done _ refl)
+        (record {
+          card-is = kept ∙ y .card-is;
+          digest-is = digest ∙ ap sha256 (y .card-is);
+          chosen = choose (bestOf best proof) next (best-fits best proof (fits .1)) succ
+              (below (number (bestOf best proof)) (with counts sender) (quorum (with counts sender) full) (take-stamp card h sender nonce proof best counts e (new .0) y));
+          signed = λ r k c. none-in r k;
+        })
+    write-heard card in-run h x (stamps-ended sender nonce proof best counts e phase left) = stops (done-is (h .turn) ended Idle (h .step) left)
+    write-heard card in-run h x (prepared-counted sender timestamp counts e phase new same-card left) =
+        let y : Preparing id card t₀ t now (number timestamp) counts = subst (WriteIn id card t₀ t now) phase x in
+        goes-to true card (h .turn) counted (Prepareds timestamp (with counts sender)) (h .step) left (no-done counted refl)
+        (record {
+          card-is = same-card .card-kept ∙ y .card-is;
+          digest-is = same-card .digest-kept ∙ y .digest-is;
+          chosen = y .chosen;
+          signed = take-prepared card h sender (number timestamp) counts e (new .0) y;
+        })
+    write-heard card in-run h x (prepareds-enough sender timestamp counts proof e phase new full same-card of-timestamp of-digest left) =
+        let y : Preparing id card t₀ t now (number timestamp) counts = subst (WriteIn id card t₀ t now) phase x in
+        goes-to true card (h .turn) _ (Writtens timestamp empty) (h .step) left (no-done _ refl)
+        (record {
+          card-is = same-card .card-kept ∙ y .card-is;
+          chosen = y .chosen;
+          backed = record { who = has (with counts sender); enough = quorum (with counts sender) full; signed = take-prepared card h sender (number timestamp) counts e (new .0) y };
+          stored = λ r k c. none-in r k;
+        })
+    write-heard card in-run h x (written-counted sender timestamp counts e phase new same-card left) =
+        let y : Writing id card t₀ t now (number timestamp) counts = subst (WriteIn id card t₀ t now) phase x in
+        goes-to true card (h .turn) counted (Writtens timestamp (with counts sender)) (h .step) left (no-done counted refl)
+        (record {
+          card-is = same-card .card-kept ∙ y .card-is;
+          chosen = y .chosen;
+          backed = backed-later R t (suc t) (number timestamp) (sha256 card) (omega arith) (y .backed);
+          stored = stored-more h sender counts (number timestamp) (new .0) e (y .stored);
+        })
+    write-heard card in-run h x (writtens-enough sender timestamp counts e phase new full left) =
+        let y : Writing id card t₀ t now (number timestamp) counts = subst (WriteIn id card t₀ t now) phase x in
+        finishes timestamp (currentCard now) (done-is (h .turn) (done timestamp (currentCard now)) Idle (h .step) left)
+        (record {
+          fits = carried-fits (subst PhaseFits phase (good .phase-fits));
+          own = λ w. (y .chosen .own, y .card-is);
+          settled = record { who = has (with counts sender); enough = quorum (with counts sender) full; hold = stored-more h sender counts (number timestamp) (new .0) e (y .stored) };
+          above = y .chosen .above;
+          is-shown = subst (Shown (suc t) (number timestamp)) (sym (y .card-is))
+              (inr (record { positive = y .chosen .positive; backed = backed-later R t (suc t) (number timestamp) (sha256 card) (omega arith) (y .backed); card-in = in-run }));
+        })
+    write-heard card in-run h x (card-counted sender nonce card′ proof best counts showed e phase new stands better left) = absurd (subst (WriteIn id card t₀ t now) phase x)
+    write-heard card in-run h x (cards-agree sender nonce card′ proof best counts showed e phase new stands full full′ left) = absurd (subst (WriteIn id card t₀ t now) phase x)
+    write-heard card in-run h x (cards-differ sender nonce card′ proof best counts showed shown e phase new stands full better left) = absurd (subst (WriteIn id card t₀ t now) phase x)
+    write-heard card in-run h x (back-counted sender timestamp counts e phase new same-card left) = absurd (subst (WriteIn id card t₀ t now) phase x)
+    write-heard card in-run h x (back-enough sender timestamp counts e phase new full left) = absurd (subst (WriteIn id card t₀ t now) phase x)
+
+    -- ---- A read takes a message
+
+    -- A CARD that a client takes carries a card of the run.
+    heard-card : (h : Heard R id t) (sender : ReplicaId) (nonce : ℕ) (card : List ℕ) (proof : Option PreparedProof) → h .message ≡ CARD sender nonce card proof (now .id) → CardOfRun R card
+    heard-card h sender nonce card proof e = record {
+      time = t;
+      carried = rw (h .event-is, h .decoded, e);
+      not-refused = (h .turn .answer, h .step .answer-is);
+    }
+
+    issued-positive : (s : ℕ) → issued s ≡ true → 1 ≤ s
+    issued-positive s e = let l = leb-true 1 (s / 256) (and-true-both (leb 1 (s / 256)) (within 1 64 (s % 256)) e .0) in omega arith
+
+    card-shown : (h : Heard R id t) (sender : ReplicaId) (nonce : ℕ) (card : List ℕ) (proof : Option PreparedProof) → h .message ≡ CARD sender nonce card proof (now .id)
+        → cardStands card proof ≡ true → Shown t (timestampOf proof) card
+    card-shown h sender nonce card none e stands = inl (refl, same-equal card startCard stands)
+    card-shown h sender nonce card (some proof) e stands =
+        let passed : Passed (R .f) (h .message) (h .verdicts) = subst (λ (f : ℕ). Passed f (h .message) (h .verdicts)) (good .f-is) (h .facts .passed) in
+        let there : Passed (R .f) (CARD sender nonce card (some proof) (now .id)) (h .verdicts) = subst (λ (m : Message). Passed (R .f) m (h .verdicts)) e passed in
+        let digest : sha256 card ≡ proof .digest = same-equal (sha256 card) (proof .digest) (and-true-both (isCard card) (same (sha256 card) (proof .digest)) stands .1) in
+        inr (record {
+          positive = issued-positive (proof .timestamp) (there .prepared-issued);
+          backed = subst (Backed R t (proof .timestamp)) (sym digest) (card-backed R P id t h sender nonce card proof (now .id) e passed);
+          card-in = heard-card h sender nonce card (some proof) e;
+        })
+
+    -- The best timestamp and card after a CARD, and who showed it.
+    record Taken (sender : ReplicaId) (card : List ℕ) (proof : Option PreparedProof) (best : Timestamp) (counts showed : ReplicaSet) : Type 0 where
+      seen : Each (with counts sender) (λ r. held R r t₀ ≤ number (bestOf best proof))
+      shown-by : Holds (showedBy best proof sender showed) (number (bestOf best proof)) (suc t)
+      is-shown : Shown (suc t) (number (bestOf best proof)) (betterCard best proof card now)
+
+    take-card : (h : Heard R id t) (sender : ReplicaId) (nonce : ℕ) (card : List ℕ) (proof : Option PreparedProof) (best : Timestamp) (counts showed : ReplicaSet)
+        → h .message ≡ CARD sender nonce card proof (now .id) → isReplica (now .f) sender ≡ true → cardStands card proof ≡ true → Reading id t₀ t now nonce (number best) counts showed
+        → Taken sender card proof best counts showed
+    take-card h sender nonce card proof best counts showed e inside stands x = record {
+      seen = seen-more sender counts best proof inside (λ c. fresh c .0) (x .seen);
+      shown-by = both .0;
+      is-shown = both .1;
+    }
+      where
+        fresh : R .correct-replica sender ≡ true → (held R sender t₀ ≤ timestampOf proof) × (timestampOf proof ≤ held R sender t)
+        fresh c = card-within h sender nonce proof (x .new) c card e
+
+        range : (1 ≤ sender .0) × (sender .0 ≤ 16)
+        range = sender-range sender inside
+
+        Parts : Bool → Bool → Type 0
+        Parts u v =
+            Holds (cond u (with empty sender) (cond v (with showed sender) showed)) (number (cond u (ofNumber (timestampOf proof)) best)) (suc t)
+            × Shown (suc t) (number (cond u (ofNumber (timestampOf proof)) best)) (cond u card (currentCard now))
+
+        old : Holds showed (number best) (suc t)
+        old = holds-later showed (number best) t (x .shown-by)
+
+        rose : (c : R .correct-replica sender ≡ true) → timestampOf proof ≤ held R sender (suc t)
+        rose c = let l = fresh c .1 in let r = held-rises R sender c t (suc t) (omega arith) in omega arith
+
+        kept : Shown (suc t) (number best) (currentCard now)
+        kept = shown-later t (suc t) (number best) (currentCard now) (omega arith) (x .is-shown)
+
+        whole : number (ofNumber (timestampOf proof)) ≡ timestampOf proof
+        whole = omega arith
+
+        go : (u v : Bool) → ltb (number best) (timestampOf proof) ≡ u → eqb (number best) (timestampOf proof) ≡ v → Parts u v
+        go true v e₁ e₂ = (
+          more (λ r. number (ofNumber (timestampOf proof)) ≤ held R r (suc t)) sender empty (range .0) (range .1) (λ c. let l = rose c in omega arith) (λ r k c. none-in r k),
+          subst (λ (s : ℕ). Shown (suc t) s card) (sym whole) (shown-later t (suc t) (timestampOf proof) card (omega arith) (card-shown h sender nonce card proof e stands)),
+        )
+        go false true e₁ e₂ =
+            let equal = eqb-true (number best) (timestampOf proof) e₂ in
+            (more (λ r. number best ≤ held R r (suc t)) sender showed (range .0) (range .1) (λ c. let l = rose c in omega arith) old, kept)
+        go false false e₁ e₂ = (old, kept)
+
+        both : Parts (ltb (number best) (timestampOf proof)) (eqb (number best) (timestampOf proof))
+        both = go (ltb (number best) (timestampOf proof)) (eqb (number best) (timestampOf proof)) refl refl
+
+    read-heard : (card : List ℕ) (h : Heard R id t) → ReadIn id t₀ t now (now .phase) → ClientCase now (h .message) (h .turn) → Next false id card t₀ t
+    read-heard card₀ h x (stamp-counted sender nonce proof best counts e phase new kept left) = absurd (subst (ReadIn id t₀ t now) phase x)
+    read-heard card₀ h x (stamps-enough sender nonce proof best counts next shown last e phase new full succ kept digest of left) = absurd (subst (ReadIn id t₀ t now) phase x)
+    read-heard card₀ h x (stamps-ended sender nonce proof best counts e phase left) = absurd (subst (ReadIn id t₀ t now) phase x)
+    read-heard card₀ h x (prepared-counted sender timestamp counts e phase new same-card left) = absurd (subst (ReadIn id t₀ t now) phase x)
+    read-heard card₀ h x (prepareds-enough sender timestamp counts proof e phase new full same-card of-timestamp of-digest left) = absurd (subst (ReadIn id t₀ t now) phase x)
+    read-heard card₀ h x (written-counted sender timestamp counts e phase new same-card left) = absurd (subst (ReadIn id t₀ t now) phase x)
+    read-heard card₀ h x (writtens-enough sender timestamp counts e phase new full left) = absurd (subst (ReadIn id t₀ t now) phase x)
+    read-heard card₀ h x (card-counted sender nonce card proof best counts showed e phase new stands better left) =
+        let y : Reading id t₀ t now nonce (number best) counts showed = subst (ReadIn id t₀ t now) phase x in
+        let q = take-card h sender nonce card proof best counts showed e (new .0) stands y in
+        goes-to false card₀ (h .turn) counted (Cards nonce (bestOf best proof) (with counts sender) (showedBy best proof sender showed)) (h .step) left (no-done counted refl)
+        (record { new = y .new; seen = q .seen; shown-by = q .shown-by; is-shown = subst (Shown (suc t) (number (bestOf best proof))) (sym better) (q .is-shown) })
+    read-heard card₀ h x (cards-agree sender nonce card proof best counts showed e phase new stands full full′ left) =
+        let y : Reading id t₀ t now nonce (number best) counts showed = subst (ReadIn id t₀ t now) phase x in
+        let q = take-card h sender nonce card proof best counts showed e (new .0) stands y in
+        finishes (bestOf best proof) (betterCard best proof card now) (done-is (h .turn) (done (bestOf best proof) (betterCard best proof card now)) Idle (h .step) left)
+        (record {
+          fits = best-fits best proof (carried-fits (subst PhaseFits phase (good .phase-fits)));
+          own = λ w. apart (cc);
+          settled = record { who = has (showedBy best proof sender showed); enough = quorum (showedBy best proof sender showed) full′; hold = q .shown-by };
+          above = below (number (bestOf best proof)) (with counts sender) (quorum (with counts sender) full) (q .seen);
+          is-shown = q .is-shown;
+        })
+    read-heard card₀ h x (cards-differ sender nonce card proof best counts showed shown e phase new stands full better left) =
+        let y : Reading id t₀ t now nonce (number best) counts showed = subst (ReadIn id t₀ t now) phase x in
+        let q = take-card h sender nonce card proof best counts showed e (new .0) stands y in
+        goes-to false card₀ (h .turn) _ (WriteBack (bestOf best proof) (showedBy best proof sender showed)) (h .step) left (no-done _ refl)
+        (record {
+          above = below (number (bestOf best proof)) (with counts sender) (quorum (with counts sender) full) (q .seen);
+          stored = q .shown-by;
+          is-shown = subst (Shown (suc t) (number (bestOf best proof))) (sym better) (q .is-shown);
+        })
+    read-heard card₀ h x (back-counted sender timestamp counts e phase new same-card left) =
+        let y : WritingBack t₀ t now (number timestamp) counts = subst (ReadIn id t₀ t now) phase x in
+        goes-to false card₀ (h .turn) counted (WriteBack timestamp (with counts sender)) (h .step) left (no-done counted refl)
+        (record {
+          above = y .above;
+          stored = stored-more h sender counts (number timestamp) (new .0) e (y .stored);
+          is-shown = subst (Shown (suc t) (number timestamp)) (sym (same-card .card-kept)) (shown-later t (suc t) (number timestamp) (currentCard now) (omega arith) (y .is-shown));
+        })
+    read-heard card₀ h x (back-enough sender timestamp counts e phase new full left) =
+        let y : WritingBack t₀ t now (number timestamp) counts = subst (ReadIn id t₀ t now) phase x in
+        finishes timestamp (currentCard now) (done-is (h .turn) (done timestamp (currentCard now)) Idle (h .step) left)
+        (record {
+          fits = carried-fits (subst PhaseFits phase (good .phase-fits));
+          own = λ w. apart (cc);
+          settled = record { who = has (with counts sender); enough = quorum (with counts sender) full; hold = stored-more h sender counts (number timestamp) (new .0) e (y .stored) };
+          above = y .above;
+          is-shown = shown-later t (suc t) (number timestamp) (currentCard now) (omega arith) (y .is-shown);
+        })
+
+    pub heard-next : (w : Bool) (card : List ℕ) → (w ≡ true → CardOfRun R card) → (h : Heard R id t) → During w id card t₀ t now (now .phase) → Next w id card t₀ t
+    heard-next true card in-run h x = write-heard card (in-run refl) h x (h .facts .case)
+    heard-next false card in-run h x = read-heard card h x (h .facts .case)

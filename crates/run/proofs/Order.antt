@@ -1,0 +1,263 @@
+-- Finished operations and their order. Assumes nothing.
+use mathlib.Core.Path.{_≡_, refl, sym, ap, subst, _∙_}
+use mathlib.Core.Logic.{_⊎_, inl, inr, ⊎-elim}
+use mathlib.Core.Bool.{Bool, true, false}
+use mathlib.Core.List.{List}
+use mathlib.Core.Option.{Option, some}
+use Prim.Native.Nat.{ℕ, zero, suc, _+_, _%_, _≤_, _<_}
+use native.Mathlib.Omega.{arith}
+use native.Mathlib.Nat.{eq-or-lt-of-le}
+use Rattle.base.specs.Timestamp.{number}
+use Rattle.base.specs.declared.party.ClientId.{ClientId}
+use Rattle.base.specs.declared.timestamp.Timestamp.{Timestamp}
+use Rattle.wire.specs.Sha256.{sha256}
+use Rattle.protocol.specs.Client.{done}
+use Rattle.protocol.specs.Parts.{startCard}
+use Rattle.protocol.specs.declared.client.Client.{Client}
+use Rattle.protocol.specs.declared.client.Phase.the-variants.{Idle}
+use Rattle.run.specs.Claims.{Begins, Finished, FinishedBefore, AtOneTimestamp, Before}
+use Rattle.run.specs.Premises.{Accepted, CardOfRun, cardOf, Premises}
+use Rattle.run.specs.Run.{Event, begins-write, begins-read, to-client, client, Run, partyOf, event, clientAt, At, Correct}
+use Rattle.run.proofs.Turns.{apart, same-client, Silent, ClientTurn, rested, wrote, asked, heard, client-turn}
+use Rattle.run.proofs.Slots.{split-last, order, one-backed}
+use Rattle.run.proofs.Operations.{none-in, Settled, settled-later, Shown, shown-later, During, during-later, not-idle, moved, Above, AtDone, Next, goes-on, finishes, stops, heard-next}
+
+three-ways : {P : Type 0} (a b : ℕ) → (a < b → P) → (a ≡ b → P) → (b < a → P) → P
+three-ways a b x y z = ⊎-elim (λ l. ⊎-elim y x (eq-or-lt-of-le l)) z (order a b)
+
+module _ (R : Run) where
+  -- The card that a write was begun with.
+  abbrev pub begunWith : (w : Bool) (id : ClientId) (e : Option Event) → Begins R w id e → List ℕ
+  begunWith true id e b = b .0
+  begunWith false id e b = startCard
+
+  -- The event of a beginning.
+  begins-at : (w : Bool) (id : ClientId) (t : ℕ) → Begins R w id (event R t) → At R t (client id)
+  begins-at true id t b = (begins-write id (b .0), b .1, refl)
+  begins-at false id t b = (begins-read id, b, refl)
+
+  begun-card : (w : Bool) (id : ClientId) (t : ℕ) (b : Begins R w id (event R t)) → Accepted R t → w ≡ true → CardOfRun R (begunWith w id (event R t) b)
+  begun-card true id t b a w = record { time = t; carried = ap (cardOf R) (b .1); not-refused = a }
+  begun-card false id t b a w = apart (cc)
+
+  module _ (id : ClientId) (c : R .correct-client id ≡ true) where
+    start-write : (t₀ : ℕ) (card : List ℕ) → event R t₀ ≡ some (begins-write id card) → Accepted R t₀
+        → During R true id card t₀ (suc t₀) (clientAt R id (suc t₀)) (clientAt R id (suc t₀) .phase)
+    start-write t₀ card e a = go (client-turn R id c t₀)
+      where
+        go : ClientTurn R id t₀ → During R true id card t₀ (suc t₀) (clientAt R id (suc t₀)) (clientAt R id (suc t₀) .phase)
+        go (rested same silent) = absurd (silent (begins-write id card, e, refl) (a .0) (a .1))
+        go (wrote card′ turn e′ b s) =
+            let is : card′ ≡ card = cc in
+            moved R true id card t₀ t₀ turn _ s (b .phase-is) (record { card-is = b .card-is ∙ is; new = omega arith; seen = λ r k c. none-in r k })
+        go (asked turn e′ b s) = apart (cc)
+        go (heard h) = apart (cc (h .event-is))
+
+    start-read : (t₀ : ℕ) → event R t₀ ≡ some (begins-read id) → Accepted R t₀ → During R false id startCard t₀ (suc t₀) (clientAt R id (suc t₀)) (clientAt R id (suc t₀) .phase)
+    start-read t₀ e a = go (client-turn R id c t₀)
+      where
+        go : ClientTurn R id t₀ → During R false id startCard t₀ (suc t₀) (clientAt R id (suc t₀)) (clientAt R id (suc t₀) .phase)
+        go (rested same silent) = absurd (silent (begins-read id, e, refl) (a .0) (a .1))
+        go (wrote card′ turn e′ b s) = apart (cc)
+        go (asked turn e′ b s) =
+            moved R false id startCard t₀ t₀ turn _ s (b .phase-is)
+            (record { new = omega arith; seen = λ r k c. none-in r k; shown-by = λ r k c. none-in r k; is-shown = inl (refl, b .card-is) })
+        go (heard h) = apart (cc (h .event-is))
+
+    start : (w : Bool) (t₀ : ℕ) (b : Begins R w id (event R t₀)) → Accepted R t₀
+        → During R w id (begunWith w id (event R t₀) b) t₀ (suc t₀) (clientAt R id (suc t₀)) (clientAt R id (suc t₀) .phase)
+    start true t₀ b a = start-write t₀ (b .0) (b .1) a
+    start false t₀ b a = start-read t₀ b a
+
+    -- Event t while the client's operation is under way.
+    data Turned (w : Bool) (card : List ℕ) (t₀ t : ℕ) : Type 0 where
+      waits : During R w id card t₀ (suc t) (clientAt R id (suc t)) (clientAt R id (suc t) .phase) → Silent R (client id) t → Turned w card t₀ t
+      acts : At R t (client id) → Next R w id card t₀ t → Turned w card t₀ t
+
+    turned : Premises R → (w : Bool) (card : List ℕ) → (w ≡ true → CardOfRun R card) → (t₀ t : ℕ) → During R w id card t₀ t (clientAt R id t) (clientAt R id t .phase) → Turned w card t₀ t
+    turned P w card in-run t₀ t x = go (client-turn R id c t)
+      where
+        busy : {A : Type 0} → clientAt R id t .phase ≡ Idle → A
+        busy {A} e = not-idle R w id card t₀ t (clientAt R id t) (subst (During R w id card t₀ t (clientAt R id t)) e x)
+
+        go : ClientTurn R id t → Turned w card t₀ t
+        go (rested same silent) =
+            waits (subst (λ (after : Client). During R w id card t₀ (suc t) after (after .phase)) (sym same) (during-later R w id card t₀ t (clientAt R id t) (clientAt R id t .phase) x)) silent
+        go (wrote card′ turn e b s) = busy (b .was-idle)
+        go (asked turn e b s) = busy (b .was-idle)
+        go (heard h) = acts (to-client id (h .bytes) (h .verdicts), h .event-is, refl) (heard-next R P id c t₀ t w card in-run h x)
+
+    -- A busy client begins nothing.
+    none-begun : (w w′ : Bool) (card : List ℕ) (t₀ t : ℕ) → During R w id card t₀ t (clientAt R id t) (clientAt R id t .phase) → Begins R w′ id (event R t) → Accepted R t → ⊥
+    none-begun w w′ card t₀ t x b a = go (client-turn R id c t)
+      where
+        busy : clientAt R id t .phase ≡ Idle → ⊥
+        busy e = not-idle R w id card t₀ t (clientAt R id t) (subst (During R w id card t₀ t (clientAt R id t)) e x)
+
+        no-message : (w′ : Bool) (bytes verdicts : List ℕ) → event R t ≡ some (to-client id bytes verdicts) → Begins R w′ id (event R t) → ⊥
+        no-message true bytes verdicts e b = apart (cc (b .1))
+        no-message false bytes verdicts e b = apart (cc)
+
+        go : ClientTurn R id t → ⊥
+        go (rested same silent) = silent (begins-at w′ id t b) (a .0) (a .1)
+        go (wrote card′ turn e b′ s) = busy (b′ .was-idle)
+        go (asked turn e b′ s) = busy (b′ .was-idle)
+        go (heard h) = no-message w′ (h .bytes) (h .verdicts) (h .event-is) b
+
+  correct-of : (o : Finished R) → R .correct-client (o .id) ≡ true
+  correct-of o = subst (Correct R) (o .at-client .2) (R .at-correct (o .finished) (o .at-client .0) (o .at-client .1))
+
+  abbrev pub cardBegun : Finished R → List ℕ
+  cardBegun o = begunWith (o .is-write) (o .id) (event R (o .begun)) (o .begins)
+
+  abbrev Under : Finished R → ℕ → Type 0
+  Under o t = During R (o .is-write) (o .id) (cardBegun o) (o .begun) t (clientAt R (o .id) t) (clientAt R (o .id) t .phase)
+
+  module _ (P : Premises R) where
+    turn-of : (o : Finished R) (t : ℕ) → Under o t → Turned (o .id) (correct-of o) (o .is-write) (cardBegun o) (o .begun) t
+    turn-of o t x =
+        turned (o .id) (correct-of o) P (o .is-write) (cardBegun o) (begun-card (o .is-write) (o .id) (o .begun) (o .begins) (o .not-refused)) (o .begun) t x
+
+    during : (o : Finished R) (t : ℕ) → o .begun < t → t ≤ o .finished → Under o t
+    during o zero l l′ = absurd (omega arith)
+    during o (suc t) l l′ =
+        split-last (o .begun) t l
+        (λ e. subst (λ (u : ℕ). Under o (suc u)) e (start (o .id) (correct-of o) (o .is-write) (o .begun) (o .begins) (o .not-refused)))
+        (λ k. go k (turn-of o t (during o t k (omega arith))))
+      where
+        go : o .begun < t → Turned (o .id) (correct-of o) (o .is-write) (cardBegun o) (o .begun) t → Under o (suc t)
+        go k (waits x silent) = x
+        go k (acts at (goes-on x not-done)) = x
+        go k (acts at (finishes timestamp card e x)) = absurd (o .none-between t k l′ at .not-done timestamp card e)
+        go k (acts at (stops e)) = absurd (o .none-between t k l′ at .not-ended e)
+
+    -- What holds of an operation when it finishes.
+    pub finish : (o : Finished R) → AtDone R (o .is-write) (o .id) (cardBegun o) (o .begun) (suc (o .finished)) (o .timestamp) (o .card)
+    finish o = go (turn-of o (o .finished) (during o (o .finished) (o .after) (omega arith)))
+      where
+        go : Turned (o .id) (correct-of o) (o .is-write) (cardBegun o) (o .begun) (o .finished)
+            → AtDone R (o .is-write) (o .id) (cardBegun o) (o .begun) (suc (o .finished)) (o .timestamp) (o .card)
+        go (waits x silent) = absurd (silent (o .at-client) (done (o .timestamp) (o .card)) (o .is-done))
+        go (acts at (goes-on x not-done)) = absurd (not-done (o .timestamp) (o .card) (o .is-done))
+        go (acts at (finishes timestamp card e x)) =
+            let same-timestamp : timestamp ≡ o .timestamp = cc (o .is-done) in
+            let same-card : card ≡ o .card = cc (o .is-done) in
+            subst (λ (c : List ℕ). AtDone R (o .is-write) (o .id) (cardBegun o) (o .begun) (suc (o .finished)) (o .timestamp) c) same-card
+            (subst (λ (s : Timestamp). AtDone R (o .is-write) (o .id) (cardBegun o) (o .begun) (suc (o .finished)) s card) same-timestamp x)
+        go (acts at (stops e)) = apart (cc (o .is-done))
+
+    -- ---- Timestamps rise
+
+    above-all : (w : Bool) (t₀ s : ℕ) → Above R w t₀ s → (s′ : ℕ) → Settled R t₀ s′ → s′ ≤ s
+    above-all true t₀ s a s′ z = let l = a s′ z in omega arith
+    above-all false t₀ s a s′ z = a s′ z
+
+    above-write : (w : Bool) (t₀ s : ℕ) → w ≡ true → Above R w t₀ s → (s′ : ℕ) → Settled R t₀ s′ → s′ < s
+    above-write true t₀ s w a = a
+    above-write false t₀ s w a = apart (cc)
+
+    settled-before : (o o′ : Finished R) → FinishedBefore R o o′ → Settled R (o′ .begun) (number (o .timestamp))
+    settled-before o o′ l = settled-later R (suc (o .finished)) (o′ .begun) (number (o .timestamp)) l (finish o .settled)
+
+    rises : (o o′ : Finished R) → FinishedBefore R o o′ → number (o .timestamp) ≤ number (o′ .timestamp)
+    rises o o′ l = above-all (o′ .is-write) (o′ .begun) (number (o′ .timestamp)) (finish o′ .above) (number (o .timestamp)) (settled-before o o′ l)
+
+    pub later-write : (o o′ : Finished R) → o′ .is-write ≡ true → FinishedBefore R o o′ → number (o .timestamp) < number (o′ .timestamp)
+    later-write o o′ w l = above-write (o′ .is-write) (o′ .begun) (number (o′ .timestamp)) w (finish o′ .above) (number (o .timestamp)) (settled-before o o′ l)
+
+    pub in-order : (o o′ : Finished R) → FinishedBefore R o o′ → Before R o′ o → ⊥
+    in-order o o′ l (inl k) = let r = rises o o′ l in omega arith
+    in-order o o′ l (inr k) = go (o′ .is-write) (o .is-write) refl (k .1)
+      where
+        go : (w′ w : Bool) → o′ .is-write ≡ w′ → AtOneTimestamp R w′ w (o′ .finished) (o .finished) → ⊥
+        go true true e x = x
+        go true false e x = let r = later-write o o′ e l in let same = k .0 in omega arith
+        go false true e x = x
+        go false false e x = let a = o′ .after in omega arith
+
+    -- ---- One card for a timestamp
+
+    same-shown : (t s : ℕ) (card card′ : List ℕ) → Shown R t s card → Shown R t s card′ → card ≡ card′
+    same-shown t s card card′ (inl a) (inl b) = a .1 ∙ sym (b .1)
+    same-shown t s card card′ (inl a) (inr b) = let z = a .0 in let p = b .positive in absurd (omega arith)
+    same-shown t s card card′ (inr a) (inl b) = let z = b .0 in let p = a .positive in absurd (omega arith)
+    same-shown t s card card′ (inr a) (inr b) = P .different-digests card card′ (a .card-in) (b .card-in) (one-backed R P t s (sha256 card) (sha256 card′) (a .backed) (b .backed))
+
+    pub one-card : (o o′ : Finished R) → number (o .timestamp) ≡ number (o′ .timestamp) → o .card ≡ o′ .card
+    one-card o o′ e =
+        let t = suc (o .finished) + suc (o′ .finished) in
+        same-shown t (number (o .timestamp)) (o .card) (o′ .card)
+        (shown-later R (suc (o .finished)) t (number (o .timestamp)) (o .card) (omega arith) (finish o .is-shown))
+        (subst (λ (s : ℕ). Shown R t s (o′ .card)) (sym e) (shown-later R (suc (o′ .finished)) t (number (o′ .timestamp)) (o′ .card) (omega arith) (finish o′ .is-shown)))
+
+    -- ---- The order is total
+
+    -- Of two operations of one client one finishes before the other begins.
+    one-after : (o o′ : Finished R) → o .id ≡ o′ .id → o .begun < o′ .begun → o .finished < o′ .begun
+    one-after o o′ e l =
+        ⊎-elim
+        (λ k. absurd (none-begun (o .id) (correct-of o) (o .is-write) (o′ .is-write) (cardBegun o) (o .begun) (o′ .begun) (during o (o′ .begun) l k)
+        (subst (λ (i : ClientId). Begins R (o′ .is-write) i (event R (o′ .begun))) (sym e) (o′ .begins)) (o′ .not-refused)))
+        (λ k. k) (order (o′ .begun) (o .finished))
+
+    one-write : (o o′ : Finished R) → o .is-write ≡ true → o′ .is-write ≡ true → number (o .timestamp) ≡ number (o′ .timestamp) → o .begun ≡ o′ .begun
+    one-write o o′ w w′ e =
+        let own = finish o .own w .0 in
+        let own′ = finish o′ .own w′ .0 in
+        let same : o .id ≡ o′ .id = same-client (o .id) (o′ .id) (sym own ∙ ap (λ (s : ℕ). s % 256) e ∙ own′) in
+        three-ways (o .begun) (o′ .begun)
+        (λ l. let r = later-write o o′ w′ (one-after o o′ same l) in absurd (omega arith)) (λ k. k)
+        (λ l. let r = later-write o′ o w (one-after o′ o (sym same) l) in absurd (omega arith))
+
+    same-end : (o o′ : Finished R) → o .finished ≡ o′ .finished → o .begun ≡ o′ .begun
+    same-end o o′ e =
+        let at = o .at-client in
+        let at′ = o′ .at-client in
+        let here : event R (o .finished) ≡ some (at′ .0) = ap (event R) e ∙ at′ .1 in
+        let one-event : at .0 ≡ at′ .0 = cc in
+        let party : client (o .id) ≡ client (o′ .id) = sym (at .2) ∙ ap partyOf one-event ∙ at′ .2 in
+        let same : o .id ≡ o′ .id = cc in
+        let after = o .after in
+        let after′ = o′ .after in
+        three-ways (o .begun) (o′ .begun)
+        (λ l. let r = one-after o o′ same l in absurd (omega arith)) (λ k. k)
+        (λ l. let r = one-after o′ o (sym same) l in absurd (omega arith))
+
+    abbrev Laid : Finished R → Finished R → Type 0
+    Laid o o′ = (o .begun ≡ o′ .begun) ⊎ (Before R o o′ ⊎ Before R o′ o)
+
+    pub total : (o o′ : Finished R) → Laid o o′
+    total o o′ =
+        three-ways {P = Laid o o′} (number (o .timestamp)) (number (o′ .timestamp)) (λ l. inr (inl (inl l)))
+        (λ e. go e (o .is-write) (o′ .is-write) refl refl) (λ l. inr (inr (inl l)))
+      where
+        go : number (o .timestamp) ≡ number (o′ .timestamp) → (w w′ : Bool) → o .is-write ≡ w → o′ .is-write ≡ w′ → Laid o o′
+        go e true true q q′ = inl (one-write o o′ q q′ e)
+        go e true false q q′ = inr (inl (inr (e, rw (q, q′) tt)))
+        go e false true q q′ = inr (inr (inr (sym e, rw (q, q′) tt)))
+        go e false false q q′ =
+            three-ways {P = Laid o o′} (o .finished) (o′ .finished) (λ l. inr (inl (inr (e, rw (q, q′) l)))) (λ k. inl (same-end o o′ k)) (λ l. inr (inr (inr (sym e, rw (q, q′) l))))
+
+  -- ---- What needs no premise
+
+  pub irreflexive : (o : Finished R) → Before R o o → ⊥
+  irreflexive o (inl l) = omega arith
+  irreflexive o (inr k) = go (o .is-write) (k .1)
+    where
+      go : (w : Bool) → AtOneTimestamp R w w (o .finished) (o .finished) → ⊥
+      go true x = x
+      go false x = omega arith
+
+  chain : (w w′ w″ : Bool) (a b c : ℕ) → AtOneTimestamp R w w′ a b → AtOneTimestamp R w′ w″ b c → AtOneTimestamp R w w″ a c
+  chain true true w″ a b c x y = absurd x
+  chain true false true a b c x y = absurd y
+  chain true false false a b c x y = tt
+  chain false true w″ a b c x y = absurd x
+  chain false false true a b c x y = absurd y
+  chain false false false a b c x y = omega arith
+
+  pub transitive : (o o′ o″ : Finished R) → Before R o o′ → Before R o′ o″ → Before R o o″
+  transitive o o′ o″ (inl a) (inl b) = inl (omega arith)
+  transitive o o′ o″ (inl a) (inr b) = let e = b .0 in inl (omega arith)
+  transitive o o′ o″ (inr a) (inl b) = let e = a .0 in inl (omega arith)
+  transitive o o′ o″ (inr a) (inr b) = inr (a .0 ∙ b .0, chain (o .is-write) (o′ .is-write) (o″ .is-write) (o .finished) (o′ .finished) (o″ .finished) (a .1) (b .1))

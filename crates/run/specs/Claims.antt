@@ -1,0 +1,86 @@
+-- The claims of demand 3: genuine prepared proofs, finished operations, and their order.
+use mathlib.Core.Path.{_≡_}
+use mathlib.Core.Logic.{_⊎_}
+use mathlib.Core.Bool.{Bool, true, false}
+use mathlib.Core.List.{List}
+use mathlib.Core.Option.{Option, some}
+use Prim.Native.Nat.{ℕ, _<_}
+use lib.ListN.{length}
+use Rattle.base.specs.BigEndian.{Bytes}
+use Rattle.base.specs.Outcome.{accepted}
+use Rattle.base.specs.Timestamp.{number}
+use Rattle.base.specs.declared.party.ClientId.{ClientId}
+use Rattle.base.specs.declared.timestamp.Timestamp.{Timestamp}
+use Rattle.protocol.specs.Client.{done, ended}
+use Rattle.wire.specs.Checks.{proofOutcome}
+use Rattle.wire.specs.Proof.{PreparedProof, readPrepared}
+use Rattle.run.specs.Premises.{preparedSignatures, TrueVerdicts, Accepted}
+use Rattle.run.specs.Run.{Event, begins-write, begins-read, Party, client, Run, event, answerAt, At}
+
+module _ (R : Run) where
+  -- "A prepared proof, of any bytes and from anyone, is judged genuine with marks that are true at the end of the list."
+  -- "A proof is genuine when its marks are true and it passes 9 to 11."
+  pub record Genuine (proof : PreparedProof) : Type 0 where
+    pub bytes : List ℕ
+    pub verdicts : List ℕ
+    pub are-bytes : Bytes bytes
+    pub reads : readPrepared bytes ≡ accepted proof
+    pub one-each : length verdicts ≡ length (proof .entries)
+    pub passes : proofOutcome (R .f) (proof .entries) verdicts (proof .timestamp) ≡ accepted tt
+    pub true-verdicts : TrueVerdicts R (length (R .events)) (preparedSignatures proof) verdicts
+
+  -- "A read or write begins with the event that begins it, unless refused." True for a write.
+  abbrev pub Begins : Bool → ClientId → Option Event → Type 0
+  Begins true id e = (card : List ℕ) × (e ≡ some (begins-write id card))
+  Begins false id e = e ≡ some (begins-read id)
+
+  -- Neither done nor ended.
+  pub record GoesOn (t : ℕ) : Type 0 where
+    pub not-done : (timestamp : Timestamp) (card : List ℕ) → answerAt R t ≡ accepted (done timestamp card) → ⊥
+    pub not-ended : answerAt R t ≡ accepted ended → ⊥
+
+  -- "It is finished by its desk's first done after that, if no ended comes between; its stamp and card are those of that done."
+  pub record Finished : Type 0 where
+    pub id : ClientId
+    pub is-write : Bool
+    pub begun : ℕ
+    pub finished : ℕ
+    pub timestamp : Timestamp
+    pub card : List ℕ
+    pub begins : Begins is-write id (event R begun)
+    pub not-refused : Accepted R begun
+    pub after : begun < finished
+    pub at-client : At R finished (client id)
+    pub is-done : answerAt R finished ≡ accepted (done timestamp card)
+    pub none-between : (t : ℕ) → begun < t → t < finished → At R t (client id) → GoesOn t
+
+  -- "One finished before another began if the first's done stands earlier in the list than the other's beginning."
+  abbrev pub FinishedBefore : Finished → Finished → Type 0
+  FinishedBefore o o′ = o .finished < o′ .begun
+
+  -- At one timestamp: "the write before the reads, and of two reads the one finished earlier"
+  abbrev pub AtOneTimestamp : Bool → Bool → ℕ → ℕ → Type 0
+  AtOneTimestamp true true at at′ = ⊥
+  AtOneTimestamp true false at at′ = Unit {0}
+  AtOneTimestamp false true at at′ = ⊥
+  AtOneTimestamp false false at at′ = at < at′
+
+  -- "The smaller stamp lies first"
+  abbrev pub Before : Finished → Finished → Type 0
+  Before o o′ =
+      (number (o .timestamp) < number (o′ .timestamp))
+      ⊎ ((number (o .timestamp) ≡ number (o′ .timestamp)) × AtOneTimestamp (o .is-write) (o′ .is-write) (o .finished) (o′ .finished))
+
+  pub record Claims : Type 0 where
+    -- "no two genuine prepared proofs, whoever gathered them, carry one stamp and two digests"
+    pub one-digest : (proof proof′ : PreparedProof) → Genuine proof → Genuine proof′ → proof .timestamp ≡ proof′ .timestamp → proof .digest ≡ proof′ .digest
+    -- "laid in order of stamp, a write ahead of reads and reads as they finished": an order of all finished operations
+    pub irreflexive : (o : Finished) → Before o o → ⊥
+    pub transitive : (o o′ o″ : Finished) → Before o o′ → Before o′ o″ → Before o o″
+    pub total : (o o′ : Finished) → (o .begun ≡ o′ .begun) ⊎ (Before o o′ ⊎ Before o′ o)
+    -- "show one card per stamp"
+    pub one-card : (o o′ : Finished) → number (o .timestamp) ≡ number (o′ .timestamp) → o .card ≡ o′ .card
+    -- "none that finished before another began lies after it"
+    pub in-order : (o o′ : Finished) → FinishedBefore o o′ → Before o′ o → ⊥
+    -- "a write begun after another finished has a later stamp"
+    pub later-write : (o o′ : Finished) → o′ .is-write ≡ true → FinishedBefore o o′ → number (o .timestamp) < number (o′ .timestamp)

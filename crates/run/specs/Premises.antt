@@ -1,0 +1,111 @@
+-- The premises of demand 3: few faulty replicas, true verdicts (marks), no two cards with one digest.
+use mathlib.Core.Path.{_≡_}
+use mathlib.Core.Bool.{not}
+use mathlib.Core.List.{List, [], _∷_, _++_, map}
+use mathlib.Core.Option.{Option, none, some}
+use Prim.Native.Nat.{ℕ, _-_, _≤_}
+use lib.ListN.{length, take}
+use Rattle.base.specs.Counting.{count}
+use Rattle.base.specs.Outcome.{Outcome, accepted, refused}
+use Rattle.base.specs.Party.{replicaCount}
+use Rattle.base.specs.declared.party.ReplicaId.{ReplicaId}
+use Rattle.protocol.specs.Client.{Answer}
+use Rattle.wire.specs.Checks.{preparedOf, writtenOf}
+use Rattle.wire.specs.Decode.{decode}
+use Rattle.wire.specs.Message.{Message, READ-STAMP, PREPARE, WRITE, READ, STAMP, PREPARED, WRITTEN, CARD, body}
+use Rattle.wire.specs.Proof.{Entry, PreparedProof, WrittenProof}
+use Rattle.wire.specs.Sha256.{sha256}
+use Rattle.wire.specs.declared.message.Party.the-variants.{Replica as AtReplica, Client as AtClient}
+use Rattle.run.specs.Run.{Event, begins-write, begins-read, to-replica, to-client, Party, replica, client, Run, event, answerAt, Correct, Sent}
+
+-- A signature (seal) that came: whose it is, and the bytes that it covers.
+pub record Signature : Type 0 where
+  pub signer : Party
+  pub covers : List ℕ
+
+abbrev pub senderOf : Message → Party
+senderOf (READ-STAMP id nonce) = client id
+senderOf (PREPARE id timestamp digest proof last) = client id
+senderOf (WRITE id card proof) = client id
+senderOf (READ id nonce) = client id
+senderOf (STAMP id nonce proof addressed) = replica id
+senderOf (PREPARED id timestamp digest) = replica id
+senderOf (WRITTEN id timestamp) = replica id
+senderOf (CARD id nonce card proof addressed) = replica id
+
+-- "An entry's seal is that of the holder's PREPARED (or WRITTEN) message with this stamp (and digest)."
+abbrev pub signedBy : (ReplicaId → Message) → List Entry → List Signature
+signedBy message [] = []
+signedBy message (entry ∷ entries) = record { signer = replica (entry .signer); covers = body (message (entry .signer)) } ∷ signedBy message entries
+
+abbrev pub preparedSignatures : PreparedProof → List Signature
+preparedSignatures proof = signedBy (λ id. PREPARED id (proof .timestamp) (proof .digest)) (proof .entries)
+
+abbrev pub writtenSignatures : WrittenProof → List Signature
+writtenSignatures proof = signedBy (λ id. WRITTEN id (proof .timestamp)) (proof .entries)
+
+abbrev pub ifThere : {A : Type 0} → (A → List Signature) → Option A → List Signature
+ifThere signatures none = []
+ifThere signatures (some proof) = signatures proof
+
+-- The signatures of a message: "the message's own first, then entries in order". Its own covers "all bytes before it".
+abbrev pub signaturesOf : List ℕ → Message → List Signature
+signaturesOf bytes message =
+    record { signer = senderOf message; covers = take (length bytes - 64) bytes }
+    ∷ (ifThere preparedSignatures (preparedOf message) ++ ifThere writtenSignatures (writtenOf message))
+
+module _ (R : Run) where
+  -- "A mark is true when a seal of a rule-follower is marked 1 only if that party sent that message earlier."
+  unfoldable pub TrueVerdicts : ℕ → List Signature → List ℕ → Type 0
+  TrueVerdicts t [] verdicts = Unit {0}
+  TrueVerdicts t (signature ∷ signatures) [] = Unit {0}
+  TrueVerdicts t (signature ∷ signatures) (verdict ∷ verdicts) =
+      (verdict ≡ 1 → Correct R (signature .signer) → Sent R (signature .signer) (signature .covers) t) × TrueVerdicts t signatures verdicts
+
+  -- Asked only of bytes that are a message for their party (2 to 5 passed).
+  abbrev pub TrueFor : ℕ → List ℕ → List ℕ → Outcome Message → Type 0
+  TrueFor t bytes verdicts (accepted message) = TrueVerdicts t (signaturesOf bytes message) verdicts
+  TrueFor t bytes verdicts (refused number) = Unit {0}
+
+  unfoldable pub TrueAt : ℕ → Option Event → Type 0
+  TrueAt t none = Unit {0}
+  TrueAt t (some (begins-write id card)) = Unit {0}
+  TrueAt t (some (begins-read id)) = Unit {0}
+  TrueAt t (some (to-replica id bytes verdicts)) = TrueFor t bytes verdicts (decode AtReplica bytes)
+  TrueAt t (some (to-client id bytes verdicts)) = TrueFor t bytes verdicts (decode AtClient bytes)
+
+  -- "The cards of a run are those that a write was begun with or that a message carried, in events not refused"
+  abbrev pub carriedBy : Outcome Message → Option (List ℕ)
+  carriedBy (accepted (WRITE id card proof)) = some card
+  carriedBy (accepted (CARD id nonce card proof addressed)) = some card
+  carriedBy (accepted (READ-STAMP id nonce)) = none
+  carriedBy (accepted (PREPARE id timestamp digest proof last)) = none
+  carriedBy (accepted (READ id nonce)) = none
+  carriedBy (accepted (STAMP id nonce proof addressed)) = none
+  carriedBy (accepted (PREPARED id timestamp digest)) = none
+  carriedBy (accepted (WRITTEN id timestamp)) = none
+  carriedBy (refused number) = none
+
+  abbrev pub cardOf : Option Event → Option (List ℕ)
+  cardOf none = none
+  cardOf (some (begins-write id card)) = some card
+  cardOf (some (begins-read id)) = none
+  cardOf (some (to-replica id bytes verdicts)) = carriedBy (decode AtReplica bytes)
+  cardOf (some (to-client id bytes verdicts)) = carriedBy (decode AtClient bytes)
+
+  -- Event t is not refused.
+  abbrev pub Accepted : ℕ → Type 0
+  Accepted t = (answer : Answer) × (answerAt R t ≡ accepted answer)
+
+  pub record CardOfRun (card : List ℕ) : Type 0 where
+    pub time : ℕ
+    pub carried : cardOf (event R time) ≡ some card
+    pub not-refused : Accepted time
+
+  pub record Premises : Type 0 where
+    -- "at most f holders break the rules"
+    pub few-faulty : count (replicaCount (R .f)) (λ id. not (R .correct-replica id)) ≤ R .f
+    -- "seal marks are true": "All marks handed over are true at their event."
+    pub true-verdicts : (t : ℕ) → TrueAt t (event R t)
+    -- "no two cards in the run share a digest"
+    pub different-digests : (card card′ : List ℕ) → CardOfRun card → CardOfRun card′ → sha256 card ≡ sha256 card′ → card ≡ card′

@@ -1,0 +1,134 @@
+-- Document 01, "Runs": events at correct parties (rule-followers), their records, and what was sent earlier.
+use mathlib.Core.Path.{_≡_}
+use mathlib.Core.Bool.{Bool, true, cond}
+use mathlib.Core.List.{List, [], _∷_}
+use mathlib.Core.Option.{Option, none, some}
+use Prim.Native.Nat.{ℕ, zero, suc, _<_, _≤_, _^_}
+use lib.Dec.{eqb}
+use lib.ListN.{length, getElem?}
+use Rattle.base.specs.BigEndian.{Bytes}
+use Rattle.base.specs.Outcome.{Outcome, accepted, refused}
+use Rattle.base.specs.Party.{isFaultBound, isReplica, isClient}
+use Rattle.base.specs.declared.party.ClientId.{ClientId}
+use Rattle.base.specs.declared.party.ReplicaId.{ReplicaId}
+use Rattle.protocol.specs.Client.{Answer, send, Turn, freshClient, beginWrite, beginRead, clientStep}
+use Rattle.protocol.specs.Replica.{Reply, freshReplica, replicaStep}
+use Rattle.protocol.specs.declared.client.Client.{Client}
+use Rattle.protocol.specs.declared.replica.Replica.{Replica}
+use Rattle.wire.specs.Message.{Message, body}
+
+-- "a desk begins a write of some card or begins a read; a holder or a desk is handed a message, of any bytes and length,
+-- with marks of any number and value"
+pub data Event : Type 0 where
+  begins-write : ClientId → List ℕ → Event
+  begins-read : ClientId → Event
+  to-replica : ReplicaId → List ℕ → List ℕ → Event
+  to-client : ClientId → List ℕ → List ℕ → Event
+
+pub data Party : Type 0 where
+  replica : ReplicaId → Party
+  client : ClientId → Party
+
+abbrev pub partyOf : Event → Party
+partyOf (begins-write id card) = client id
+partyOf (begins-read id) = client id
+partyOf (to-replica id bytes verdicts) = replica id
+partyOf (to-client id bytes verdicts) = client id
+
+-- Bytes are below 256.
+abbrev pub HasBytes : Event → Type 0
+HasBytes (begins-write id card) = Bytes card
+HasBytes (begins-read id) = Unit {0}
+HasBytes (to-replica id bytes verdicts) = Bytes bytes
+HasBytes (to-client id bytes verdicts) = Bytes bytes
+
+abbrev pub CorrectIn : (ReplicaId → Bool) → (ClientId → Bool) → Party → Type 0
+CorrectIn correct-replica correct-client (replica id) = correct-replica id ≡ true
+CorrectIn correct-replica correct-client (client id) = correct-client id ≡ true
+
+-- A run: the fault bound, who is correct, the correct clients' first nonces, and the events. "Each is set up once, before
+-- the first event, with the run's f and its own number, a desk with any first nonce but 0."
+pub record Run : Type 0 where
+  pub f : ℕ
+  pub correct-replica : ReplicaId → Bool
+  pub correct-client : ClientId → Bool
+  pub first-nonce : ClientId → ℕ
+  pub events : List Event
+  pub f-in-range : isFaultBound f ≡ true
+  pub replicas-in-range : (id : ReplicaId) → correct-replica id ≡ true → isReplica f id ≡ true
+  pub clients-in-range : (id : ClientId) → correct-client id ≡ true → (isClient id ≡ true) × (1 ≤ first-nonce id) × (first-nonce id < 2 ^ 64)
+  pub have-bytes : (t : ℕ) (e : Event) → getElem? events t ≡ some e → HasBytes e
+  pub at-correct : (t : ℕ) (e : Event) → getElem? events t ≡ some e → CorrectIn correct-replica correct-client (partyOf e)
+
+-- What an event does to a record: "a refusal leaves it as it was".
+abbrev pub nextReplica : Replica → Outcome Reply → Replica
+nextReplica before (accepted reply) = reply .next
+nextReplica before (refused number) = before
+
+abbrev pub nextClient : Client → Outcome Turn → Client
+nextClient before (accepted turn) = turn .next
+nextClient before (refused number) = before
+
+-- "Its party gets the record that its own last event left"; another party's event leaves it.
+abbrev pub afterAtReplica : ReplicaId → Option Event → Replica → Replica
+afterAtReplica id none before = before
+afterAtReplica id (some (begins-write at card)) before = before
+afterAtReplica id (some (begins-read at)) before = before
+afterAtReplica id (some (to-replica at bytes verdicts)) before = cond (eqb (at .0) (id .0)) (nextReplica before (replicaStep before bytes verdicts)) before
+afterAtReplica id (some (to-client at bytes verdicts)) before = before
+
+abbrev pub afterAtClient : ClientId → Option Event → Client → Client
+afterAtClient id none before = before
+afterAtClient id (some (begins-write at card)) before = cond (eqb (at .0) (id .0)) (nextClient before (beginWrite before card)) before
+afterAtClient id (some (begins-read at)) before = cond (eqb (at .0) (id .0)) (nextClient before (beginRead before)) before
+afterAtClient id (some (to-replica at bytes verdicts)) before = before
+afterAtClient id (some (to-client at bytes verdicts)) before = cond (eqb (at .0) (id .0)) (nextClient before (clientStep before bytes verdicts)) before
+
+-- The answer of a step alone; a replica's answer is a message to send.
+abbrev pub replicaAnswer : Outcome Reply → Outcome Answer
+replicaAnswer (accepted reply) = accepted (send (reply .message))
+replicaAnswer (refused number) = refused number
+
+abbrev pub clientAnswer : Outcome Turn → Outcome Answer
+clientAnswer (accepted turn) = accepted (turn .answer)
+clientAnswer (refused number) = refused number
+
+module _ (R : Run) where
+  -- Event t, counted from 0.
+  abbrev pub event : ℕ → Option Event
+  event t = getElem? (R .events) t
+
+  -- The records before event t, "at first the fresh one".
+  unfoldable pub replicaAt : ReplicaId → ℕ → Replica
+  replicaAt id zero = freshReplica (R .f) id
+  replicaAt id (suc t) = afterAtReplica id (event t) (replicaAt id t)
+
+  unfoldable pub clientAt : ClientId → ℕ → Client
+  clientAt id zero = freshClient (R .f) id (R .first-nonce id)
+  clientAt id (suc t) = afterAtClient id (event t) (clientAt id t)
+
+  -- The answer to an event at time t; where there is none, a refusal without a number of document 01's.
+  unfoldable pub answerTo : ℕ → Option Event → Outcome Answer
+  answerTo t none = refused 0
+  answerTo t (some (begins-write id card)) = clientAnswer (beginWrite (clientAt id t) card)
+  answerTo t (some (begins-read id)) = clientAnswer (beginRead (clientAt id t))
+  answerTo t (some (to-replica id bytes verdicts)) = replicaAnswer (replicaStep (replicaAt id t) bytes verdicts)
+  answerTo t (some (to-client id bytes verdicts)) = clientAnswer (clientStep (clientAt id t) bytes verdicts)
+
+  abbrev pub answerAt : ℕ → Outcome Answer
+  answerAt t = answerTo t (event t)
+
+  abbrev pub At : ℕ → Party → Type 0
+  At t party = (e : Event) × (event t ≡ some e) × (partyOf e ≡ party)
+
+  abbrev pub Correct : Party → Type 0
+  Correct party = CorrectIn (R .correct-replica) (R .correct-client) party
+
+  -- "A party sent a message earlier if one of its earlier events was answered with it, all bytes before the seal being equal."
+  pub record Sent (party : Party) (bytes : List ℕ) (t : ℕ) : Type 0 where
+    pub time : ℕ
+    pub earlier : time < t
+    pub by : At time party
+    pub message : Message
+    pub answered : answerAt time ≡ accepted (send message)
+    pub same-bytes : body message ≡ bytes
