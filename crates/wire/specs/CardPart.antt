@@ -1,15 +1,16 @@
 -- Document 01, "Messages": the card that a message carries, and of two messages the later one's.
-use mathlib.Core.Bool.{cond}
+use mathlib.Core.Path.{_≡_}
+use mathlib.Core.Bool.{Bool, false, cond}
 use mathlib.Core.List.{List, []}
 use mathlib.Core.Option.{Option, none, some}
-use Prim.Native.Nat.{ℕ}
+use Prim.Native.Nat.{ℕ, _+_}
 use lib.Dec.{ltb}
 use lib.ListN.{take}
 use Rattle.base.specs.BigEndian.{fromBytes}
 use Rattle.base.specs.BitMap.{bit}
 use Rattle.base.specs.Outcome.{Outcome, accepted, refused}
 use Rattle.wire.specs.Decode.{framed, cardIn}
-use Rattle.wire.specs.Layout.{mapIn, field}
+use Rattle.wire.specs.Layout.{mapIn, place, field}
 
 -- A card with its prepared proof's timestamp.
 pub record Carried : Type 0 where
@@ -44,3 +45,32 @@ later (some first) (some second) = cond (ltb (first .timestamp) (second .timesta
 
 unfoldable pub laterCard : List ℕ → List ℕ → List ℕ
 laterCard first second = later (carried first) (carried second)
+
+-- "the very bytes of the message": a part starts so many bytes behind the start of the slice it is lent from. A pointer is a block and an offset.
+pub record PartAt (whole : ℕ × ℕ) (start : ℕ) (part : ℕ × ℕ) : Type 0 where
+  pub block : part .0 ≡ whole .0
+  pub offset : part .1 ≡ whole .1 + start
+
+-- Where the card part starts in its message: behind the length byte; at 0 where it is empty for want of a card.
+abbrev pub startOf : Option Carried → ℕ → ℕ
+startOf none start = 0
+startOf (some found) start = start
+
+unfoldable pub cardStart : List ℕ → ℕ
+cardStart bytes = startOf (carried bytes) (place bytes 5 + 1)
+
+-- Whether the later card is the second message's, by the test of `later`, and where it starts in its message; an empty part is the first's front.
+abbrev pub isSecond : Option Carried → Option Carried → Bool
+isSecond none second = false
+isSecond (some first) none = false
+isSecond (some first) (some second) = ltb (first .timestamp) (second .timestamp)
+
+unfoldable pub secondLater : List ℕ → List ℕ → Bool
+secondLater first second = isSecond (carried first) (carried second)
+
+abbrev pub startOfBoth : Option Carried → Option Carried → ℕ → ℕ
+startOfBoth none second start = 0
+startOfBoth (some first) second start = startOf second start
+
+unfoldable pub laterStart : List ℕ → List ℕ → ℕ
+laterStart first second = startOfBoth (carried first) (carried second) (cond (secondLater first second) (cardStart second) (cardStart first))

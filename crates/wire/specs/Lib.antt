@@ -2,7 +2,12 @@ pub mod Card
 pub mod CardPart
 pub mod Checks
 pub mod Decode
+pub mod Found
+pub mod Judging
+pub mod Kinds
 pub mod Layout
 pub mod Message
+pub mod Places
 pub mod Proof
 pub mod Sha256
+pub mod Writing

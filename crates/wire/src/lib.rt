@@ -1,4 +1,10 @@
 // SHA-256, cards, and the message reader and writer: the lower crate on whose contracts replica and client rest.
 pub mod card;
+pub mod card_part;
+pub mod checks;
+mod frame;
 pub mod message;
+mod numbers;
+pub mod reader;
 pub mod sha256;
+pub mod writer;

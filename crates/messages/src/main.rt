@@ -1,0 +1,190 @@
+// Reads messages in hex, one a line, behind `h ` where a replica is handed it and `d ` where a client is, and prints what the reader finds.
+use base::timestamp::Timestamp;
+use libc::STDIN_FILENO;
+use libc::STDOUT_FILENO;
+use wire::message::Fields;
+use wire::message::Party;
+use wire::message::Reading;
+ghost use Prim.Native.Nat.{_<_};
+
+const NONCE: u16 = 0x004;
+
+const TIMESTAMP: u16 = 0x008;
+
+const DIGEST: u16 = 0x010;
+
+const CARD: u16 = 0x020;
+
+const PREPARED: u16 = 0x040;
+
+const WRITTEN: u16 = 0x080;
+
+const ADDRESSED: u16 = 0x100;
+
+fn has(map: u16, mask: u16) -> bool {
+    map & mask != 0
+}
+
+fn digit(n: u8) -> u8
+    requires { ⌜ n < 16 ⌝ }
+{
+    if n < 10 { 48 + n } else { 55 + n }
+}
+
+fn print_pair(byte: u8) {
+    let pair = [digit(byte / 16), digit(byte % 16)];
+    text::print(&pair);
+}
+
+fn print_hex(part: &[u8]) {
+    let mut i = 0;
+    while i < part.len() {
+        print_pair(part[i]);
+        i += 1;
+    }
+}
+
+fn print_byte(byte: u8) {
+    text::print_number(byte as u32);
+}
+
+fn print_timestamp(timestamp: Timestamp) {
+    text::print_number(timestamp.count);
+    text::print(b".");
+    print_byte(timestamp.client.0);
+}
+
+fn print_kind(kind: u8) {
+    match kind {
+        1 => text::print(b"READ-STAMP"),
+        2 => text::print(b"PREPARE"),
+        3 => text::print(b"WRITE"),
+        4 => text::print(b"READ"),
+        5 => text::print(b"STAMP"),
+        6 => text::print(b"PREPARED"),
+        7 => text::print(b"WRITTEN"),
+        _ => text::print(b"CARD"),
+    }
+}
+
+// The bytes from a place on.
+fn tail(bytes: &[u8], at: usize) -> &[u8] {
+    if at <= bytes.len() {
+        return &bytes[at..];
+    }
+    &bytes[0..0]
+}
+
+// So many bytes from the front, or all.
+fn front(bytes: &[u8], n: usize) -> &[u8] {
+    if n <= bytes.len() {
+        return &bytes[0..n];
+    }
+    bytes
+}
+
+// A proof's timestamp, and the number of its entries, which stands at `number`.
+fn print_proof(proof: &[u8], number: usize) {
+    if proof.len() < 5 {
+        return;
+    }
+    print_timestamp(Timestamp::from_bytes(proof[0], proof[1], proof[2], proof[3], proof[4]));
+    if number < proof.len() {
+        text::print(b" entries ");
+        print_byte(proof[number]);
+    }
+}
+
+fn print_numbers(fields: Fields) {
+    print_kind(fields.kind);
+    text::print(b" sender ");
+    print_byte(fields.sender);
+    if has(fields.map, NONCE) {
+        text::print(b" nonce ");
+        io::print_decimal(STDOUT_FILENO, fields.nonce);
+    }
+    if has(fields.map, TIMESTAMP) {
+        text::print(b" timestamp ");
+        let timestamp = fields.timestamp;
+        print_timestamp(timestamp);
+    }
+}
+
+fn print_parts(bytes: &[u8], fields: Fields) {
+    if has(fields.map, DIGEST) {
+        text::print(b" digest ");
+        print_hex(front(tail(bytes, fields.digest), 32));
+    }
+    if has(fields.map, CARD) {
+        text::print(b" card ");
+        print_hex(wire::card_part::card_part(bytes));
+    }
+    if has(fields.map, PREPARED) {
+        text::print(b" prepared ");
+        print_proof(tail(bytes, fields.prepared), 37);
+    }
+    if has(fields.map, WRITTEN) {
+        text::print(b" written ");
+        print_proof(tail(bytes, fields.written), 5);
+    }
+    if has(fields.map, ADDRESSED) {
+        text::print(b" addressed ");
+        print_byte(fields.addressed.0);
+    }
+}
+
+fn print_reading(party: Party, bytes: &[u8]) {
+    match wire::reader::read(party, bytes) {
+        Reading::Message(fields) => {
+            print_numbers(fields);
+            print_parts(bytes, fields);
+        }
+        Reading::Refused(number) => {
+            text::print(b"refused ");
+            print_byte(number);
+        }
+    }
+    text::print(b"\n");
+}
+
+// The bytes have room for more than a message may have.
+fn answer(party: Party, digits: &[u8]) {
+    let mut bytes = [0u8; 32768];
+    let n = text::read_hex(digits, &mut bytes);
+    if digits.len() == 2 * n {
+        print_reading(party, &bytes[..n]);
+    } else {
+        text::print(b"unread\n");
+    }
+}
+
+fn answer_line(line: &[u8]) {
+    if line.len() < 2 {
+        text::print(b"unread\n");
+        return;
+    }
+    if line[1] != b' ' {
+        text::print(b"unread\n");
+        return;
+    }
+    match line[0] {
+        b'h' => answer(Party::Replica, &line[2..]),
+        b'd' => answer(Party::Client, &line[2..]),
+        _ => text::print(b"unread\n"),
+    }
+}
+
+fn answer_lines(input: &[u8]) {
+    let mut from = 0;
+    while from < input.len() {
+        let end = text::line_end(input, from);
+        answer_line(&input[from..end]);
+        from = end + 1;
+    }
+}
+
+fn main() {
+    let mut input = [0u8; 262144];
+    let n = io::read_full(STDIN_FILENO, &mut input);
+    answer_lines(&input[..n]);
+}

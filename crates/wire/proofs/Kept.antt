@@ -1,0 +1,29 @@
+-- The bytes of a card and of entries as a party keeps them. Assumes nothing.
+use mathlib.Core.Path.{_≡_, refl, sym, ap, _∙_}
+use mathlib.Core.List.{List, [], _∷_}
+use Prim.Native.Nat.{ℕ, zero, suc, _+_, _*_, _≤_, min}
+use native.Mathlib.Omega.{arith}
+use lib.ListN.{length, take, drop, length-take, length-drop}
+use lib.Seq.{take-add, length-take-le}
+use Rattle.wire.specs.Proof.{entriesBytes, countedEntries, readEntries}
+use Rattle.wire.specs.Writing.{keptCard, keptEntries, sizedCard}
+use Rattle.wire.proofs.ProofBytes.{length-read}
+
+-- Entries that were read have the bytes that they were read from.
+bytes-read : (n : ℕ) (bytes : List ℕ) → 65 * n ≤ length bytes → entriesBytes (readEntries n bytes) ≡ take (65 * n) bytes
+unfolding entriesBytes readEntries
+bytes-read zero bytes h = refl
+bytes-read (suc n) [] h = absurd (omega arith)
+bytes-read (suc n) (b ∷ bytes) h =
+    let long : 65 * n ≤ length (drop 64 bytes) = rw length-drop (omega arith) in
+    let more : 65 * suc n ≡ suc (64 + 65 * n) = omega arith in
+    rw (more, bytes-read n (drop 64 bytes) long, take-add 64 (65 * n) bytes)
+
+-- As the code stores them: a number, and so many bytes.
+pub card-kept : (n size : ℕ) (card : List ℕ) → length card ≡ 17 → n ≡ min size 17 → n ∷ take n card ≡ sizedCard (keptCard size card)
+card-kept n size card whole e =
+    let long : length (take (min size 17) card) ≡ min size 17 = length-take-le (min size 17) card (omega arith) in
+    rw (e, long)
+
+pub entries-kept : (n count : ℕ) (entries : List ℕ) → length entries ≡ 715 → n ≡ min count 11 → n ∷ take (65 * n) entries ≡ countedEntries (keptEntries count entries)
+entries-kept n count entries whole e = rw (← e, length-read n entries, bytes-read n entries (omega arith))

@@ -1,0 +1,69 @@
+-- Where fields end, for the reader: places only rise, and a field that is cut anywhere fails test 4. Assumes nothing.
+use mathlib.Core.Path.{_≡_, refl, sym}
+use mathlib.Core.Bool.{true}
+use mathlib.Core.List.{List}
+use Prim.Native.Nat.{ℕ, zero, suc, _+_, _-_, _≤_, _<_}
+use native.Mathlib.Omega.{arith}
+use borrow.Author.Tests.{ne-eqb}
+use lib.Dec.{eqb}
+use lib.ListN.{length, getD, drop}
+use Rattle.base.specs.BitMap.{bit}
+use Rattle.base.specs.Outcome.{Outcome, refused, guard}
+use Rattle.base.proofs.Outcome.{guard-refuses}
+use Rattle.wire.specs.Layout.{Rule, fixed, extent, rules, mapIn, place}
+use Rattle.wire.specs.Places.{Takes, Fronted, placesIn}
+use Rattle.wire.specs.declared.frame.Places.{Places}
+use Rattle.wire.specs.declared.frame.Taken.{Taken}
+use Rattle.wire.specs.declared.frame.Taken.the-variants.{Next, Cut}
+use Rattle.wire.proofs.Framed.{place-present, place-rises}
+
+-- A field that was taken ends where the next one starts.
+pub taken : (s : List ℕ) (end at : ℕ) (r : Taken) → Takes s end r → r ≡ Next at → (at ≡ end) × (end ≤ length s)
+taken s end at r h e = rw e at h
+
+pub cut-short : (s : List ℕ) (end : ℕ) (r : Taken) → Takes s end r → r ≡ Cut → length s < end
+cut-short s end r h e = rw e at h
+
+-- Where one field is cut, test 4 fails.
+pub cut : {A : Type 0} (s : List ℕ) (b : ℕ) (r : Taken) (next : Outcome A) → b ≤ 9 → Takes s (place s b) r → r ≡ Cut → refused 4 ≡ guard 4 (eqb (place s 9 + 64) (length s)) next
+cut s b r next low h e =
+    let past = cut-short s (place s b) r h e in
+    let more = place-rises s b 9 low in
+    sym (guard-refuses 4 (eqb (place s 9 + 64) (length s)) next (ne-eqb (place s 9 + 64) (length s) (λ k. omega arith)))
+
+-- Bits 0, 1 and 8 are the fields of one byte.
+pub one-byte : (b : ℕ) → b < 9 → (b ≡ 2 → ⊥) → (b ≡ 3 → ⊥) → (b ≡ 4 → ⊥) → (b ≡ 5 → ⊥) → (b ≡ 6 → ⊥) → (b ≡ 7 → ⊥) → getD rules b (fixed 0) ≡ fixed 1
+unfolding rules
+one-byte zero h n2 n3 n4 n5 n6 n7 = refl
+one-byte (suc zero) h n2 n3 n4 n5 n6 n7 = refl
+one-byte (suc (suc zero)) h n2 n3 n4 n5 n6 n7 = absurd (n2 refl)
+one-byte (suc (suc (suc zero))) h n2 n3 n4 n5 n6 n7 = absurd (n3 refl)
+one-byte (suc (suc (suc (suc zero)))) h n2 n3 n4 n5 n6 n7 = absurd (n4 refl)
+one-byte (suc (suc (suc (suc (suc zero))))) h n2 n3 n4 n5 n6 n7 = absurd (n5 refl)
+one-byte (suc (suc (suc (suc (suc (suc zero)))))) h n2 n3 n4 n5 n6 n7 = absurd (n6 refl)
+one-byte (suc (suc (suc (suc (suc (suc (suc zero))))))) h n2 n3 n4 n5 n6 n7 = absurd (n7 refl)
+one-byte (suc (suc (suc (suc (suc (suc (suc (suc zero)))))))) h n2 n3 n4 n5 n6 n7 = refl
+one-byte (suc (suc (suc (suc (suc (suc (suc (suc (suc b))))))))) h n2 n3 n4 n5 n6 n7 = absurd (omega arith)
+
+-- A field that is there, by its rule.
+pub field-taken : (s : List ℕ) (b at : ℕ) (rule : Rule) (r : Taken) → bit (mapIn s) b ≡ true → at ≡ place s b → getD rules b (fixed 0) ≡ rule
+    → Takes s (at + extent rule (drop at s)) r → Takes s (place s (suc b)) r
+field-taken s b at rule r set here same h = rw (place-present s b set, same, ← here) h
+
+-- The places that were found are those of the message.
+pub placed : (s : List ℕ) (map nonce timestamp digest card prepared written addressed signature : ℕ) → map ≡ mapIn s → Fronted s nonce timestamp digest card
+    → prepared ≡ place s 6 → written ≡ place s 7 → addressed ≡ place s 8 → signature ≡ place s 9
+    → _≡_ {A = Places} (record {
+      map = map;
+      nonce = nonce;
+      timestamp = timestamp;
+      digest = digest;
+      card = card;
+      prepared = prepared;
+      written = written;
+      addressed = addressed;
+      signature = signature;
+    }) (placesIn s)
+unfolding placesIn
+placed s map nonce timestamp digest card prepared written addressed signature m q e6 e7 e8 e9 =
+    rw (m, q .nonce-at, q .timestamp-at, q .digest-at, q .card-at, e6, e7, e8, e9)

@@ -1,0 +1,100 @@
+-- `wire::frame::lay_back` meets its contract. Assumes nothing.
+use mathlib.Core.Path.{_≡_, sym, ap, _∙_}
+use Prim.Native.Nat.{_+_, _≤_}
+use native.Mathlib.Omega.{arith}
+use borrow.Author.Needs.{needs}
+use borrow.Author.Tests.{ne-eqb, eq-eqb}
+use lib.ListN.{length}
+use Rattle.base.specs.Outcome.{accepted}
+use Rattle.base.proofs.Outcome.{guard-passes, guard-refuses}
+use Rattle.wire.specs.Layout.{place}
+use Rattle.wire.proofs.Reading.{taken, cut, placed}
+use Rattle.wire.proofs.frame.lay_back.Statement.{statement}
+use Rattle.wire.proofs.frame.lay_back.Tie as tie
+
+abbrev start1 : tie.After-known-told → tie.Start
+start1 c = c .before .before .before .before .before
+
+at6 : (c : tie.After-known-told) → (c .before .prepared .given .0 .0 ≡ place (start1 c .args .bytes .now) 6) × (place (start1 c .args .bytes .now) 6 ≤ length (start1 c .args .bytes .now))
+at6 c = taken _ _ _ _ (c .before .before .before .take-field .ensures) (c .before .prepared .given .1)
+
+abbrev start2 : tie.After-known-told2 → tie.Start
+start2 c = start1 (c .before .before .before .before)
+
+at7 : (c : tie.After-known-told2) → (c .before .written .given .0 .0 ≡ place (start2 c .args .bytes .now) 7) × (place (start2 c .args .bytes .now) 7 ≤ length (start2 c .args .bytes .now))
+at7 c = taken _ _ _ _ (c .before .before .before .take-field2 .ensures) (c .before .written .given .1)
+
+abbrev start3 : tie.After-known-told3 → tie.Start
+start3 c = start2 (c .before .before .before .before)
+
+at8 : (c : tie.After-known-told3) → (c .before .addressed .given .0 .0 ≡ place (start3 c .args .bytes .now) 8) × (place (start3 c .args .bytes .now) 8 ≤ length (start3 c .args .bytes .now))
+at8 c = taken _ _ _ _ (c .before .before .before .take-field3 .ensures) (c .before .addressed .given .1)
+
+abbrev start4 : tie.After-known-told4 → tie.Start
+start4 c = start3 (c .before .before .before .before)
+
+at9 : (c : tie.After-known-told4) → (c .before .signature .given .0 .0 ≡ place (start4 c .args .bytes .now) 9) × (place (start4 c .args .bytes .now) 9 ≤ length (start4 c .args .bytes .now))
+at9 c = taken _ _ _ _ (c .before .before .before .take-field4 .ensures) (c .before .signature .given .1)
+
+returns : tie.Need-returns
+returns c = cut _ 6 _ _ (omega arith) (c .before .before .take-field .ensures) (c .enum-told .given .1)
+
+take-field-requires-2 : tie.Need-take-field-requires-2
+take-field-requires-2 c κs = let h = at6 c in let q = start1 c .pre in omega arith
+
+returns-2 : tie.Need-returns-2
+returns-2 c = cut _ 7 _ _ (omega arith) (c .before .before .take-field2 .ensures) (c .enum-told2 .given .1)
+
+take-field-requires-3 : tie.Need-take-field-requires-3
+take-field-requires-3 c κs = let h = at7 c in let q = start2 c .pre in omega arith
+
+returns-3 : tie.Need-returns-3
+returns-3 c = cut _ 8 _ _ (omega arith) (c .before .before .take-field3 .ensures) (c .enum-told3 .given .1)
+
+take-field-requires-4 : tie.Need-take-field-requires-4
+take-field-requires-4 c κs = let h = at8 c in let q = start3 c .pre in omega arith
+
+returns-4 : tie.Need-returns-4
+returns-4 c = cut _ 9 _ _ (omega arith) (c .before .before .take-field4 .ensures) (c .enum-told4 .given .1)
+
+sub-if1 : tie.Need-sub-if1
+sub-if1 c = let h = at9 c in omega arith
+
+returns-5 : tie.Need-returns-5
+returns-5 c =
+    let h = at9 (c .before) in
+    let s = start4 (c .before) .args .bytes .now in
+    sym (guard-refuses 4 _ _ (ne-eqb (place s 9 + 64) (length s) (λ e. c .if1 .taken (omega arith))))
+
+returns-6 : tie.Need-returns-6
+returns-6 c =
+    let h = at9 (c .before) in
+    let b = start4 (c .before) in
+    let s = b .args .bytes .now in
+    let ends : place s 9 + 64 ≡ length s = omega arith in
+    let q = b .pre .1 in
+    ap accepted (placed s _ _ _ _ _ _ _ _ _ (b .pre .0) q (at6 (c .before .before .before .before .before .before .before .before .before .before .before .before .before) .0) (at7 (c .before .before .before .before .before .before .before .before .before) .0) (at8 (c .before .before .before .before .before) .0) (h .0)) ∙ sym (guard-passes 4 _ _ (eq-eqb _ _ ends))
+
+pub lay-back-spec : {M : Type 1} → statement M
+lay-back-spec =
+    tie.close
+    (tie.spec
+    (λ c κs. search needs)
+    (λ c. search needs)
+    (λ c. search needs)
+    returns
+    take-field-requires-2
+    (λ c. search needs)
+    (λ c. search needs)
+    returns-2
+    take-field-requires-3
+    (λ c. search needs)
+    (λ c. search needs)
+    returns-3
+    take-field-requires-4
+    (λ c. search needs)
+    (λ c. search needs)
+    returns-4
+    sub-if1
+    returns-5
+    returns-6)

@@ -1,0 +1,15 @@
+-- `wire::reader::suits` meets its contract. Assumes nothing.
+use borrow.Author.Needs.{needs}
+use Rattle.wire.proofs.reader.suits.Statement.{statement}
+use Rattle.wire.proofs.reader.suits.Tie as tie
+
+returns : tie.Need-returns
+returns c = rw (c .before .enum-told .given .1) (c .suits-replica .ensures)
+
+returns-2 : tie.Need-returns-2
+returns-2 c = rw (c .before .enum-told2 .given .1) (c .suits-client .ensures)
+
+pub suits-spec : {M : Type 1} → statement M
+suits-spec =
+    tie.close
+    (tie.spec (λ c. search needs) (λ c κs. search needs) (λ c. search needs) (λ c κs. search needs) returns returns-2)

@@ -1,0 +1,54 @@
+-- What the code finds of a message on the way through tests 2 to 4: where its fields end.
+use mathlib.Core.Path.{_≡_}
+use mathlib.Core.List.{List}
+use Prim.Native.Nat.{ℕ, _+_, _-_, _≤_, _<_}
+use lib.ListN.{length, take, drop}
+use Rattle.base.specs.Outcome.{Outcome, accepted, refused}
+use Rattle.wire.specs.Layout.{mapIn, place}
+use Rattle.wire.specs.declared.frame.Framing.{Framing}
+use Rattle.wire.specs.declared.frame.Framing.the-variants.{Whole, Refused}
+use Rattle.wire.specs.declared.frame.Places.{Places}
+use Rattle.wire.specs.declared.frame.Taken.{Taken}
+use Rattle.wire.specs.declared.frame.Taken.the-variants.{Next, Cut}
+
+-- A field that ends at this place was taken, or is cut by the end of the bytes.
+abbrev pub Takes : List ℕ → ℕ → Taken → Type 0
+Takes bytes end (Next at) = (at ≡ end) × (end ≤ length bytes)
+Takes bytes end Cut = length bytes < end
+
+-- Where the fields up to the digest stand, and that they are within the bytes.
+pub record Fronted (bytes : List ℕ) (nonce timestamp digest card : ℕ) : Type 0 where
+  pub nonce-at : nonce ≡ place bytes 2
+  pub timestamp-at : timestamp ≡ place bytes 3
+  pub digest-at : digest ≡ place bytes 4
+  pub card-at : card ≡ place bytes 5
+  pub inside : card ≤ length bytes
+
+unfoldable pub placesIn : List ℕ → Places
+placesIn bytes =
+    record {
+      map = mapIn bytes;
+      nonce = place bytes 2;
+      timestamp = place bytes 3;
+      digest = place bytes 4;
+      card = place bytes 5;
+      prepared = place bytes 6;
+      written = place bytes 7;
+      addressed = place bytes 8;
+      signature = place bytes 9;
+    }
+
+-- What an answer of the code stands for.
+abbrev pub frameOutcome : Framing → Outcome Places
+frameOutcome (Whole places) = accepted places
+frameOutcome (Refused number) = refused number
+
+-- The bytes from one place to another.
+abbrev pub between : List ℕ → ℕ → ℕ → List ℕ
+between bytes at end = take (end - at) (drop at bytes)
+
+-- A field from one place to another: none, or one of so many bytes at least.
+pub record Room (bytes : List ℕ) (width at end : ℕ) : Type 0 where
+  pub rises : at ≤ end
+  pub inside : end ≤ length bytes
+  pub wide : at < end → at + width ≤ end

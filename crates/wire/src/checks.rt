@@ -1,0 +1,134 @@
+// Tests 7 and 9 to 11: verdicts (document 01: marks) and the proofs that they judge.
+use base::party::quorum_size;
+use base::party::replica_count;
+use base::party::within;
+use base::timestamp::Timestamp;
+ghost use mathlib.Core.Path.{_≡_};
+ghost use mathlib.Core.Bool.{_&&_};
+ghost use lib.Dec.{leb, eqb};
+ghost use lib.ListN.{length};
+ghost use Rattle.base.specs.Outcome.{accepted, guard};
+ghost use Rattle.base.specs.Range.{within};
+ghost use Rattle.base.specs.Rising.{rising};
+ghost use Rattle.base.specs.Timestamp.{number};
+ghost use Rattle.wire.specs.Checks.{all, shaped, genuine, proofOutcome};
+ghost use Rattle.wire.specs.Judging.{entriesIn, signers, proofCheckOutcome, smallest};
+
+// What a proof's tests find: nothing against it, or the refusal.
+pub enum ProofCheck {
+    Good,
+    Refused(u8),
+}
+
+const NOT_A_QUORUM: u8 = 9;
+
+const NOT_GENUINE: u8 = 10;
+
+const NOT_ISSUED: u8 = 11;
+
+// Signer and signature.
+const ENTRY: usize = 65;
+
+fn all_within(low: u8, high: u8, numbers: &[u8]) -> bool
+    ensures { λ r. ⌜ r ≡ all (within low high) (now (numbers .entry)) ⌝ }
+{
+    let mut i = 0;
+    while i < numbers.len() {
+        if !within(low, high, numbers[i]) {
+            return false;
+        }
+        i += 1;
+    }
+    true
+}
+
+// Test 7: one verdict per signature, each 0 or 1.
+pub fn verdicts_fit(verdicts: &[u8], signatures: usize) -> bool
+    ensures { λ r. ⌜ r ≡ (eqb (length (now (verdicts .entry))) signatures && all (λ v. leb v 1) (now (verdicts .entry))) ⌝ }
+{
+    if verdicts.len() != signatures {
+        return false;
+    }
+    all_within(0, 1, verdicts)
+}
+
+// Test 10: no verdict is 0.
+fn all_genuine(verdicts: &[u8]) -> bool
+    ensures { λ r. ⌜ r ≡ genuine (now (verdicts .entry)) ⌝ }
+{
+    all_within(1, 1, verdicts)
+}
+
+// Whether the signers of the entries rise within 1 to n, so that no replica is there twice.
+fn signers_rise(entries: &[u8], n: u8) -> bool
+    ensures { λ r. ⌜ r ≡ rising 0 n (signers (entriesIn (now (entries .entry)))) ⌝ }
+{
+    let count = entries.len() / ENTRY;
+    let mut last: u8 = 0;
+    let mut i = 0;
+    while i < count {
+        let signer = entries[ENTRY * i];
+        if signer <= last {
+            return false;
+        }
+        if n < signer {
+            return false;
+        }
+        last = signer;
+        i += 1;
+    }
+    true
+}
+
+// Test 9: a quorum of entries, of different replicas.
+fn is_shaped(f: u8, entries: &[u8]) -> bool
+    ensures { λ r. ⌜ r ≡ shaped f (entriesIn (now (entries .entry))) ⌝ }
+{
+    if entries.len() / ENTRY != quorum_size(f) as usize {
+        return false;
+    }
+    signers_rise(entries, replica_count(f))
+}
+
+// Tests 9 to 11 of one proof: its entries, their verdicts, its timestamp.
+pub fn check_proof(f: u8, entries: &[u8], verdicts: &[u8], timestamp: Timestamp) -> ProofCheck
+    ensures { λ r. ⌜ proofCheckOutcome r ≡ proofOutcome f (entriesIn (now (entries .entry))) (now (verdicts .entry)) (number timestamp) ⌝ }
+{
+    if !is_shaped(f, entries) {
+        return ProofCheck::Refused(NOT_A_QUORUM);
+    }
+    if !all_genuine(verdicts) {
+        return ProofCheck::Refused(NOT_GENUINE);
+    }
+    if !timestamp.is_issued() {
+        return ProofCheck::Refused(NOT_ISSUED);
+    }
+    ProofCheck::Good
+}
+
+fn smaller(a: ProofCheck, b: ProofCheck) -> ProofCheck
+    ensures { λ r. ⌜ proofCheckOutcome r ≡ smallest (proofCheckOutcome a) (proofCheckOutcome b) ⌝ }
+{
+    match a {
+        ProofCheck::Good => b,
+        ProofCheck::Refused(m) => match b {
+            ProofCheck::Good => ProofCheck::Refused(m),
+            ProofCheck::Refused(n) => if m < n {
+                ProofCheck::Refused(m)
+            } else {
+                ProofCheck::Refused(n)
+            },
+        },
+    }
+}
+
+// Tests 9 to 11 of a message, each over both proofs and the timestamp field before the next. What is missing is good.
+pub fn first_refusal(prepared: ProofCheck, written: ProofCheck, issued: bool) -> ProofCheck
+    ensures { λ r. ⌜ proofCheckOutcome r ≡ smallest (smallest (proofCheckOutcome prepared) (proofCheckOutcome written)) (guard 11 issued (accepted tt)) ⌝ }
+{
+    let proofs = smaller(prepared, written);
+    if issued {
+        return proofs;
+    }
+    smaller(proofs, ProofCheck::Refused(NOT_ISSUED))
+}

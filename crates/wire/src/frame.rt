@@ -1,0 +1,167 @@
+// Tests 2 to 4: a message's length, its bit map, and where its fields end.
+ghost use mathlib.Core.Path.{_≡_};
+ghost use Prim.Native.Nat.{suc, _+_, _*_, _≤_, _<_};
+ghost use lib.Dec.{eqb};
+ghost use lib.ListN.{length, drop};
+ghost use Rattle.base.specs.Outcome.{accepted, guard};
+ghost use Rattle.wire.specs.Layout.{counted, extent, mapIn, place};
+ghost use Rattle.wire.specs.Decode.{framed};
+ghost use Rattle.wire.specs.Places.{Takes, Fronted, placesIn, frameOutcome};
+
+const LONGEST: usize = 1579;
+
+const SIGNATURE: usize = 64;
+
+// The bit map, and where each field starts, or would start if it were there.
+pub struct Places {
+    pub map: u16,
+    pub nonce: usize,
+    pub timestamp: usize,
+    pub digest: usize,
+    pub card: usize,
+    pub prepared: usize,
+    pub written: usize,
+    pub addressed: usize,
+    pub signature: usize,
+}
+
+pub enum Framing {
+    Whole(Places),
+    Refused(u8),
+}
+
+// Where a field ends, unless the message ends before it does.
+enum Taken {
+    Next(usize),
+    Cut,
+}
+
+fn wide(byte: u8) -> usize
+    ensures { λ r. ⌜ r ≡ byte ⌝ }
+{
+    byte as usize
+}
+
+fn take_fixed(bytes: &[u8], width: usize, at: usize) -> Taken
+    requires { ⌜ at ≤ length (now bytes) ⌝ }
+    ensures { λ r. ⌜ Takes (now (bytes .entry)) (at + width) r ⌝ }
+{
+    if bytes.len() - at < width {
+        return Taken::Cut;
+    }
+    Taken::Next(at + width)
+}
+
+// A field whose head ends with the number of units that follow it.
+fn take_counted(bytes: &[u8], head: usize, unit: usize, at: usize) -> Taken
+    requires { ⌜ (at ≤ length (now bytes)) × (1 ≤ head) × (unit ≤ 65) ⌝ }
+    ensures { λ r. ⌜ Takes (now (bytes .entry)) (at + extent (counted head unit) (drop at (now (bytes .entry)))) r ⌝ }
+{
+    let Taken::Next(end) = take_fixed(bytes, head, at) else {
+        return Taken::Cut;
+    };
+    let count = wide(bytes[end - 1]);
+    take_fixed(bytes, unit * count, end)
+}
+
+// The field of a bit: nothing where the bit is not set.
+fn take_field(bytes: &[u8], map: u16, bit: usize, at: usize) -> Taken
+    requires { ⌜ (map ≡ mapIn (now bytes)) × (bit < 9) × (at ≡ place (now bytes) bit) × (at ≤ length (now bytes)) ⌝ }
+    ensures { λ r. ⌜ Takes (now (bytes .entry)) (place (now (bytes .entry)) (suc bit)) r ⌝ }
+{
+    if (map >> bit) % 2 == 0 {
+        return Taken::Next(at);
+    }
+    match bit {
+        2 => take_fixed(bytes, 8, at),
+        3 => take_fixed(bytes, 5, at),
+        4 => take_fixed(bytes, 32, at),
+        5 => take_counted(bytes, 1, 1, at),
+        6 => take_counted(bytes, 38, 65, at),
+        7 => take_counted(bytes, 6, 65, at),
+        _ => take_fixed(bytes, 1, at),
+    }
+}
+
+// Test 4 from the card on.
+fn lay_back(
+    bytes: &[u8],
+    map: u16,
+    nonce: usize,
+    timestamp: usize,
+    digest: usize,
+    card: usize,
+) -> Framing
+    requires { ⌜ (map ≡ mapIn (now bytes)) × Fronted (now bytes) nonce timestamp digest card ⌝ }
+    ensures { λ r. ⌜ frameOutcome r ≡ guard 4 (eqb (place (now (bytes .entry)) 9 + 64) (length (now (bytes .entry)))) (accepted (placesIn (now (bytes .entry)))) ⌝ }
+{
+    let Taken::Next(prepared) = take_field(bytes, map, 5, card) else {
+        return Framing::Refused(4);
+    };
+    let Taken::Next(written) = take_field(bytes, map, 6, prepared) else {
+        return Framing::Refused(4);
+    };
+    let Taken::Next(addressed) = take_field(bytes, map, 7, written) else {
+        return Framing::Refused(4);
+    };
+    let Taken::Next(signature) = take_field(bytes, map, 8, addressed) else {
+        return Framing::Refused(4);
+    };
+    if bytes.len() - signature != SIGNATURE {
+        return Framing::Refused(4);
+    }
+    Framing::Whole(Places {
+        map: map,
+        nonce: nonce,
+        timestamp: timestamp,
+        digest: digest,
+        card: card,
+        prepared: prepared,
+        written: written,
+        addressed: addressed,
+        signature: signature,
+    })
+}
+
+// Test 4: field after field, each from the end of the one before it.
+fn lay(bytes: &[u8], map: u16) -> Framing
+    requires { ⌜ (map ≡ mapIn (now bytes)) × (2 ≤ length (now bytes)) ⌝ }
+    ensures { λ r. ⌜ frameOutcome r ≡ guard 4 (eqb (place (now (bytes .entry)) 9 + 64) (length (now (bytes .entry)))) (accepted (placesIn (now (bytes .entry)))) ⌝ }
+{
+    let Taken::Next(sender) = take_field(bytes, map, 0, 2) else {
+        return Framing::Refused(4);
+    };
+    let Taken::Next(nonce) = take_field(bytes, map, 1, sender) else {
+        return Framing::Refused(4);
+    };
+    let Taken::Next(timestamp) = take_field(bytes, map, 2, nonce) else {
+        return Framing::Refused(4);
+    };
+    let Taken::Next(digest) = take_field(bytes, map, 3, timestamp) else {
+        return Framing::Refused(4);
+    };
+    let Taken::Next(card) = take_field(bytes, map, 4, digest) else {
+        return Framing::Refused(4);
+    };
+    lay_back(bytes, map, nonce, timestamp, digest, card)
+}
+
+// Tests 2 and 3 before it.
+pub fn frame(bytes: &[u8]) -> Framing
+    ensures { λ r. ⌜ frameOutcome r ≡ framed (now (bytes .entry)) (accepted (placesIn (now (bytes .entry)))) ⌝ }
+{
+    if bytes.len() < 2 {
+        return Framing::Refused(2);
+    }
+    if LONGEST < bytes.len() {
+        return Framing::Refused(2);
+    }
+    let map = base::big_endian::from_two(bytes[0], bytes[1]) as u16;
+    if map % 4 != 3 {
+        return Framing::Refused(3);
+    }
+    if 512 <= map {
+        return Framing::Refused(3);
+    }
+    lay(bytes, map)
+}

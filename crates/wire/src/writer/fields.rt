@@ -1,0 +1,125 @@
+// The fields of a message: each function stores one from a place on and answers the place behind it.
+use base::timestamp::Timestamp;
+ghost use mathlib.Core.Path.{_≡_};
+ghost use mathlib.Core.List.{[], _∷_, _++_};
+ghost use Prim.Native.Nat.{_+_, _≤_, _<_, min};
+ghost use lib.ListN.{length, take};
+ghost use Rattle.base.specs.BigEndian.{toBytes};
+ghost use Rattle.base.specs.Timestamp.{number};
+ghost use Rattle.wire.specs.Writing.{Put, zeros, sizedCard, keptCard};
+
+// The first `count` of some bytes.
+pub fn put_bytes(out: &mut [u8], at: usize, bytes: &[u8], count: usize) -> usize
+    requires { ⌜ (count ≤ length (now bytes)) × (at + count ≤ length (now out)) ⌝ }
+    ensures { λ r. ⌜ Put (now (out .entry)) at (take count (now (bytes .entry))) count r (now (out .exit)) ⌝ }
+{
+    let mut i = 0;
+    while i < count {
+        out[at + i] = bytes[i];
+        i += 1;
+    }
+    at + i
+}
+
+pub fn put_byte(out: &mut [u8], at: usize, byte: u8) -> usize
+    requires { ⌜ at < length (now out) ⌝ }
+    ensures { λ r. ⌜ Put (now (out .entry)) at (byte ∷ []) 1 r (now (out .exit)) ⌝ }
+{
+    out[at] = byte;
+    at + 1
+}
+
+pub fn at_most(most: u8, count: u8) -> u8
+    ensures { λ r. ⌜ r ≡ min count most ⌝ }
+{
+    if count < most { count } else { most }
+}
+
+// The bit map, the kind and the sender.
+pub fn put_head(out: &mut [u8], map: u16, kind: u8, sender: u8) -> usize
+    requires { ⌜ 4 ≤ length (now out) ⌝ }
+    ensures { λ r. ⌜ Put (now (out .entry)) 0 (toBytes 2 map ++ (toBytes 1 kind ++ toBytes 1 sender)) 4 r (now (out .exit)) ⌝ }
+{
+    let head = [(map / 256 % 256) as u8, (map % 256) as u8, kind, sender];
+    put_bytes(out, 0, &head, 4)
+}
+
+fn nonce_bytes(nonce: u64) -> [u8; 8]
+    ensures { λ r. ⌜ r ≡ toBytes 8 nonce ⌝ }
+{
+    // The number without its last byte, its last two, and so on.
+    let n1 = nonce / 256;
+    let n2 = n1 / 256;
+    let n3 = n2 / 256;
+    let n4 = n3 / 256;
+    let n5 = n4 / 256;
+    let n6 = n5 / 256;
+    let n7 = n6 / 256;
+    [
+        (n7 % 256) as u8,
+        (n6 % 256) as u8,
+        (n5 % 256) as u8,
+        (n4 % 256) as u8,
+        (n3 % 256) as u8,
+        (n2 % 256) as u8,
+        (n1 % 256) as u8,
+        (nonce % 256) as u8,
+    ]
+}
+
+pub fn put_nonce(out: &mut [u8], at: usize, nonce: u64) -> usize
+    requires { ⌜ at + 8 ≤ length (now out) ⌝ }
+    ensures { λ r. ⌜ Put (now (out .entry)) at (toBytes 8 nonce) 8 r (now (out .exit)) ⌝ }
+{
+    let bytes = nonce_bytes(nonce);
+    put_bytes(out, at, &bytes, 8)
+}
+
+pub fn put_timestamp(out: &mut [u8], at: usize, timestamp: Timestamp) -> usize
+    requires { ⌜ at + 5 ≤ length (now out) ⌝ }
+    ensures { λ r. ⌜ Put (now (out .entry)) at (toBytes 5 (number timestamp)) 5 r (now (out .exit)) ⌝ }
+{
+    let bytes = timestamp.to_bytes();
+    put_bytes(out, at, &bytes, 5)
+}
+
+pub fn put_timestamp_and_digest(
+    out: &mut [u8],
+    at: usize,
+    timestamp: Timestamp,
+    digest: &[u8; 32],
+) -> usize
+    requires { ⌜ at + 37 ≤ length (now out) ⌝ }
+    ensures { λ r. ⌜ Put (now (out .entry)) at (toBytes 5 (number timestamp) ++ now (digest .entry)) 37 r (now (out .exit)) ⌝ }
+{
+    let behind = put_timestamp(out, at, timestamp);
+    put_bytes(out, behind, digest, 32)
+}
+
+// The sender's own signature: zeros, for the signing box to fill.
+pub fn put_signature(out: &mut [u8], at: usize) -> usize
+    requires { ⌜ at + 64 ≤ length (now out) ⌝ }
+    ensures { λ r. ⌜ Put (now (out .entry)) at zeros 64 r (now (out .exit)) ⌝ }
+{
+    let signature = [0u8; 64];
+    put_bytes(out, at, &signature, 64)
+}
+
+// The client addressed, and the signature behind it.
+pub fn put_addressed(out: &mut [u8], at: usize, client: u8) -> usize
+    requires { ⌜ at + 65 ≤ length (now out) ⌝ }
+    ensures { λ r. ⌜ Put (now (out .entry)) at (toBytes 1 client ++ zeros) 65 r (now (out .exit)) ⌝ }
+{
+    let behind = put_byte(out, at, client);
+    put_signature(out, behind)
+}
+
+// A card behind its length.
+pub fn put_card(out: &mut [u8], at: usize, card: &[u8; 17], card_length: u8) -> usize
+    requires { ⌜ at + 18 ≤ length (now out) ⌝ }
+    ensures { λ r. ⌜ Put (now (out .entry)) at (sizedCard (keptCard «card_length» (now (card .entry)))) 18 r (now (out .exit)) ⌝ }
+{
+    let count = at_most(17, card_length);
+    let behind = put_byte(out, at, count);
+    put_bytes(out, behind, card, count as usize)
+}

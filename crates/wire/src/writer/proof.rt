@@ -1,0 +1,102 @@
+// Proofs, as a party keeps them, into a message. A proof whose timestamp is 0.0 is missing.
+use super::fields::at_most;
+use super::fields::put_byte;
+use super::fields::put_bytes;
+use super::fields::put_timestamp;
+use super::fields::put_timestamp_and_digest;
+use base::timestamp::Timestamp;
+ghost use mathlib.Core.Path.{_≡_};
+ghost use mathlib.Core.Bool.{cond};
+ghost use Prim.Native.Nat.{_+_, _≤_};
+ghost use lib.ListN.{length};
+ghost use Rattle.wire.specs.Proof.{countedEntries, preparedBytes, writtenBytes};
+ghost use Rattle.wire.specs.Writing.{Put, keptEntries, keptPrepared, keptWritten, missing, bytesUnless};
+
+const MOST_ENTRIES: u8 = 11;
+
+const ENTRY: usize = 65;
+
+// The number of entries, and the entries.
+fn put_entries(out: &mut [u8], at: usize, entry_count: u8, entries: &[u8; 715]) -> usize
+    requires { ⌜ at + 716 ≤ length (now out) ⌝ }
+    ensures { λ r. ⌜ Put (now (out .entry)) at (countedEntries (keptEntries «entry_count» (now (entries .entry)))) 716 r (now (out .exit)) ⌝ }
+{
+    let count = at_most(MOST_ENTRIES, entry_count);
+    let behind = put_byte(out, at, count);
+    put_bytes(out, behind, entries, ENTRY * count as usize)
+}
+
+pub fn put_prepared<'a>(
+    out: &mut [u8],
+    at: usize,
+    timestamp: Timestamp,
+    digest: &'a [u8; 32],
+    entry_count: u8,
+    entries: &'a [u8; 715],
+) -> usize
+    requires { ⌜ at + 753 ≤ length (now out) ⌝ }
+    ensures { λ r. ⌜ Put (now (out .entry)) at (preparedBytes (keptPrepared timestamp (now (digest .entry)) «entry_count» (now (entries .entry)))) 753 r (now (out .exit)) ⌝ }
+{
+    let behind = put_timestamp_and_digest(out, at, timestamp, digest);
+    put_entries(out, behind, entry_count, entries)
+}
+
+fn put_written(
+    out: &mut [u8],
+    at: usize,
+    timestamp: Timestamp,
+    entry_count: u8,
+    entries: &[u8; 715],
+) -> usize
+    requires { ⌜ at + 721 ≤ length (now out) ⌝ }
+    ensures { λ r. ⌜ Put (now (out .entry)) at (writtenBytes (keptWritten timestamp «entry_count» (now (entries .entry)))) 721 r (now (out .exit)) ⌝ }
+{
+    let behind = put_timestamp(out, at, timestamp);
+    put_entries(out, behind, entry_count, entries)
+}
+
+fn is_missing(timestamp: Timestamp) -> bool
+    ensures { λ r. ⌜ r ≡ missing timestamp ⌝ }
+{
+    timestamp.number() == 0
+}
+
+// The bit of a proof in the bit map.
+pub fn bit_unless_missing(bit: u16, timestamp: Timestamp) -> u16
+    ensures { λ r. ⌜ (r ≡ cond (missing timestamp) 0 bit) × (r ≤ bit) ⌝ }
+{
+    if is_missing(timestamp) { 0 } else { bit }
+}
+
+pub fn put_prepared_unless_missing<'a>(
+    out: &mut [u8],
+    at: usize,
+    timestamp: Timestamp,
+    digest: &'a [u8; 32],
+    entry_count: u8,
+    entries: &'a [u8; 715],
+) -> usize
+    requires { ⌜ at + 753 ≤ length (now out) ⌝ }
+    ensures { λ r. ⌜ Put (now (out .entry)) at (bytesUnless (missing timestamp) (preparedBytes (keptPrepared timestamp (now (digest .entry)) «entry_count» (now (entries .entry))))) 753 r (now (out .exit)) ⌝ }
+{
+    if is_missing(timestamp) {
+        return at;
+    }
+    put_prepared(out, at, timestamp, digest, entry_count, entries)
+}
+
+pub fn put_written_unless_missing(
+    out: &mut [u8],
+    at: usize,
+    timestamp: Timestamp,
+    entry_count: u8,
+    entries: &[u8; 715],
+) -> usize
+    requires { ⌜ at + 721 ≤ length (now out) ⌝ }
+    ensures { λ r. ⌜ Put (now (out .entry)) at (bytesUnless (missing timestamp) (writtenBytes (keptWritten timestamp «entry_count» (now (entries .entry))))) 721 r (now (out .exit)) ⌝ }
+{
+    if is_missing(timestamp) {
+        return at;
+    }
+    put_written(out, at, timestamp, entry_count, entries)
+}
