@@ -9,7 +9,8 @@ use Rattle.base.specs.Outcome.{Outcome, accepted, refused}
 use Rattle.base.proofs.Outcome.{guard-passes, guard-refuses}
 use Rattle.wire.specs.Message.{longest}
 use Rattle.protocol.specs.Client.{Answer, send, counted, done, ended, Turn, ClientCall, call, answered, clientAnswers, beginWrite, beginRead, clientStep, beginWriteCall, beginReadCall, clientCall}
-use Rattle.protocol.specs.Replica.{Reply, ReplicaCall, sent, inFront, replicaAnswers, withOutput, replicaStep, replicaCall}
+use Rattle.wire.specs.Writing.{unsigned, inFront}
+use Rattle.protocol.specs.Replica.{Reply, ReplicaCall, replicaAnswers, withOutput, replicaStep, replicaCall}
 use Rattle.protocol.specs.declared.client.Client.{Client}
 use Rattle.protocol.specs.declared.client.ClientAnswer.the-variants.{Refused as ClientRefused}
 use Rattle.protocol.specs.declared.replica.Replica.{Replica}
@@ -27,7 +28,7 @@ module _ {A : Type 0} (old : List ℕ) (next : Outcome A) where
 -- A call whose output is long enough does what the step says.
 pub record ReplicaCalls (replica : Replica) (old : List ℕ) (step : Outcome Reply) (made : ReplicaCall) : Type 0 where
   pub answers : (reply : Reply) → step ≡ accepted reply
-      → made ≡ record { answer = Send (length (sent (reply .message))); replica = reply .next; output = inFront (sent (reply .message)) old }
+      → made ≡ record { answer = Send (length (unsigned (reply .message))); replica = reply .next; output = inFront (unsigned (reply .message)) old }
   pub refuses : (number : ℕ) → step ≡ refused number → made ≡ record { answer = Refused number; replica = replica; output = old }
 
 -- Two calls that answer alike and leave the same record.

@@ -22,9 +22,10 @@ use Rattle.wire.specs.Layout.{signature}
 use Rattle.wire.specs.Message.{Message, READ-STAMP, PREPARE, WRITE, READ, STAMP, PREPARED, WRITTEN, CARD}
 use Rattle.wire.specs.Proof.{Entry, PreparedProof, WrittenProof, entriesBytes}
 use Rattle.wire.specs.Sha256.{sha256}
+use Rattle.wire.specs.Writing.{unsigned, inFront}
 use Rattle.wire.specs.declared.message.Party.the-variants.{Client as AtClient}
 use Rattle.protocol.specs.Parts.{filled, startCard, cardIn, entriesIn, ifIssued, timestampOf, cardStands}
-use Rattle.protocol.specs.Replica.{sent, inFront, withOutput}
+use Rattle.protocol.specs.Replica.{withOutput}
 use Rattle.protocol.specs.declared.client.Client.{Client}
 use Rattle.protocol.specs.declared.client.ClientAnswer.{ClientAnswer}
 use Rattle.protocol.specs.declared.client.ClientAnswer.the-variants.{Send, Counted, Done, Ended, Refused}
@@ -420,7 +421,7 @@ abbrev pub call : ClientAnswer → List ℕ → Client → List ℕ → ClientCa
 call answer card client output = record { answer = answer; «card_length» = length card; card = filled 17 card; client = client; output = output }
 
 abbrev pub answered : List ℕ → Answer → Client → ClientCall
-answered old (send message) next = call (Send (length (sent message))) [] next (inFront (sent message) old)
+answered old (send message) next = call (Send (length (unsigned message))) [] next (inFront (unsigned message) old)
 answered old counted next = call Counted [] next old
 answered old (done timestamp card) next = call (Done timestamp) card next old
 answered old ended next = call Ended [] next old

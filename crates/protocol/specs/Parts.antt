@@ -1,16 +1,15 @@
 -- Cards and proofs as the records keep them: arrays with zeros behind what is kept.
-use mathlib.Core.Bool.{Bool, _&&_, cond}
+use mathlib.Core.Bool.{Bool, _&&_}
 use mathlib.Core.List.{List, [], _∷_, _++_}
 use mathlib.Core.Option.{Option, none, some}
-use Prim.Native.Nat.{ℕ, min}
+use Prim.Native.Nat.{ℕ}
 use lib.Dec.{eqb}
-use lib.ListN.{length, take, replicate}
+use lib.ListN.{take, replicate}
 use Rattle.base.specs.Same.{same}
-use Rattle.base.specs.Timestamp.{number}
-use Rattle.base.specs.declared.timestamp.Timestamp.{Timestamp}
 use Rattle.wire.specs.Card.{isCard}
-use Rattle.wire.specs.Proof.{Entry, PreparedProof, WrittenProof, readEntries, entriesBytes}
+use Rattle.wire.specs.Proof.{Entry, PreparedProof}
 use Rattle.wire.specs.Sha256.{sha256}
+use Rattle.wire.specs.Writing.{keptCard, keptEntries, unless}
 
 -- The bytes in an array of so many, zeros behind them; what does not fit is cut.
 abbrev pub filled : ℕ → List ℕ → List ℕ
@@ -22,14 +21,14 @@ startCard = 0 ∷ 0 ∷ []
 
 -- The card in an array, and the entries in an array; a record of any value has at most 17 bytes and 11 entries there.
 abbrev pub cardIn : List ℕ → ℕ → List ℕ
-cardIn array kept = take (min kept 17) array
+cardIn array kept = keptCard kept array
 
 abbrev pub entriesIn : List ℕ → ℕ → List Entry
-entriesIn array kept = readEntries (min kept 11) array
+entriesIn array kept = keptEntries kept array
 
 -- "A missing prepared proof means stamp 0.0."
 abbrev pub ifIssued : {A : Type 0} → ℕ → A → Option A
-ifIssued timestamp proof = cond (eqb timestamp 0) none (some proof)
+ifIssued timestamp proof = unless (eqb timestamp 0) proof
 
 abbrev pub timestampOf : Option PreparedProof → ℕ
 timestampOf none = 0

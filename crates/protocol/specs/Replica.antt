@@ -14,8 +14,9 @@ use Rattle.base.specs.declared.party.ReplicaId.{ReplicaId}
 use Rattle.base.specs.declared.timestamp.Timestamp.{Timestamp}
 use Rattle.wire.specs.Checks.{checked}
 use Rattle.wire.specs.Decode.{decode}
-use Rattle.wire.specs.Message.{Message, READ-STAMP, PREPARE, WRITE, READ, STAMP, PREPARED, WRITTEN, CARD, encode, longest}
+use Rattle.wire.specs.Message.{Message, READ-STAMP, PREPARE, WRITE, READ, STAMP, PREPARED, WRITTEN, CARD}
 use Rattle.wire.specs.Proof.{PreparedProof, WrittenProof, entriesBytes}
+use Rattle.wire.specs.Writing.{unsigned, roomy, inFront}
 use Rattle.wire.specs.declared.message.Party.the-variants.{Replica as AtReplica}
 use Rattle.protocol.specs.Parts.{filled, startCard, cardIn, entriesIn, ifIssued, timestampOf, cardStands}
 use Rattle.protocol.specs.declared.replica.Register.{Register}
@@ -201,22 +202,15 @@ pub record ReplicaCall : Type 0 where
   pub replica : Replica
   pub output : List ℕ
 
--- "the message in front and its old bytes behind": the sender's own signature is zeros, "for the box to fill".
-abbrev pub sent : Message → List ℕ
-sent message = encode message (replicate 64 0)
-
-abbrev pub inFront : List ℕ → List ℕ → List ℕ
-inFront bytes old = bytes ++ drop (length bytes) old
-
 -- "A refusal is its number alone; record and lent bytes keep their old contents."
 abbrev pub replicaAnswers : Replica → List ℕ → Outcome Reply → ReplicaCall
 replicaAnswers replica old (accepted reply) =
-    record { answer = Send (length (sent (reply .message))); replica = reply .next; output = inFront (sent (reply .message)) old }
+    record { answer = Send (length (unsigned (reply .message))); replica = reply .next; output = inFront (unsigned (reply .message)) old }
 replicaAnswers replica old (refused number) = record { answer = Refused number; replica = replica; output = old }
 
 -- 1: "The output is shorter than 1,579 bytes."
 abbrev pub withOutput : {A : Type 0} → List ℕ → Outcome A → Outcome A
-withOutput old next = guard 1 (leb longest (length old)) next
+withOutput old next = guard 1 (roomy old) next
 
 unfoldable pub replicaCall : Replica → List ℕ → List ℕ → List ℕ → ReplicaCall
 replicaCall replica bytes verdicts old = replicaAnswers replica old (withOutput old (replicaStep replica bytes verdicts))

@@ -1,3 +1,4 @@
+pub mod Acceptance
 pub mod Card
 pub mod CardPart
 pub mod Checks

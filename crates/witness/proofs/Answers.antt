@@ -1,0 +1,94 @@
+-- Answers as numbers, so that a test compares them, and what its passing says. Assumes nothing.
+use mathlib.Core.Path.{_≡_, refl}
+use mathlib.Core.Logic.{_⊎_, inl, inr}
+use mathlib.Core.Bool.{Bool, true, false, _||_, false≢true}
+use mathlib.Core.List.{List, [], _∷_}
+use Prim.Native.Nat.{ℕ}
+use borrow.Author.Tests.{eqb-true, eqb-false, eq-eqb}
+use lib.Dec.{eqb, leb}
+use lib.ListN.{getD}
+use Rattle.base.proofs.Booleans.{and-true-both}
+use Rattle.base.specs.Outcome.{Outcome, accepted, refused}
+use Rattle.base.specs.Same.{same}
+use Rattle.base.specs.declared.timestamp.Timestamp.{Timestamp}
+use Rattle.protocol.specs.Client.{Answer, send, counted, done, ended}
+use Rattle.wire.specs.Message.{Message, body}
+
+-- ---- Tests and what they say
+
+pub no-test : {A : Type 0} → false ≡ true → A
+no-test h = absurd (false≢true h)
+
+pub either : (a b : Bool) → (a || b) ≡ true → (a ≡ true) ⊎ (b ≡ true)
+either true b h = inl refl
+either false b h = inr h
+
+pub same-true : (xs ys : List ℕ) → same xs ys ≡ true → xs ≡ ys
+unfolding same
+same-true [] [] h = refl
+same-true [] (y ∷ ys) h = no-test h
+same-true (x ∷ xs) [] h = no-test h
+same-true (x ∷ xs) (y ∷ ys) h =
+    let both = and-true-both (eqb x y) (same xs ys) h in
+    rw (eqb-true x y (both .0), same-true xs ys (both .1))
+
+pub same-self : (xs : List ℕ) → same xs xs ≡ true
+unfolding same
+same-self [] = refl
+same-self (x ∷ xs) = rw (eq-eqb x x refl) (same-self xs)
+
+-- ---- Answers
+
+-- A message counts by the bytes that its signature covers.
+unfoldable pub code : Outcome Answer → List ℕ
+code (accepted (send message)) = 0 ∷ body message
+code (accepted counted) = 1 ∷ []
+code (accepted (done timestamp card)) = 2 ∷ timestamp .count ∷ timestamp .client .0 ∷ card
+code (accepted ended) = 3 ∷ []
+code (refused number) = 4 ∷ number ∷ []
+
+other-code : {A : Type 0} (a b : ℕ) (xs ys : List ℕ) → eqb a b ≡ false → a ∷ xs ≡ b ∷ ys → A
+other-code a b xs ys test e = let heads : a ≡ b = cc in absurd (eqb-false a b test heads)
+
+pub is-sent : (answer : Outcome Answer) (message : Message) → code answer ≡ code (accepted (send message)) → (m : Message) × (answer ≡ accepted (send m)) × (body m ≡ body message)
+unfolding code
+is-sent (accepted (send m)) message e = (m, refl, cc)
+is-sent (accepted counted) message e = other-code 1 0 [] (body message) refl e
+is-sent (accepted (done timestamp card)) message e = other-code 2 0 (timestamp .count ∷ timestamp .client .0 ∷ card) (body message) refl e
+is-sent (accepted ended) message e = other-code 3 0 [] (body message) refl e
+is-sent (refused number) message e = other-code 4 0 (number ∷ []) (body message) refl e
+
+pub is-done : (answer : Outcome Answer) (timestamp : Timestamp) (card : List ℕ) → code answer ≡ code (accepted (done timestamp card)) → answer ≡ accepted (done timestamp card)
+unfolding code
+is-done (accepted (send m)) timestamp card e = other-code 0 2 (body m) (timestamp .count ∷ timestamp .client .0 ∷ card) refl e
+is-done (accepted counted) timestamp card e = other-code 1 2 [] (timestamp .count ∷ timestamp .client .0 ∷ card) refl e
+is-done (accepted (done t c)) timestamp card e =
+    let counts : t .count ≡ timestamp .count = cc in
+    let clients : t .client .0 ≡ timestamp .client .0 = cc in
+    let cards : c ≡ card = cc in
+    λ i. accepted (done (record { count = counts i; client = record { 0 = clients i } }) (cards i))
+is-done (accepted ended) timestamp card e = other-code 3 2 [] (timestamp .count ∷ timestamp .client .0 ∷ card) refl e
+is-done (refused number) timestamp card e = other-code 4 2 (number ∷ []) (timestamp .count ∷ timestamp .client .0 ∷ card) refl e
+
+pub is-accepted : (answer : Outcome Answer) (told : Answer) → code answer ≡ code (accepted told) → (a : Answer) × (answer ≡ accepted a)
+unfolding code
+is-accepted (accepted a) told e = (a, refl)
+is-accepted (refused number) (send message) e = other-code 4 0 (number ∷ []) (body message) refl e
+is-accepted (refused number) counted e = other-code 4 1 (number ∷ []) [] refl e
+is-accepted (refused number) (done timestamp card) e = other-code 4 2 (number ∷ []) (timestamp .count ∷ timestamp .client .0 ∷ card) refl e
+is-accepted (refused number) ended e = other-code 4 3 (number ∷ []) [] refl e
+
+-- What an answer's numbers say: neither done nor ended; counted.
+abbrev pub goesOn : List ℕ → Bool
+goesOn numbers = leb (getD numbers 0 0) 1
+
+abbrev pub isCounted : List ℕ → Bool
+isCounted numbers = eqb (getD numbers 0 0) 1
+
+pub is-counted : (answer : Outcome Answer) → isCounted (code answer) ≡ true → answer ≡ accepted counted
+unfolding code
+is-counted (accepted (send message)) h = no-test h
+is-counted (accepted counted) h = refl
+is-counted (accepted (done timestamp card)) h = no-test h
+is-counted (accepted ended) h = no-test h
+is-counted (refused number) h = no-test h

@@ -1,0 +1,30 @@
+-- What opens for a run to compute: a proof by `refl` names `steps`, and `digests` where SHA-256 computes too. Assumes nothing.
+use Rattle.base.specs.BigEndian.{fromBytes, toBytes}
+use Rattle.base.specs.Counting.{count}
+use Rattle.base.specs.Outcome.{guard}
+use Rattle.base.specs.Range.{within}
+use Rattle.base.specs.ReplicaSet.{has, with}
+use Rattle.base.specs.Rising.{rising}
+use Rattle.base.specs.Same.{same}
+use Rattle.protocol.specs.Client.{gathered, beginWrite, beginRead, afterStamp, onStamp, afterPrepared, onPrepared, afterWritten, afterWriteBack, onWritten, afterCard, onCard, clientStep, onMessage as onMessageAtClient}
+use Rattle.protocol.specs.Replica.{freshRegister, afterPrepare, afterWrite, replicaStep, onMessage as onMessageAtReplica}
+use Rattle.run.specs.Run.{replicaAt, clientAt, answerTo}
+use Rattle.wire.specs.Card.{table, readFields, goodMap, readCard}
+use Rattle.wire.specs.Checks.{entriesOf, all, oneEach, shaped, proven, checked, proofOutcome}
+use Rattle.wire.specs.Decode.{decode, kinds, ofKind, framed}
+use Rattle.wire.specs.Layout.{rules, place, field}
+use Rattle.wire.specs.Message.{fields, joined, body, encode}
+use Rattle.wire.specs.Proof.{entriesBytes, preparedBytes, writtenBytes, readEntries, readPrepared, readWritten}
+use Rattle.wire.specs.Sha256.{Ch, Maj, Σ₀, Σ₁, σ₀, σ₁, K, H⁰, zeros, padded, wordOf, words, nextWord, schedule, T₁, T₂, rounds, nextHash, compress, hashValue, hashBytes, sha256}
+
+unfoldable pub messages : Unit {0}
+unfolding fromBytes toBytes guard within same rules place field kinds ofKind framed decode fields joined body encode entriesBytes preparedBytes writtenBytes readEntries readPrepared readWritten
+messages = tt
+
+unfoldable pub steps : Unit {0}
+unfolding messages count has with rising entriesOf all oneEach shaped proven checked proofOutcome table readFields goodMap readCard freshRegister afterPrepare afterWrite onMessageAtReplica replicaStep gathered beginWrite beginRead afterStamp onStamp afterPrepared onPrepared afterWritten afterWriteBack onWritten afterCard onCard onMessageAtClient clientStep replicaAt clientAt answerTo
+steps = tt
+
+unfoldable pub digests : Unit {0}
+unfolding fromBytes toBytes Ch Maj Σ₀ Σ₁ σ₀ σ₁ K H⁰ zeros padded wordOf words nextWord schedule T₁ T₂ rounds nextHash compress hashValue hashBytes sha256
+digests = tt

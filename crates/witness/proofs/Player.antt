@@ -1,0 +1,212 @@
+-- A run played with all records at hand, so that each event is computed once: the answers are the run's. Assumes nothing.
+use mathlib.Core.Path.{_≡_, refl, sym, ap, subst, _∙_}
+use mathlib.Core.Logic.{_≢_}
+use mathlib.Core.Bool.{Bool, true, false, _&&_, cond}
+use mathlib.Core.List.{List, [], _∷_}
+use mathlib.Core.Option.{Option, some}
+use Prim.Native.Nat.{ℕ, zero, suc, _+_, _<_}
+use native.Mathlib.Omega.{arith}
+use borrow.Author.Tests.{eqb-true, eqb-false, ltb-true}
+use lib.Dec.{eqb, ltb}
+use lib.ListN.{length, getD, getElem?, set, length-set}
+use lib.Seq.{getD-set-same, getD-set-other}
+use Rattle.base.proofs.Booleans.{and-true-both}
+use Rattle.base.specs.Outcome.{Outcome, accepted}
+use Rattle.base.specs.Same.{same}
+use Rattle.base.specs.declared.party.ClientId.{ClientId}
+use Rattle.base.specs.declared.party.ReplicaId.{ReplicaId}
+use Rattle.protocol.specs.Client.{Answer, Turn, freshClient, beginWrite, beginRead, clientStep}
+use Rattle.protocol.specs.Replica.{Reply, freshReplica, replicaStep}
+use Rattle.protocol.specs.declared.client.Client.{Client}
+use Rattle.protocol.specs.declared.replica.Replica.{Replica}
+use Rattle.run.specs.Run.{Event, begins-write, begins-read, to-replica, to-client, nextReplica, nextClient, afterAtReplica, afterAtClient, replicaAnswer, clientAnswer, Run, event, replicaAt, clientAt, answerTo}
+use Rattle.witness.proofs.Answers.{code, same-true}
+use Rattle.witness.proofs.Story.{Line, Each, eventsOf, Told}
+
+-- ---- Records in a list, that of party i at i; `other` stands beyond the end
+
+module _ {A : Type 0} (other : A) where
+  -- The records are those that `right` says.
+  abbrev Right : List A → (ℕ → A) → Type 0
+  Right records right = (i : ℕ) → i < length records → getD records i other ≡ right i
+
+  -- Party `at` takes a step, the others keep their records.
+  steps-right : (records : List A) (right : ℕ → A) (at : ℕ) (next : A → A) → at < length records → Right records right
+      → Right (set records at (next (getD records at other))) (λ i. cond (eqb at i) (next (right i)) (right i))
+  steps-right records right at next there all i inside = go (eqb at i) refl
+    where
+      go : (is : Bool) → eqb at i ≡ is → getD (set records at (next (getD records at other))) i other ≡ cond is (next (right i)) (right i)
+      go true e =
+          subst (λ (j : ℕ). getD (set records at (next (getD records at other))) j other ≡ next (right j)) (eqb-true at i e)
+          (getD-set-same records at (next (getD records at other)) other there ∙ ap next (all at there))
+      go false e =
+          let elsewhere : i ≢ at = λ is. eqb-false at i e (sym is) in
+          getD-set-other records at i (next (getD records at other)) other elsewhere
+          ∙ all i (subst (λ (n : ℕ). i < n) (length-set records at (next (getD records at other))) inside)
+
+abbrev records : {A : Type 0} → ℕ → (ℕ → A) → List A
+records zero of = []
+records (suc n) of = of 0 ∷ records n (λ i. of (suc i))
+
+records-right : {A : Type 0} (other : A) (n : ℕ) (of : ℕ → A) → Right other (records n of) of
+records-right other zero of i inside = absurd (omega arith)
+records-right other (suc n) of zero inside = refl
+records-right other (suc n) of (suc i) inside = records-right other n (λ j. of (suc j)) i (omega arith)
+
+-- ---- The store, and an event played with it
+
+pub record Store : Type 0 where
+  pub replicas : List Replica
+  pub clients : List Client
+
+abbrev replica-of : ℕ → ReplicaId
+replica-of i = record { 0 = i }
+
+abbrev client-of : ℕ → ClientId
+client-of i = record { 0 = i }
+
+abbrev no-replica : Replica
+no-replica = freshReplica 1 (replica-of 0)
+
+abbrev no-client : Client
+no-client = freshClient 1 (client-of 0) 1
+
+abbrev replicaIn : Store → ReplicaId → Replica
+replicaIn store id = getD (store .replicas) (id .0) no-replica
+
+abbrev clientIn : Store → ClientId → Client
+clientIn store id = getD (store .clients) (id .0) no-client
+
+abbrev inStore : Store → Event → Bool
+inStore store (begins-write id card) = ltb (id .0) (length (store .clients))
+inStore store (begins-read id) = ltb (id .0) (length (store .clients))
+inStore store (to-replica id bytes verdicts) = ltb (id .0) (length (store .replicas))
+inStore store (to-client id bytes verdicts) = ltb (id .0) (length (store .clients))
+
+abbrev withReplica : Store → ReplicaId → Replica → Store
+withReplica store id next = record { replicas = set (store .replicas) (id .0) next; clients = store .clients }
+
+abbrev withClient : Store → ClientId → Client → Store
+withClient store id next = record { replicas = store .replicas; clients = set (store .clients) (id .0) next }
+
+-- The answer to an event, and the store afterwards: a `let`, so that the step is computed once for both.
+record Played : Type 0 where
+  answer : Outcome Answer
+  next : Store
+
+abbrev atReplica : Store → ReplicaId → (Replica → Outcome Reply) → Played
+atReplica store id step =
+    let before = replicaIn store id in
+    let reply = step before in
+    record { answer = replicaAnswer reply; next = withReplica store id (nextReplica before reply) }
+
+abbrev atClient : Store → ClientId → (Client → Outcome Turn) → Played
+atClient store id step =
+    let before = clientIn store id in
+    let turn = step before in
+    record { answer = clientAnswer turn; next = withClient store id (nextClient before turn) }
+
+abbrev play : Store → Event → Played
+play store (begins-write id card) = atClient store id (λ before. beginWrite before card)
+play store (begins-read id) = atClient store id beginRead
+play store (to-replica id bytes verdicts) = atReplica store id (λ before. replicaStep before bytes verdicts)
+play store (to-client id bytes verdicts) = atClient store id (λ before. clientStep before bytes verdicts)
+
+-- The lines' answers are those of their events, all at parties of the store.
+unfoldable pub plays : Store → List Line → Bool
+unfolding code
+plays store [] = true
+plays store (line ∷ lines) =
+    let played = play store (line .event) in
+    (inStore store (line .event) && same (code (played .answer)) (code (accepted (line .answer)))) && plays (played .next) lines
+
+module _ (R : Run) where
+  -- The fresh records of replicas 1 to 4 and clients 1 to 3; place 0 is no party's.
+  abbrev pub freshStore : Store
+  freshStore =
+      record {
+        replicas = records 5 (λ i. freshReplica (R .f) (replica-of i));
+        clients = records 4 (λ i. freshClient (R .f) (client-of i) (R .first-nonce (client-of i)));
+      }
+
+  -- The store has the run's records before event t.
+  record Holds (t : ℕ) (store : Store) : Type 0 where
+    replicas : Right no-replica (store .replicas) (λ i. replicaAt R (replica-of i) t)
+    clients : Right no-client (store .clients) (λ i. clientAt R (client-of i) t)
+
+  fresh-holds : Holds 0 freshStore
+  unfolding replicaAt clientAt
+  fresh-holds =
+      record {
+        replicas = records-right no-replica 5 (λ i. freshReplica (R .f) (replica-of i));
+        clients = records-right no-client 4 (λ i. freshClient (R .f) (client-of i) (R .first-nonce (client-of i)));
+      }
+
+  -- What an event leaves to a party is what the run has next.
+  next-replica : (t : ℕ) (e : Event) → event R t ≡ some e → (i : ℕ) → afterAtReplica (replica-of i) (some e) (replicaAt R (replica-of i) t) ≡ replicaAt R (replica-of i) (suc t)
+  unfolding replicaAt
+  next-replica t e found i = ap (λ (x : Option Event). afterAtReplica (replica-of i) x (replicaAt R (replica-of i) t)) (sym found)
+
+  next-client : (t : ℕ) (e : Event) → event R t ≡ some e → (i : ℕ) → afterAtClient (client-of i) (some e) (clientAt R (client-of i) t) ≡ clientAt R (client-of i) (suc t)
+  unfolding clientAt
+  next-client t e found i = ap (λ (x : Option Event). afterAtClient (client-of i) x (clientAt R (client-of i) t)) (sym found)
+
+  still-holds : (t : ℕ) (store : Store) (e : Event) → event R t ≡ some e → inStore store e ≡ true → Holds t store → Holds (suc t) (play store e .next)
+  still-holds t store (begins-write id card) found there holds =
+      record {
+        replicas = λ i inside. holds .replicas i inside ∙ next-replica t (begins-write id card) found i;
+        clients = λ i inside.
+            steps-right no-client (store .clients) (λ j. clientAt R (client-of j) t) (id .0) (λ c. nextClient c (beginWrite c card)) (ltb-true (id .0) (length (store .clients)) there) (holds .clients) i inside
+            ∙ next-client t (begins-write id card) found i;
+      }
+  still-holds t store (begins-read id) found there holds =
+      record {
+        replicas = λ i inside. holds .replicas i inside ∙ next-replica t (begins-read id) found i;
+        clients = λ i inside.
+            steps-right no-client (store .clients) (λ j. clientAt R (client-of j) t) (id .0) (λ c. nextClient c (beginRead c)) (ltb-true (id .0) (length (store .clients)) there) (holds .clients) i inside
+            ∙ next-client t (begins-read id) found i;
+      }
+  still-holds t store (to-replica id bytes verdicts) found there holds =
+      record {
+        replicas = λ i inside.
+            steps-right no-replica (store .replicas) (λ j. replicaAt R (replica-of j) t) (id .0) (λ r. nextReplica r (replicaStep r bytes verdicts)) (ltb-true (id .0) (length (store .replicas)) there) (holds .replicas) i inside
+            ∙ next-replica t (to-replica id bytes verdicts) found i;
+        clients = λ i inside. holds .clients i inside ∙ next-client t (to-replica id bytes verdicts) found i;
+      }
+  still-holds t store (to-client id bytes verdicts) found there holds =
+      record {
+        replicas = λ i inside. holds .replicas i inside ∙ next-replica t (to-client id bytes verdicts) found i;
+        clients = λ i inside.
+            steps-right no-client (store .clients) (λ j. clientAt R (client-of j) t) (id .0) (λ c. nextClient c (clientStep c bytes verdicts)) (ltb-true (id .0) (length (store .clients)) there) (holds .clients) i inside
+            ∙ next-client t (to-client id bytes verdicts) found i;
+      }
+
+  answers-right : (t : ℕ) (store : Store) (e : Event) → inStore store e ≡ true → Holds t store → answerTo R t (some e) ≡ play store e .answer
+  unfolding answerTo
+  answers-right t store (begins-write id card) there holds = ap (λ (c : Client). clientAnswer (beginWrite c card)) (sym (holds .clients (id .0) (ltb-true (id .0) (length (store .clients)) there)))
+  answers-right t store (begins-read id) there holds = ap (λ (c : Client). clientAnswer (beginRead c)) (sym (holds .clients (id .0) (ltb-true (id .0) (length (store .clients)) there)))
+  answers-right t store (to-replica id bytes verdicts) there holds =
+      ap (λ (r : Replica). replicaAnswer (replicaStep r bytes verdicts)) (sym (holds .replicas (id .0) (ltb-true (id .0) (length (store .replicas)) there)))
+  answers-right t store (to-client id bytes verdicts) there holds =
+      ap (λ (c : Client). clientAnswer (clientStep c bytes verdicts)) (sym (holds .clients (id .0) (ltb-true (id .0) (length (store .clients)) there)))
+
+  each-played : (t : ℕ) (store : Store) (lines : List Line) → ((i : ℕ) → event R (t + i) ≡ getElem? (eventsOf lines) i) → Holds t store → plays store lines ≡ true
+      → Each (λ s line. code (answerTo R s (some (line .event))) ≡ code (accepted (line .answer))) t lines
+  unfolding plays
+  each-played t store [] events holds test = tt
+  each-played t store (line ∷ lines) events holds test =
+      let both = and-true-both (inStore store (line .event) && same (code (play store (line .event) .answer)) (code (accepted (line .answer)))) (plays (play store (line .event) .next) lines) test in
+      let here = and-true-both (inStore store (line .event)) (same (code (play store (line .event) .answer)) (code (accepted (line .answer)))) (both .0) in
+      let now : t + 0 ≡ t = omega arith in
+      let found : event R t ≡ some (line .event) = subst (λ (s : ℕ). event R s ≡ some (line .event)) now (events 0) in (
+        ap code (answers-right t store (line .event) (here .0) holds) ∙ same-true (code (play store (line .event) .answer)) (code (accepted (line .answer))) (here .1),
+        each-played (suc t) (play store (line .event) .next) lines (λ i. let then : t + suc i ≡ suc t + i = omega arith in subst (λ (s : ℕ). event R s ≡ getElem? (eventsOf lines) i) then (events (suc i)))
+            (still-holds t store (line .event) found (here .0) holds) (both .1),
+      )
+
+  pub played : (lines : List Line) → R .events ≡ eventsOf lines → plays freshStore lines ≡ true → Told R lines
+  played lines told test =
+      record {
+        events = told;
+        answers = each-played 0 freshStore lines (λ i. let now : 0 + i ≡ i = omega arith in subst (λ (s : ℕ). event R s ≡ getElem? (eventsOf lines) i) (sym now) (ap (λ (es : List Event). getElem? es i) told)) fresh-holds test;
+      }

@@ -1,0 +1,378 @@
+-- A run told line by line, each event with its answer: by tests that compute, a told run meets the premises. Assumes nothing.
+use mathlib.Core.Path.{_≡_, refl, sym, ap, subst, _∙_}
+use mathlib.Core.Logic.{_⊎_, inl, inr}
+use mathlib.Core.Bool.{Bool, true, false, _&&_, _||_, not}
+use mathlib.Core.List.{List, [], _∷_}
+use mathlib.Core.Option.{Option, none, some}
+use Prim.Native.Nat.{ℕ, zero, suc, _+_, _≤_, _<_}
+use native.Mathlib.Nat.{zero-add}
+use native.Mathlib.Omega.{arith}
+use borrow.Author.Tests.{eqb-true, eq-eqb, ltb-true, lt-leb}
+use lib.Dec.{eqb, leb, ltb, lit<, lit≤}
+use lib.ListN.{getElem?}
+use Rattle.base.proofs.Booleans.{and-true-both}
+use Rattle.base.proofs.Range.{inside, bounds}
+use Rattle.base.specs.BigEndian.{Bytes}
+use Rattle.base.specs.Outcome.{Outcome, accepted, refused}
+use Rattle.base.specs.Range.{within}
+use Rattle.base.specs.Same.{same}
+use Rattle.base.specs.declared.party.ClientId.{ClientId}
+use Rattle.base.specs.declared.party.ReplicaId.{ReplicaId}
+use Rattle.base.specs.declared.timestamp.Timestamp.{Timestamp}
+use Rattle.protocol.specs.Client.{Answer, send, counted, done, ended}
+use Rattle.run.specs.Claims.{GoesOn}
+use Rattle.run.specs.Premises.{Signature, signaturesOf, TrueVerdicts, TrueFor, TrueAt, cardOf, Accepted, CardOfRun}
+use Rattle.run.specs.Run.{Event, begins-write, begins-read, to-replica, to-client, Party, replica, client, partyOf, HasBytes, CorrectIn, Run, event, answerTo, answerAt, At, Sent}
+use Rattle.wire.specs.Decode.{decode}
+use Rattle.wire.specs.Message.{Message, body}
+use Rattle.wire.specs.Sha256.{sha256}
+use Rattle.wire.specs.declared.message.Party.the-variants.{Replica as AtReplica, Client as AtClient}
+use Rattle.witness.proofs.Answers.{no-test, either, same-true, code, is-sent, is-done, is-accepted, goesOn, isCounted, is-counted}
+use Rattle.witness.proofs.Cards.{Known, isKnown, isKnownIfThere, is-one, rightDigests, differentDigests, different}
+
+-- What happened, and what was answered.
+pub record Line : Type 0 where
+  pub event : Event
+  pub answer : Answer
+
+abbrev pub eventsOf : List Line → List Event
+eventsOf [] = []
+eventsOf (line ∷ lines) = line .event ∷ eventsOf lines
+
+-- ---- What holds of each line, at its time
+
+abbrev pub Each : (ℕ → Line → Type 0) → ℕ → List Line → Type 0
+Each P t [] = Unit {0}
+Each P t (line ∷ lines) = P t line × Each P (suc t) lines
+
+abbrev pub each : (ℕ → Line → Bool) → ℕ → List Line → Bool
+each test t [] = true
+each test t (line ∷ lines) = test t line && each test (suc t) lines
+
+each-from : (P : ℕ → Line → Type 0) (t i : ℕ) (lines : List Line) (line : Line) → Each P t lines → getElem? lines i ≡ some line → P (t + i) line
+each-from P t i [] line all found = let z : _≡_ {A = ℕ} 0 1 = cc in absurd (omega arith)
+each-from P t zero (first ∷ lines) line all found =
+    let here : first ≡ line = cc in
+    let now : t ≡ t + 0 = omega arith in
+    subst (λ (l : Line). P (t + 0) l) here (subst (λ (s : ℕ). P s first) now (all .0))
+each-from P t (suc i) (first ∷ lines) line all found =
+    let now : suc t + i ≡ t + suc i = omega arith in
+    subst (λ (s : ℕ). P s line) now (each-from P (suc t) i lines line (all .1) found)
+
+each-at : (P : ℕ → Line → Type 0) (t : ℕ) (lines : List Line) (line : Line) → Each P 0 lines → getElem? lines t ≡ some line → P t line
+each-at P t lines line all found = subst (λ (s : ℕ). P s line) (zero-add t) (each-from P 0 t lines line all found)
+
+tested : (test : ℕ → Line → Bool) (t : ℕ) (lines : List Line) → each test t lines ≡ true → Each (λ s line. test s line ≡ true) t lines
+tested test t [] h = tt
+tested test t (line ∷ lines) h =
+    let both = and-true-both (test t line) (each test (suc t) lines) h in
+    (both .0, tested test (suc t) lines (both .1))
+
+each-tested : (test : ℕ → Line → Bool) (t : ℕ) (lines : List Line) (line : Line) → each test 0 lines ≡ true → getElem? lines t ≡ some line → test t line ≡ true
+each-tested test t lines line h found = each-at (λ s l. test s l ≡ true) t lines line (tested test 0 lines h) found
+
+-- A line's event.
+abbrev eventIn : Option Line → Option Event
+eventIn none = none
+eventIn (some line) = some (line .event)
+
+event-in : (t : ℕ) (lines : List Line) → getElem? (eventsOf lines) t ≡ eventIn (getElem? lines t)
+event-in t [] = refl
+event-in zero (line ∷ lines) = refl
+event-in (suc t) (line ∷ lines) = event-in t lines
+
+lineOf : (lines : List Line) (t : ℕ) (e : Event) → getElem? (eventsOf lines) t ≡ some e → (line : Line) × (getElem? lines t ≡ some line) × (line .event ≡ e)
+lineOf lines t e found = go (getElem? lines t) refl
+  where
+    go : (l : Option Line) → getElem? lines t ≡ l → (line : Line) × (getElem? lines t ≡ some line) × (line .event ≡ e)
+    go none at =
+        let nothing : none ≡ some e = sym (ap eventIn at) ∙ sym (event-in t lines) ∙ found in
+        let z : _≡_ {A = ℕ} 0 1 = cc in absurd (omega arith)
+    go (some line) at =
+        let there : some (line .event) ≡ some e = sym (ap eventIn at) ∙ sym (event-in t lines) ∙ found in
+        (line, at, cc)
+
+-- ---- A run from its lines: its bytes are bytes, and its events are at correct parties
+
+unfoldable pub allBytes : List ℕ → Bool
+allBytes [] = true
+allBytes (b ∷ bytes) = ltb b 256 && allBytes bytes
+
+pub all-bytes : (bytes : List ℕ) → allBytes bytes ≡ true → Bytes bytes
+unfolding allBytes
+all-bytes [] h i = omega arith
+all-bytes (b ∷ bytes) h zero = ltb-true b 256 (and-true-both (ltb b 256) (allBytes bytes) h .0)
+all-bytes (b ∷ bytes) h (suc i) = all-bytes bytes (and-true-both (ltb b 256) (allBytes bytes) h .1) i
+
+unfoldable pub hasBytes : Event → Bool
+unfolding allBytes
+hasBytes (begins-write id card) = allBytes card
+hasBytes (begins-read id) = true
+hasBytes (to-replica id bytes verdicts) = allBytes bytes
+hasBytes (to-client id bytes verdicts) = allBytes bytes
+
+pub has-bytes : (e : Event) → hasBytes e ≡ true → HasBytes e
+unfolding hasBytes
+has-bytes (begins-write id card) h = all-bytes card h
+has-bytes (begins-read id) h = tt
+has-bytes (to-replica id bytes verdicts) h = all-bytes bytes h
+has-bytes (to-client id bytes verdicts) h = all-bytes bytes h
+
+abbrev pub correctIn : (ReplicaId → Bool) → (ClientId → Bool) → Party → Bool
+correctIn replicas clients (replica id) = replicas id
+correctIn replicas clients (client id) = clients id
+
+pub correct-in : (replicas : ReplicaId → Bool) (clients : ClientId → Bool) (party : Party) → correctIn replicas clients party ≡ true → CorrectIn replicas clients party
+correct-in replicas clients (replica id) h = h
+correct-in replicas clients (client id) h = h
+
+from-correct : (replicas : ReplicaId → Bool) (clients : ClientId → Bool) (party : Party) → CorrectIn replicas clients party → correctIn replicas clients party ≡ true
+from-correct replicas clients (replica id) h = h
+from-correct replicas clients (client id) h = h
+
+-- f = 1. The replicas 1 to r and the clients 1 to c are correct, with first nonces 1.
+abbrev pub replicasTo : ℕ → ReplicaId → Bool
+replicasTo r id = within 1 r (id .0)
+
+abbrev pub clientsTo : ℕ → ClientId → Bool
+clientsTo c id = within 1 c (id .0)
+
+abbrev pub wellTold : ℕ → ℕ → ℕ → Line → Bool
+wellTold r c t line = hasBytes (line .event) && correctIn (replicasTo r) (clientsTo c) (partyOf (line .event))
+
+module _ (r c : ℕ) (at-most-four : r ≤ 4) (at-most-64 : c ≤ 64) (lines : List Line) (good : each (wellTold r c) 0 lines ≡ true) where
+  pub well-told : (t : ℕ) (e : Event) → getElem? (eventsOf lines) t ≡ some e → (hasBytes e ≡ true) × (correctIn (replicasTo r) (clientsTo c) (partyOf e) ≡ true)
+  well-told t e found =
+      let at = lineOf lines t e found in
+      let test = each-tested (wellTold r c) t lines (at .0) good (at .1) in
+      let here : wellTold r c t (record { event = e; answer = at .0 .answer }) ≡ true = subst (λ (x : Event). wellTold r c t (record { event = x; answer = at .0 .answer }) ≡ true) (at .2) test in
+      and-true-both (hasBytes e) (correctIn (replicasTo r) (clientsTo c) (partyOf e)) here
+
+  abbrev pub told : Run
+  told =
+      record {
+        f = 1;
+        correct-replica = replicasTo r;
+        correct-client = clientsTo c;
+        first-nonce = λ id. 1;
+        events = eventsOf lines;
+        f-in-range = inside 1 5 1 (lit≤ tt) (lit≤ tt);
+        replicas-in-range = λ id h. let b = bounds 1 r (id .0) h in inside 1 4 (id .0) (b .0) (omega arith);
+        clients-in-range = λ id h. let b = bounds 1 c (id .0) h in (inside 1 64 (id .0) (b .0) (omega arith), lit≤ tt, lit< tt);
+        have-bytes = λ t e found. has-bytes e (well-told t e found .0);
+        at-correct = λ t e found. correct-in (replicasTo r) (clientsTo c) (partyOf e) (well-told t e found .1);
+      }
+
+-- ---- Who sent what
+
+abbrev pub sameParty : Party → Party → Bool
+sameParty (replica a) (replica b) = eqb (a .0) (b .0)
+sameParty (replica a) (client b) = false
+sameParty (client a) (replica b) = false
+sameParty (client a) (client b) = eqb (a .0) (b .0)
+
+same-party : (p q : Party) → sameParty p q ≡ true → p ≡ q
+same-party (replica a) (replica b) h = let e = eqb-true (a .0) (b .0) h in λ i. replica (record { 0 = e i })
+same-party (replica a) (client b) h = no-test h
+same-party (client a) (replica b) h = no-test h
+same-party (client a) (client b) h = let e = eqb-true (a .0) (b .0) h in λ i. client (record { 0 = e i })
+
+same-party-self : (p : Party) → sameParty p p ≡ true
+same-party-self (replica a) = eq-eqb (a .0) (a .0) refl
+same-party-self (client a) = eq-eqb (a .0) (a .0) refl
+
+abbrev sends : List ℕ → Bool → Answer → Bool
+sends bytes true (send message) = same (body message) bytes
+sends bytes true counted = false
+sends bytes true (done timestamp card) = false
+sends bytes true ended = false
+sends bytes false answer = false
+
+message-sent : (bytes : List ℕ) (by : Bool) (answer : Answer) → sends bytes by answer ≡ true → (by ≡ true) × ((message : Message) × (answer ≡ send message) × (body message ≡ bytes))
+message-sent bytes true (send message) h = (refl, (message, refl, same-true (body message) bytes h))
+message-sent bytes true counted h = no-test h
+message-sent bytes true (done timestamp card) h = no-test h
+message-sent bytes true ended h = no-test h
+message-sent bytes false answer h = no-test h
+
+abbrev sentIn : Party → List ℕ → Option Line → Bool
+sentIn party bytes none = false
+sentIn party bytes (some line) = sends bytes (sameParty (partyOf (line .event)) party) (line .answer)
+
+-- Whether one of the first t lines is the party's and sends these bytes.
+sentBefore : List Line → Party → List ℕ → ℕ → Bool
+sentBefore lines party bytes zero = false
+sentBefore lines party bytes (suc t) = sentIn party bytes (getElem? lines t) || sentBefore lines party bytes t
+
+-- ---- Tests of a told run
+
+-- The party's answers between two events are good.
+abbrev pub goodBetween : (List ℕ → Bool) → Party → ℕ → ℕ → ℕ → Line → Bool
+goodBetween good party begun finished t line =
+    leb t begun || (leb finished t || (not (sameParty (partyOf (line .event)) party) || good (code (accepted (line .answer)))))
+
+abbrev pub AllBetween : List Line → (List ℕ → Bool) → Party → ℕ → ℕ → Type 0
+AllBetween lines good party begun finished = each (goodBetween good party begun finished) 0 lines ≡ true
+
+module _ (R : Run) (lines : List Line) where
+  -- The run has no other cards than these.
+  abbrev pub NoOtherCards : List Known → Type 0
+  NoOtherCards cards = each (λ t line. isKnownIfThere cards (cardOf R (some (line .event)))) 0 lines ≡ true
+
+  -- A verdict is true: it is not 1, or its signer is faulty, or sent the bytes earlier.
+  isTrue : ℕ → Signature → ℕ → Bool
+  isTrue t signature verdict =
+      not (eqb verdict 1) || (not (correctIn (R .correct-replica) (R .correct-client) (signature .signer)) || sentBefore lines (signature .signer) (signature .covers) t)
+
+  unfoldable pub trueVerdicts : ℕ → List Signature → List ℕ → Bool
+  unfolding isTrue sentBefore
+  trueVerdicts t [] verdicts = true
+  trueVerdicts t (signature ∷ signatures) [] = true
+  trueVerdicts t (signature ∷ signatures) (verdict ∷ verdicts) = isTrue t signature verdict && trueVerdicts t signatures verdicts
+
+  abbrev trueFor : ℕ → List ℕ → List ℕ → Outcome Message → Bool
+  trueFor t bytes verdicts (accepted message) = trueVerdicts t (signaturesOf bytes message) verdicts
+  trueFor t bytes verdicts (refused number) = true
+
+  abbrev trueEvent : ℕ → Event → Bool
+  trueEvent t (begins-write id card) = true
+  trueEvent t (begins-read id) = true
+  trueEvent t (to-replica id bytes verdicts) = trueFor t bytes verdicts (decode AtReplica bytes)
+  trueEvent t (to-client id bytes verdicts) = trueFor t bytes verdicts (decode AtClient bytes)
+
+  -- Each verdict of the run is true.
+  abbrev pub AllTrue : Type 0
+  AllTrue = each (λ t line. trueEvent t (line .event)) 0 lines ≡ true
+
+-- Event t is answered with this message, by the bytes that its signature covers.
+abbrev pub Sends : Run → ℕ → Message → Type 0
+Sends R t message = (m : Message) × (answerAt R t ≡ accepted (send m)) × (body m ≡ body message)
+
+-- The lines are those of the run: its events, and the answers that it gives.
+pub record Told (R : Run) (lines : List Line) : Type 0 where
+  pub events : R .events ≡ eventsOf lines
+  pub answers : Each (λ t line. code (answerTo R t (some (line .event))) ≡ code (accepted (line .answer))) 0 lines
+
+module _ (R : Run) (lines : List Line) (told : Told R lines) where
+  event-is : (t : ℕ) → event R t ≡ eventIn (getElem? lines t)
+  event-is t = ap (λ (es : List Event). getElem? es t) (told .events) ∙ event-in t lines
+
+  event-told : (t : ℕ) (line : Line) → getElem? lines t ≡ some line → event R t ≡ some (line .event)
+  event-told t line at = event-is t ∙ ap eventIn at
+
+  pub answer-told : (t : ℕ) (line : Line) → getElem? lines t ≡ some line → code (answerAt R t) ≡ code (accepted (line .answer))
+  answer-told t line at =
+      ap (λ (e : Option Event). code (answerTo R t e)) (event-told t line at)
+      ∙ each-at (λ s l. code (answerTo R s (some (l .event))) ≡ code (accepted (l .answer))) t lines line (told .answers) at
+
+  later : {party : Party} {bytes : List ℕ} {t : ℕ} → Sent R party bytes t → Sent R party bytes (suc t)
+  later s =
+      record { time = s .time; earlier = omega (arith, s .earlier); by = s .by; message = s .message; answered = s .answered; same-bytes = s .same-bytes }
+
+  sent : (party : Party) (bytes : List ℕ) (t : ℕ) → sentBefore lines party bytes t ≡ true → Sent R party bytes t
+  unfolding sentBefore
+  sent party bytes zero h = no-test h
+  sent party bytes (suc t) h = go (sent party bytes t) (either (sentIn party bytes (getElem? lines t)) (sentBefore lines party bytes t) h)
+    where
+      here : (line : Option Line) → getElem? lines t ≡ line → sentIn party bytes line ≡ true → Sent R party bytes (suc t)
+      here none at test = no-test test
+      here (some line) at test =
+          let m = message-sent bytes (sameParty (partyOf (line .event)) party) (line .answer) test in
+          let s = is-sent (answerAt R t) (m .1 .0) (answer-told t line at ∙ ap (λ (a : Answer). code (accepted a)) (m .1 .1)) in
+          record {
+            time = t;
+            earlier = omega arith;
+            by = (line .event, event-told t line at, same-party (partyOf (line .event)) party (m .0));
+            message = s .0;
+            answered = s .1;
+            same-bytes = s .2 ∙ m .1 .2;
+          }
+
+      go : (sentBefore lines party bytes t ≡ true → Sent R party bytes t) → (sentIn party bytes (getElem? lines t) ≡ true) ⊎ (sentBefore lines party bytes t ≡ true) → Sent R party bytes (suc t)
+      go before (inl test) = here (getElem? lines t) refl test
+      go before (inr test) = later (before test)
+
+  pub true-for-all : (t : ℕ) (signatures : List Signature) (verdicts : List ℕ) → trueVerdicts R lines t signatures verdicts ≡ true → TrueVerdicts R t signatures verdicts
+  unfolding trueVerdicts TrueVerdicts
+  true-for-all t [] verdicts h = tt
+  true-for-all t (signature ∷ signatures) [] h = tt
+  true-for-all t (signature ∷ signatures) (verdict ∷ verdicts) h =
+      let both = and-true-both (isTrue R lines t signature verdict) (trueVerdicts R lines t signatures verdicts) h in (
+        λ one correct.
+            sent (signature .signer) (signature .covers) t
+            (rw (eq-eqb verdict 1 one, from-correct (R .correct-replica) (R .correct-client) (signature .signer) correct) at (both .0)),
+        true-for-all t signatures verdicts (both .1),
+      )
+
+  true-for : (t : ℕ) (bytes verdicts : List ℕ) (outcome : Outcome Message) → trueFor R lines t bytes verdicts outcome ≡ true → TrueFor R t bytes verdicts outcome
+  true-for t bytes verdicts (accepted message) h = true-for-all t (signaturesOf bytes message) verdicts h
+  true-for t bytes verdicts (refused number) h = tt
+
+  true-event : (t : ℕ) (e : Event) → trueEvent R lines t e ≡ true → TrueAt R t (some e)
+  unfolding TrueAt
+  true-event t (begins-write id card) h = tt
+  true-event t (begins-read id) h = tt
+  true-event t (to-replica id bytes verdicts) h = true-for t bytes verdicts (decode AtReplica bytes) h
+  true-event t (to-client id bytes verdicts) h = true-for t bytes verdicts (decode AtClient bytes) h
+
+  pub true-verdicts : AllTrue R lines → (t : ℕ) → TrueAt R t (event R t)
+  unfolding TrueAt
+  true-verdicts all t = subst (TrueAt R t) (sym (event-is t)) (go (getElem? lines t) refl)
+    where
+      go : (line : Option Line) → getElem? lines t ≡ line → TrueAt R t (eventIn line)
+      go none at = tt
+      go (some line) at = true-event t (line .event) (each-tested (λ s l. trueEvent R lines s (l .event)) t lines line all at)
+
+  known : (cards : List Known) (card : List ℕ) → NoOtherCards R lines cards → CardOfRun R card → isKnown cards card ≡ true
+  known cards card no-other of-run = go (getElem? lines (of-run .time)) refl
+    where
+      carried : (line : Option Line) → getElem? lines (of-run .time) ≡ line → cardOf R (eventIn line) ≡ some card
+      carried line at = sym (ap (cardOf R) (event-is (of-run .time) ∙ ap eventIn at)) ∙ of-run .carried
+
+      go : (line : Option Line) → getElem? lines (of-run .time) ≡ line → isKnown cards card ≡ true
+      go none at =
+          let nothing : none ≡ some card = carried none at in
+          let z : _≡_ {A = ℕ} 0 1 = cc in absurd (omega arith)
+      go (some line) at =
+          let test = each-tested (λ s l. isKnownIfThere cards (cardOf R (some (l .event)))) (of-run .time) lines line no-other at in
+          subst (λ (c : Option (List ℕ)). isKnownIfThere cards c ≡ true) (carried (some line) at) test
+
+  pub different-digests : (cards : List Known) → NoOtherCards R lines cards → rightDigests cards ≡ true → differentDigests cards ≡ true → (card card′ : List ℕ) → CardOfRun R card → CardOfRun R card′ → sha256 card ≡ sha256 card′ → card ≡ card′
+  different-digests cards no-other right all card card′ of-run of-run′ e =
+      different cards card card′ right all (is-one cards card (known cards card no-other of-run)) (is-one cards card′ (known cards card′ no-other of-run′)) e
+
+  -- ---- Between two events
+
+  between : (good : List ℕ → Bool) (party : Party) (begun finished : ℕ) → AllBetween lines good party begun finished → (t : ℕ) → begun < t → t < finished → At R t party → good (code (answerAt R t)) ≡ true
+  between good party begun finished all t after before at = ap good (answer-told t (line .0) (line .1)) ∙ tested-here
+    where
+      line : (line : Line) × (getElem? lines t ≡ some line) × (line .event ≡ at .0)
+      line = lineOf lines t (at .0) (sym (ap (λ (es : List Event). getElem? es t) (told .events)) ∙ at .1)
+
+      by-party : sameParty (partyOf (line .0 .event)) party ≡ true
+      by-party = ap (λ (e : Event). sameParty (partyOf e) party) (line .2) ∙ ap (λ (p : Party). sameParty p party) (at .2) ∙ same-party-self party
+
+      tested-here : good (code (accepted (line .0 .answer))) ≡ true
+      tested-here =
+          let test = each-tested (goodBetween good party begun finished) t lines (line .0) all (line .1) in
+          rw (lt-leb t begun after, lt-leb finished t before, by-party) at test
+
+  pub none-between : (id : ClientId) (begun finished : ℕ) → AllBetween lines goesOn (client id) begun finished → (t : ℕ) → begun < t → t < finished → At R t (client id) → GoesOn R t
+  unfolding code
+  none-between id begun finished all t after before at =
+      let goes-on = between goesOn (client id) begun finished all t after before at in
+      record { not-done = λ timestamp card is. no-test (sym (ap goesOn (ap code is)) ∙ goes-on); not-ended = λ is. no-test (sym (ap goesOn (ap code is)) ∙ goes-on) }
+
+  pub only-counted : (id : ClientId) (begun finished : ℕ) → AllBetween lines isCounted (client id) begun finished → (t : ℕ) → begun < t → t < finished → At R t (client id) → answerAt R t ≡ accepted counted
+  only-counted id begun finished all t after before at = is-counted (answerAt R t) (between isCounted (client id) begun finished all t after before at)
+
+  -- ---- What a line says of the run
+
+  pub sends-told : (t : ℕ) (e : Event) (message : Message) → getElem? lines t ≡ some (record { event = e; answer = send message }) → Sends R t message
+  sends-told t e message at = is-sent (answerAt R t) message (answer-told t (record { event = e; answer = send message }) at)
+
+  pub done-told : (t : ℕ) (e : Event) (timestamp : Timestamp) (card : List ℕ) → getElem? lines t ≡ some (record { event = e; answer = done timestamp card }) → answerAt R t ≡ accepted (done timestamp card)
+  done-told t e timestamp card at = is-done (answerAt R t) timestamp card (answer-told t (record { event = e; answer = done timestamp card }) at)
+
+  pub accepted-told : (t : ℕ) (line : Line) → getElem? lines t ≡ some line → Accepted R t
+  accepted-told t line at = is-accepted (answerAt R t) (line .answer) (answer-told t line at)
