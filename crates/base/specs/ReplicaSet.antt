@@ -1,6 +1,6 @@
 -- Sets of replicas as masks of 16 bits: replica i is bit i - 1.
 use mathlib.Core.Bool.{Bool, _&&_, cond}
-use Prim.Native.Nat.{ℕ, _-_, _/_, _%_, _*_, _^_}
+use Prim.Native.Nat.{ℕ, _-_, _/_, _%_, _^_}
 use lib.Bits.{bitOr}
 use lib.Dec.{leb, eqb}
 use Rattle.base.specs.Counting.{count}

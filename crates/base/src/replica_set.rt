@@ -1,9 +1,6 @@
 // Sets of replicas, a bit for each: replica 1 is the lowest.
 use crate::party::ReplicaId;
 ghost use mathlib.Core.Path.{_≡_};
-ghost use lib.Dec.{leb};
-ghost use Rattle.base.specs.Party.{replicaCount, quorumSize};
-ghost use Rattle.base.specs.Counting.{count};
 ghost use Rattle.base.specs.ReplicaSet.{empty, has, with, size, isQuorum};
 
 pub struct ReplicaSet(pub u16);

@@ -1,12 +1,12 @@
 -- Document 01, "A holder": what a replica makes of a message.
 use mathlib.Core.Bool.{Bool, true, false, _&&_, _||_, cond}
-use mathlib.Core.List.{List, [], _∷_, _++_}
+use mathlib.Core.List.{List, _++_}
 use mathlib.Core.Option.{Option, none, some}
 use Prim.Native.Nat.{ℕ, _+_, _-_, _*_, _/_, max}
 use lib.Dec.{eqb, leb, ltb}
 use lib.ListN.{length, getD, take, drop, set, replicate}
 use Rattle.base.specs.Outcome.{Outcome, accepted, refused, guard, _>>=_}
-use Rattle.base.specs.Party.{isClient, replicaSetup}
+use Rattle.base.specs.Party.{isClient}
 use Rattle.base.specs.Same.{same}
 use Rattle.base.specs.Timestamp.{number, ofNumber, start, successor}
 use Rattle.base.specs.declared.party.ClientId.{ClientId}
@@ -18,7 +18,7 @@ use Rattle.wire.specs.Message.{Message, READ-STAMP, PREPARE, WRITE, READ, STAMP
 use Rattle.wire.specs.Proof.{PreparedProof, WrittenProof, entriesBytes}
 use Rattle.wire.specs.Writing.{unsigned, roomy, inFront}
 use Rattle.wire.specs.declared.message.Party.the-variants.{Replica as AtReplica}
-use Rattle.protocol.specs.Parts.{filled, startCard, cardIn, entriesIn, ifIssued, timestampOf, cardStands}
+use Rattle.protocol.specs.Parts.{filled, cardIn, entriesIn, ifIssued, timestampOf, cardStands}
 use Rattle.protocol.specs.declared.replica.Register.{Register}
 use Rattle.protocol.specs.declared.replica.Replica.{Replica}
 use Rattle.protocol.specs.declared.replica.ReplicaAnswer.{ReplicaAnswer}

@@ -1,8 +1,8 @@
 -- Document 01, "Messages": where the fields of a message stand, "by their own lengths" alone.
-use mathlib.Core.Bool.{Bool, cond}
+use mathlib.Core.Bool.{cond}
 use mathlib.Core.List.{List, [], _∷_}
 use Prim.Native.Nat.{ℕ, zero, suc, _+_, _-_, _*_}
-use lib.ListN.{length, getD, take, drop}
+use lib.ListN.{getD, take, drop}
 use Rattle.base.specs.BigEndian.{fromBytes}
 use Rattle.base.specs.BitMap.{bit}
 

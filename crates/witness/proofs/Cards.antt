@@ -8,7 +8,8 @@ use Prim.Native.Nat.{ℕ}
 use Rattle.base.proofs.Booleans.{and-true-both}
 use Rattle.base.specs.Same.{same}
 use Rattle.wire.specs.Sha256.{sha256}
-use Rattle.witness.proofs.Answers.{no-test, either, same-true, same-self}
+use Rattle.base.proofs.Same.{same-equal, same-itself}
+use Rattle.witness.proofs.Answers.{no-test, either}
 
 -- A card and its digest.
 pub record Known : Type 0 where
@@ -40,7 +41,7 @@ is-one (first ∷ others) card h = go (is-one others card) (either (same (first 
   where
     go : (isKnown others card ≡ true → IsOne others card) → (same (first .card) card ≡ true) ⊎ (isKnown others card ≡ true) → IsOne (first ∷ others) card
     go behind (inl is) =
-        record { known = first; is = same-true (first .card) card is; passes = λ test all. and-true-both (test first) (eachKnown test others) all .0 }
+        record { known = first; is = same-equal (first .card) card is; passes = λ test all. and-true-both (test first) (eachKnown test others) all .0 }
     go behind (inr is) =
         let one = behind is in
         record { known = one .known; is = one .is; passes = λ test all. one .passes test (and-true-both (test first) (eachKnown test others) all .1) }
@@ -60,9 +61,9 @@ differentDigests cards = eachKnown (λ known. eachKnown (differ known) cards) ca
 pub different : (cards : List Known) (card card′ : List ℕ) → rightDigests cards ≡ true → differentDigests cards ≡ true → IsOne cards card → IsOne cards card′ → sha256 card ≡ sha256 card′ → card ≡ card′
 unfolding rightDigests differentDigests
 different cards card card′ right all one one′ e =
-    let digest-of : sha256 (one .known .card) ≡ one .known .digest = same-true (sha256 (one .known .card)) (one .known .digest) (one .passes (λ known. same (sha256 (known .card)) (known .digest)) right) in
-    let digest-of′ : sha256 (one′ .known .card) ≡ one′ .known .digest = same-true (sha256 (one′ .known .card)) (one′ .known .digest) (one′ .passes (λ known. same (sha256 (known .card)) (known .digest)) right) in
+    let digest-of : sha256 (one .known .card) ≡ one .known .digest = same-equal (sha256 (one .known .card)) (one .known .digest) (one .passes (λ known. same (sha256 (known .card)) (known .digest)) right) in
+    let digest-of′ : sha256 (one′ .known .card) ≡ one′ .known .digest = same-equal (sha256 (one′ .known .card)) (one′ .known .digest) (one′ .passes (λ known. same (sha256 (known .card)) (known .digest)) right) in
     let digests : one .known .digest ≡ one′ .known .digest = sym digest-of ∙ ap sha256 (one .is) ∙ e ∙ sym (ap sha256 (one′ .is)) ∙ digest-of′ in
     let test : differ (one .known) (one′ .known) ≡ true = one′ .passes (differ (one .known)) (one .passes (λ known. eachKnown (differ known) cards) all) in
-    let one-digest : same (one .known .digest) (one′ .known .digest) ≡ true = rw digests (same-self (one′ .known .digest)) in
-    sym (one .is) ∙ same-true (one .known .card) (one′ .known .card) (rw one-digest at test) ∙ one′ .is
+    let one-digest : same (one .known .digest) (one′ .known .digest) ≡ true = rw digests (same-itself (one′ .known .digest)) in
+    sym (one .is) ∙ same-equal (one .known .card) (one′ .known .card) (rw one-digest at test) ∙ one′ .is

@@ -20,7 +20,8 @@ use Rattle.protocol.specs.Replica.{Reply, freshReplica, replicaStep}
 use Rattle.protocol.specs.declared.client.Client.{Client}
 use Rattle.protocol.specs.declared.replica.Replica.{Replica}
 use Rattle.run.specs.Run.{Event, begins-write, begins-read, to-replica, to-client, nextReplica, nextClient, afterAtReplica, afterAtClient, replicaAnswer, clientAnswer, Run, event, replicaAt, clientAt, answerTo}
-use Rattle.witness.proofs.Answers.{code, same-true}
+use Rattle.base.proofs.Same.{same-equal}
+use Rattle.witness.proofs.Answers.{code}
 use Rattle.witness.proofs.Story.{Line, Each, eventsOf, Told}
 
 -- ---- Records in a list, that of party i at i; `other` stands beyond the end
@@ -199,7 +200,7 @@ module _ (R : Run) where
       let here = and-true-both (inStore store (line .event)) (same (code (play store (line .event) .answer)) (code (accepted (line .answer)))) (both .0) in
       let now : t + 0 ≡ t = omega arith in
       let found : event R t ≡ some (line .event) = subst (λ (s : ℕ). event R s ≡ some (line .event)) now (events 0) in (
-        ap code (answers-right t store (line .event) (here .0) holds) ∙ same-true (code (play store (line .event) .answer)) (code (accepted (line .answer))) (here .1),
+        ap code (answers-right t store (line .event) (here .0) holds) ∙ same-equal (code (play store (line .event) .answer)) (code (accepted (line .answer))) (here .1),
         each-played (suc t) (play store (line .event) .next) lines (λ i. let then : t + suc i ≡ suc t + i = omega arith in subst (λ (s : ℕ). event R s ≡ getElem? (eventsOf lines) i) then (events (suc i)))
             (still-holds t store (line .event) found (here .0) holds) (both .1),
       )

@@ -27,7 +27,8 @@ use Rattle.wire.specs.Decode.{decode}
 use Rattle.wire.specs.Message.{Message, body}
 use Rattle.wire.specs.Sha256.{sha256}
 use Rattle.wire.specs.declared.message.Party.the-variants.{Replica as AtReplica, Client as AtClient}
-use Rattle.witness.proofs.Answers.{no-test, either, same-true, code, is-sent, is-done, is-accepted, goesOn, isCounted, is-counted}
+use Rattle.base.proofs.Same.{same-equal}
+use Rattle.witness.proofs.Answers.{no-test, either, code, is-sent, is-done, is-accepted, goesOn, isCounted, is-counted}
 use Rattle.witness.proofs.Cards.{Known, isKnown, isKnownIfThere, is-one, rightDigests, differentDigests, different}
 
 -- What happened, and what was answered.
@@ -189,7 +190,7 @@ sends bytes true ended = false
 sends bytes false answer = false
 
 message-sent : (bytes : List ℕ) (by : Bool) (answer : Answer) → sends bytes by answer ≡ true → (by ≡ true) × ((message : Message) × (answer ≡ send message) × (body message ≡ bytes))
-message-sent bytes true (send message) h = (refl, (message, refl, same-true (body message) bytes h))
+message-sent bytes true (send message) h = (refl, (message, refl, same-equal (body message) bytes h))
 message-sent bytes true counted h = no-test h
 message-sent bytes true (done timestamp card) h = no-test h
 message-sent bytes true ended h = no-test h

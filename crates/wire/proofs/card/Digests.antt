@@ -1,5 +1,5 @@
 -- What a card's check says of it, and that a good card has a digest. Assumes nothing.
-use mathlib.Core.Path.{_≡_, refl, ap, sym, _∙_}
+use mathlib.Core.Path.{_≡_, refl, ap}
 use mathlib.Core.Bool.{Bool, true, false}
 use mathlib.Core.List.{List}
 use mathlib.Core.Option.{Option, none, some}
@@ -7,10 +7,10 @@ use Prim.Native.Nat.{ℕ, _≤_}
 use native.Mathlib.Omega.{arith}
 use borrow.Author.Tests.{le-leb}
 use lib.ListN.{length}
-use Rattle.base.specs.Outcome.{Outcome, accepted, refused, guard}
+use Rattle.base.specs.Outcome.{accepted}
 use Rattle.base.proofs.Outcome.{guard-passes, guard-refuses}
 use Rattle.wire.specs.Card.{Fields, readCard, isSome, isCard, checkCard, cardOutcome}
-use Rattle.wire.specs.Sha256.{sha256, answer, digestOf, longestMessage}
+use Rattle.wire.specs.Sha256.{answer, digestOf, longestMessage}
 use Rattle.wire.specs.declared.card.CardCheck.{CardCheck}
 use Rattle.wire.specs.declared.card.CardCheck.the-variants.{Good, Refused}
 use Rattle.wire.proofs.card.RoundTrip.{at-most-17}

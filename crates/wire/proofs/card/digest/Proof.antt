@@ -1,5 +1,5 @@
 -- `wire::card::digest` meets its contract. Assumes nothing.
-use mathlib.Core.Path.{_≡_, ap, _∙_}
+use mathlib.Core.Path.{ap, _∙_}
 use Rattle.wire.specs.declared.sha256.Digest.{Digest}
 use Rattle.wire.proofs.card.Digests.{checked-good, checked-refused, good-digest}
 use borrow.Author.Needs.{needs}
