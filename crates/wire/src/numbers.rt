@@ -7,7 +7,7 @@ ghost use Rattle.base.specs.BigEndian.{fromBytes};
 ghost use Rattle.base.specs.Timestamp.{ofNumber};
 ghost use Rattle.wire.specs.Places.{between, Room};
 
-pub fn byte_in(bytes: &[u8], at: usize, end: usize) -> u8
+pub(super) fn byte_in(bytes: &[u8], at: usize, end: usize) -> u8
     requires { ⌜ Room (now bytes) 1 at end ⌝ }
     ensures { λ r. ⌜ r ≡ fromBytes (take 1 (between (now (bytes .entry)) at end)) ⌝ }
 {
@@ -24,7 +24,7 @@ fn four_at(bytes: &[u8], at: usize) -> u32
     base::big_endian::from_four(bytes[at], bytes[at + 1], bytes[at + 2], bytes[at + 3])
 }
 
-pub fn eight_in(bytes: &[u8], at: usize, end: usize) -> u64
+pub(super) fn eight_in(bytes: &[u8], at: usize, end: usize) -> u64
     requires { ⌜ Room (now bytes) 8 at end ⌝ }
     ensures { λ r. ⌜ r ≡ fromBytes (take 8 (between (now (bytes .entry)) at end)) ⌝ }
 {
@@ -34,7 +34,7 @@ pub fn eight_in(bytes: &[u8], at: usize, end: usize) -> u64
     four_at(bytes, at) as u64 * 0x1_0000_0000 + four_at(bytes, at + 4) as u64
 }
 
-pub fn timestamp_in(bytes: &[u8], at: usize, end: usize) -> Timestamp
+pub(super) fn timestamp_in(bytes: &[u8], at: usize, end: usize) -> Timestamp
     requires { ⌜ Room (now bytes) 5 at end ⌝ }
     ensures { λ r. ⌜ r ≡ ofNumber (fromBytes (take 5 (between (now (bytes .entry)) at end))) ⌝ }
 {

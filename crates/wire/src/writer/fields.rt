@@ -9,7 +9,7 @@ ghost use Rattle.base.specs.Timestamp.{number};
 ghost use Rattle.wire.specs.Writing.{Put, zeros, sizedCard, keptCard};
 
 // The first `count` of some bytes.
-pub fn put_bytes(out: &mut [u8], at: usize, bytes: &[u8], count: usize) -> usize
+pub(super) fn put_bytes(out: &mut [u8], at: usize, bytes: &[u8], count: usize) -> usize
     requires { ⌜ (count ≤ length (now bytes)) × (at + count ≤ length (now out)) ⌝ }
     ensures { λ r. ⌜ Put (now (out .entry)) at (take count (now (bytes .entry))) count r (now (out .exit)) ⌝ }
 {
@@ -21,7 +21,7 @@ pub fn put_bytes(out: &mut [u8], at: usize, bytes: &[u8], count: usize) -> usize
     at + i
 }
 
-pub fn put_byte(out: &mut [u8], at: usize, byte: u8) -> usize
+pub(super) fn put_byte(out: &mut [u8], at: usize, byte: u8) -> usize
     requires { ⌜ at < length (now out) ⌝ }
     ensures { λ r. ⌜ Put (now (out .entry)) at (byte ∷ []) 1 r (now (out .exit)) ⌝ }
 {
@@ -29,14 +29,14 @@ pub fn put_byte(out: &mut [u8], at: usize, byte: u8) -> usize
     at + 1
 }
 
-pub fn at_most(most: u8, count: u8) -> u8
+pub(super) fn at_most(most: u8, count: u8) -> u8
     ensures { λ r. ⌜ r ≡ min count most ⌝ }
 {
     if count < most { count } else { most }
 }
 
 // The bit map, the kind and the sender.
-pub fn put_head(out: &mut [u8], map: u16, kind: u8, sender: u8) -> usize
+pub(super) fn put_head(out: &mut [u8], map: u16, kind: u8, sender: u8) -> usize
     requires { ⌜ 4 ≤ length (now out) ⌝ }
     ensures { λ r. ⌜ Put (now (out .entry)) 0 (toBytes 2 map ++ (toBytes 1 kind ++ toBytes 1 sender)) 4 r (now (out .exit)) ⌝ }
 {
@@ -67,7 +67,7 @@ fn nonce_bytes(nonce: u64) -> [u8; 8]
     ]
 }
 
-pub fn put_nonce(out: &mut [u8], at: usize, nonce: u64) -> usize
+pub(super) fn put_nonce(out: &mut [u8], at: usize, nonce: u64) -> usize
     requires { ⌜ at + 8 ≤ length (now out) ⌝ }
     ensures { λ r. ⌜ Put (now (out .entry)) at (toBytes 8 nonce) 8 r (now (out .exit)) ⌝ }
 {
@@ -75,7 +75,7 @@ pub fn put_nonce(out: &mut [u8], at: usize, nonce: u64) -> usize
     put_bytes(out, at, &bytes, 8)
 }
 
-pub fn put_timestamp(out: &mut [u8], at: usize, timestamp: Timestamp) -> usize
+pub(super) fn put_timestamp(out: &mut [u8], at: usize, timestamp: Timestamp) -> usize
     requires { ⌜ at + 5 ≤ length (now out) ⌝ }
     ensures { λ r. ⌜ Put (now (out .entry)) at (toBytes 5 (number timestamp)) 5 r (now (out .exit)) ⌝ }
 {
@@ -83,7 +83,7 @@ pub fn put_timestamp(out: &mut [u8], at: usize, timestamp: Timestamp) -> usize
     put_bytes(out, at, &bytes, 5)
 }
 
-pub fn put_timestamp_and_digest(
+pub(super) fn put_timestamp_and_digest(
     out: &mut [u8],
     at: usize,
     timestamp: Timestamp,
@@ -97,7 +97,7 @@ pub fn put_timestamp_and_digest(
 }
 
 // The sender's own signature: zeros, for the signing box to fill.
-pub fn put_signature(out: &mut [u8], at: usize) -> usize
+pub(super) fn put_signature(out: &mut [u8], at: usize) -> usize
     requires { ⌜ at + 64 ≤ length (now out) ⌝ }
     ensures { λ r. ⌜ Put (now (out .entry)) at zeros 64 r (now (out .exit)) ⌝ }
 {
@@ -106,7 +106,7 @@ pub fn put_signature(out: &mut [u8], at: usize) -> usize
 }
 
 // The client addressed, and the signature behind it.
-pub fn put_addressed(out: &mut [u8], at: usize, client: u8) -> usize
+pub(super) fn put_addressed(out: &mut [u8], at: usize, client: u8) -> usize
     requires { ⌜ at + 65 ≤ length (now out) ⌝ }
     ensures { λ r. ⌜ Put (now (out .entry)) at (toBytes 1 client ++ zeros) 65 r (now (out .exit)) ⌝ }
 {
@@ -115,7 +115,7 @@ pub fn put_addressed(out: &mut [u8], at: usize, client: u8) -> usize
 }
 
 // A card behind its length.
-pub fn put_card(out: &mut [u8], at: usize, card: &[u8; 17], card_length: u8) -> usize
+pub(super) fn put_card(out: &mut [u8], at: usize, card: &[u8; 17], card_length: u8) -> usize
     requires { ⌜ at + 18 ≤ length (now out) ⌝ }
     ensures { λ r. ⌜ Put (now (out .entry)) at (sizedCard (keptCard «card_length» (now (card .entry)))) 18 r (now (out .exit)) ⌝ }
 {

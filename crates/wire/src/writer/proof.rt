@@ -26,7 +26,7 @@ fn put_entries(out: &mut [u8], at: usize, entry_count: u8, entries: &[u8; 715]) 
     put_bytes(out, behind, entries, ENTRY * count as usize)
 }
 
-pub fn put_prepared<'a>(
+pub(super) fn put_prepared<'a>(
     out: &mut [u8],
     at: usize,
     timestamp: Timestamp,
@@ -62,13 +62,13 @@ fn is_missing(timestamp: Timestamp) -> bool
 }
 
 // The bit of a proof in the bit map.
-pub fn bit_unless_missing(bit: u16, timestamp: Timestamp) -> u16
+pub(super) fn bit_unless_missing(bit: u16, timestamp: Timestamp) -> u16
     ensures { λ r. ⌜ (r ≡ cond (missing timestamp) 0 bit) × (r ≤ bit) ⌝ }
 {
     if is_missing(timestamp) { 0 } else { bit }
 }
 
-pub fn put_prepared_unless_missing<'a>(
+pub(super) fn put_prepared_unless_missing<'a>(
     out: &mut [u8],
     at: usize,
     timestamp: Timestamp,
@@ -85,7 +85,7 @@ pub fn put_prepared_unless_missing<'a>(
     put_prepared(out, at, timestamp, digest, entry_count, entries)
 }
 
-pub fn put_written_unless_missing(
+pub(super) fn put_written_unless_missing(
     out: &mut [u8],
     at: usize,
     timestamp: Timestamp,
