@@ -1,11 +1,14 @@
 // Reads messages in hex, one a line, behind `h ` where a replica is handed it and `d ` where a client is, and prints what the reader finds.
+// Behind `hF ` or `dF `, F a fault bound, verdicts follow the message, and it prints what tests 2 to 11 make of both.
 use base::timestamp::Timestamp;
 use libc::STDIN_FILENO;
 use libc::STDOUT_FILENO;
+use text::Digit;
 use wire::message::Fields;
 use wire::message::Party;
 use wire::message::Reading;
-ghost use Prim.Native.Nat.{_<_};
+ghost use Prim.Native.Nat.{_<_, _≤_};
+ghost use lib.ListN.{length};
 
 const NONCE: u16 = 0x004;
 
@@ -158,13 +161,82 @@ fn answer(party: Party, digits: &[u8]) {
     }
 }
 
+fn print_judgement(party: Party, f: u8, bytes: &[u8], verdicts: &[u8]) {
+    match wire::acceptance::accept(party, f, bytes, verdicts) {
+        Reading::Message(_) => text::print(b"accepted"),
+        Reading::Refused(number) => {
+            text::print(b"refused ");
+            print_byte(number);
+        }
+    }
+    text::print(b"\n");
+}
+
+// Where the first space stands, or the end.
+fn space(line: &[u8]) -> usize
+    ensures { λ r. ⌜ r ≤ length (now (line .entry)) ⌝ }
+{
+    let mut at = 0;
+    while at < line.len() {
+        if line[at] == b' ' {
+            return at;
+        }
+        at += 1;
+    }
+    at
+}
+
+// A message and its verdicts, both in hex, a space between them.
+fn judge(party: Party, f: u8, digits: &[u8]) {
+    let end = space(digits);
+    if digits.len() <= end {
+        text::print(b"unread\n");
+        return;
+    }
+    let behind = end + 1;
+    let mut bytes = [0u8; 4096];
+    let n = text::read_hex(&digits[0..end], &mut bytes);
+    let marks = &digits[behind..];
+    let mut verdicts = [0u8; 64];
+    let k = text::read_hex(marks, &mut verdicts);
+    if end != 2 * n {
+        text::print(b"unread\n");
+        return;
+    }
+    if marks.len() != 2 * k {
+        text::print(b"unread\n");
+        return;
+    }
+    print_judgement(party, f, &bytes[..n], &verdicts[..k]);
+}
+
+fn judge_line(line: &[u8]) {
+    if line.len() < 3 {
+        text::print(b"unread\n");
+        return;
+    }
+    let Digit::Value(f) = text::hex_value(line[1]) else {
+        text::print(b"unread\n");
+        return;
+    };
+    if line[2] != b' ' {
+        text::print(b"unread\n");
+        return;
+    }
+    match line[0] {
+        b'h' => judge(Party::Replica, f, &line[3..]),
+        b'd' => judge(Party::Client, f, &line[3..]),
+        _ => text::print(b"unread\n"),
+    }
+}
+
 fn answer_line(line: &[u8]) {
     if line.len() < 2 {
         text::print(b"unread\n");
         return;
     }
     if line[1] != b' ' {
-        text::print(b"unread\n");
+        judge_line(line);
         return;
     }
     match line[0] {

@@ -1,3 +1,5 @@
+pub mod Accepted
+pub mod Accepting
 pub mod Carrying
 pub mod Digest
 pub mod FieldParts

@@ -119,3 +119,11 @@ module _ (f : ℕ) where
   pub written-missing : writtenOutcome f [] none ≡ accepted tt
   unfolding guard all
   written-missing = refl
+
+  -- 9 to 11 alone, and what follows.
+  pub proven-next : {A : Type 0} (message : Message) (verdicts : List ℕ) (next : Outcome A) → proven f message verdicts next ≡ (proven f message verdicts (accepted (tt {0})) >>= λ good. next)
+  unfolding proven
+  proven-next message verdicts next =
+      let s = ifThere (λ (proof : PreparedProof). shaped f (proof .entries)) (preparedOf message) && ifThere (λ (proof : WrittenProof). shaped f (proof .entries)) (writtenOf message) in
+      let t = ifThere issued (timestampOf message) && (ifThere (λ (proof : PreparedProof). issued (proof .timestamp)) (preparedOf message) && ifThere (λ (proof : WrittenProof). issued (proof .timestamp)) (writtenOf message)) in
+      sym (part-next s (genuine verdicts) t next)

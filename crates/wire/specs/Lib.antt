@@ -1,4 +1,5 @@
 pub mod Acceptance
+pub mod Accepting
 pub mod Card
 pub mod CardPart
 pub mod Checks

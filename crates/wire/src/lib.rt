@@ -1,4 +1,5 @@
 // SHA-256, cards, and the message reader and writer: the lower crate on whose contracts replica and client rest.
+pub mod acceptance;
 pub mod card;
 pub mod card_part;
 pub mod checks;

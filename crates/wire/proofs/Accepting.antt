@@ -1,0 +1,332 @@
+-- Tests 6 to 11 on the bytes of a message: its sender, its verdicts, its proofs where they stand. Assumes nothing.
+use mathlib.Core.Path.{_≡_, refl, sym, ap, subst, _∙_}
+use mathlib.Core.Bool.{Bool, true, false, cond, _&&_}
+use mathlib.Core.List.{List, [], _∷_, _++_}
+use mathlib.Core.Option.{Option, none, some}
+use Prim.Native.Nat.{ℕ, suc, _+_, _-_, _*_, _/_, _≤_}
+use native.Mathlib.Omega.{arith}
+use borrow.Author.Tests.{eq-eqb, ne-eqb}
+use lib.Dec.{eqb, leb}
+use lib.ListN.{length, getD, take, drop, length-append, take-append-drop, length-drop}
+use lib.Seq.{length-take-le, take-add, take-all, drop-at, drop-drop}
+use Rattle.base.specs.BigEndian.{fromBytes}
+use Rattle.base.specs.BitMap.{bit}
+use Rattle.base.specs.Outcome.{Outcome, accepted, refused, guard, _>>=_}
+use Rattle.base.specs.Timestamp.{number, ofNumber, isIssued}
+use Rattle.base.specs.declared.timestamp.Timestamp.{Timestamp}
+use Rattle.base.proofs.Timestamps.{number-ofNumber}
+use Rattle.wire.specs.Acceptance.{senderOf, inItsRange}
+use Rattle.wire.specs.Accepting.{opened, entryCount, signatureCount, proofBetween, Ready}
+use Rattle.wire.specs.Checks.{preparedOf, writtenOf, timestampOf, ifThere, entriesIfThere, entriesOf, oneEach, ownGenuine, issued, all, proven, proofOutcome}
+use Rattle.wire.specs.Decode.{decode, reading, fieldsIn, framed, timestampIn, readingOutcome}
+use Rattle.wire.specs.Judging.{entriesIn, proofCheckOutcome, smallest, preparedOutcome, writtenOutcome}
+use Rattle.wire.specs.Layout.{rules, mapIn, place, field}
+use Rattle.wire.specs.Message.{Message}
+use Rattle.wire.specs.Places.{Room, between}
+use Rattle.wire.specs.Proof.{PreparedProof, WrittenProof, preparedFrom, writtenFrom, readEntries}
+use Rattle.wire.specs.declared.checks.ProofCheck.{ProofCheck}
+use Rattle.wire.specs.declared.message.Fields.{Fields}
+use Rattle.wire.specs.declared.message.Party.{Party}
+use Rattle.wire.specs.declared.message.Reading.{Reading}
+use Rattle.wire.specs.declared.message.Reading.the-variants.{Message as Found, Refused}
+use Rattle.wire.proofs.FieldParts.{room}
+use Rattle.wire.proofs.Framed.{Framed, framed-passes, framed-accepted, place-present, place-absent, length-field}
+use Rattle.wire.proofs.Parsed.{preparedAt, writtenAt, messageOf, prepared-whole, written-whole, parsed, decode-accepted, decode-refused}
+use Rattle.wire.proofs.ProofBytes.{length-read}
+use Rattle.wire.proofs.Proven.{proven-smallest, prepared-missing, written-missing}
+use Rattle.wire.proofs.Windows.{front-some}
+use Rattle.wire.proofs.Rows.{Taken, read-stamp, prepare, write, read, stamp, prepared, written, card}
+
+-- The timestamp field, if it is there.
+abbrev pub timestampAt : List ℕ → Option ℕ
+timestampAt bytes = cond (bit (mapIn bytes) 3) (some (timestampIn bytes)) none
+
+-- What the tests look at, in the message and in its bytes.
+pub record Seen (bytes : List ℕ) (message : Message) : Type 0 where
+  pub sender : senderOf message ≡ fromBytes (field bytes 1)
+  pub prepared : preparedOf message ≡ preparedAt bytes
+  pub written : writtenOf message ≡ writtenAt bytes
+  pub timestamp : timestampOf message ≡ timestampAt bytes
+
+module _ (bytes : List ℕ) where
+  no-prepared : bit (mapIn bytes) 6 ≡ false → none ≡ preparedAt bytes
+  no-prepared e = rw e
+
+  no-written : bit (mapIn bytes) 7 ≡ false → none ≡ writtenAt bytes
+  no-written e = rw e
+
+  no-timestamp : bit (mapIn bytes) 3 ≡ false → none ≡ timestampAt bytes
+  no-timestamp e = rw e
+
+  with-timestamp : bit (mapIn bytes) 3 ≡ true → some (timestampIn bytes) ≡ timestampAt bytes
+  with-timestamp e = rw e
+
+  seen-taken : {kind : ℕ} {party : Party} (t : Taken (mapIn bytes) kind party) → Seen bytes (messageOf t bytes)
+  seen-taken (read-stamp e) = record { sender = refl; prepared = no-prepared (cc); written = no-written (cc); timestamp = no-timestamp (cc) }
+  seen-taken (prepare e) = record { sender = refl; prepared = refl; written = refl; timestamp = with-timestamp (cc) }
+  seen-taken (write e) = record { sender = refl; prepared = let set : bit (mapIn bytes) 6 ≡ true = cc in rw set; written = no-written (cc); timestamp = no-timestamp (cc) }
+  seen-taken (read e) = record { sender = refl; prepared = no-prepared (cc); written = no-written (cc); timestamp = no-timestamp (cc) }
+  seen-taken (stamp e) = record { sender = refl; prepared = refl; written = no-written (cc); timestamp = no-timestamp (cc) }
+  seen-taken (prepared e) = record { sender = refl; prepared = no-prepared (cc); written = no-written (cc); timestamp = with-timestamp (cc) }
+  seen-taken (written e) = record { sender = refl; prepared = no-prepared (cc); written = no-written (cc); timestamp = with-timestamp (cc) }
+  seen-taken (card e) = record { sender = refl; prepared = refl; written = no-written (cc); timestamp = no-timestamp (cc) }
+
+pub seen : (party : Party) (bytes : List ℕ) (message : Message) → decode party bytes ≡ accepted message → Seen bytes message
+seen party bytes message e =
+    let p = parsed party bytes (fieldsIn bytes) (decode-accepted party bytes message e) in
+    let same : messageOf (p .taken) bytes ≡ message = cc (p .decodes) in
+    subst (λ (m : Message). Seen bytes m) same (seen-taken bytes (p .taken))
+
+-- Where the proofs stand, by the fields.
+pub record Placed (bytes : List ℕ) (fields : Fields) : Type 0 where
+  pub whole : Framed bytes
+  pub map : fields .map ≡ mapIn bytes
+  pub sender : fields .sender ≡ fromBytes (field bytes 1)
+  pub timestamp : fields .timestamp ≡ ofNumber (timestampIn bytes)
+  pub at : fields .prepared ≡ place bytes 6
+  pub next : fields .written ≡ place bytes 7
+  pub signed : 1 ≤ fields .signature
+  pub end : fields .signature - cond (bit (fields .map) 8) 1 0 ≡ place bytes 8
+  pub first : Room bytes 38 (place bytes 6) (place bytes 7)
+  pub second : Room bytes 6 (place bytes 7) (place bytes 8)
+
+last-place : (bytes : List ℕ) → place bytes 9 - cond (bit (mapIn bytes) 8) 1 0 ≡ place bytes 8
+last-place bytes = go (bit (mapIn bytes) 8) refl
+  where
+    go : (t : Bool) → bit (mapIn bytes) 8 ≡ t → place bytes 9 - cond t 1 0 ≡ place bytes 8
+    go true e = let h : place bytes 9 ≡ place bytes 8 + 1 = unfold rules in place-present bytes 8 e in omega arith
+    go false e = let h = place-absent bytes 8 e in omega arith
+
+pub placed : (bytes : List ℕ) (fields : Fields) → framed bytes (accepted (fieldsIn bytes)) ≡ accepted fields → Placed bytes fields
+unfolding fieldsIn
+placed bytes fields e =
+    let found = framed-accepted bytes (accepted (fieldsIn bytes)) fields e in
+    let same : fieldsIn bytes ≡ fields = cc (found .1) in
+    subst (λ (fs : Fields). Placed bytes fs) same (own (found .0))
+  where
+    own : Framed bytes → Placed bytes (fieldsIn bytes)
+    own f =
+        record {
+          whole = f;
+          map = refl;
+          sender = refl;
+          timestamp = refl;
+          at = refl;
+          next = refl;
+          signed = unfold place in omega arith;
+          end = last-place bytes;
+          first = unfold rules in room bytes 6 38 (omega arith) (λ l. omega arith) f;
+          second = unfold rules in room bytes 7 6 (omega arith) (λ l. omega arith) f;
+        }
+
+pub placed-reading : (party : Party) (bytes : List ℕ) (fields : Fields) → reading party bytes ≡ accepted fields → Placed bytes fields
+placed-reading party bytes fields e =
+    let p = parsed party bytes fields e in
+    placed bytes fields (framed-passes bytes (accepted (fieldsIn bytes)) (p .framed) ∙ ap accepted (sym (p .same)))
+
+module _ (bytes : List ℕ) (fields : Fields) (p : Placed bytes fields) where
+  pub first-room : Room bytes 38 (fields .prepared) (fields .written)
+  first-room = rw (p .at, p .next) (p .first)
+
+  module _ (end : ℕ) (ends : end ≡ fields .signature - cond (bit (fields .map) 8) 1 0) where
+    pub second-room : Room bytes 6 (fields .written) end
+    second-room = rw (ends, p .end, p .next) (p .second)
+
+    pub all-signatures : (a b : ℕ) → a ≡ entryCount (fields .prepared) 38 (fields .written) → b ≡ entryCount (fields .written) 6 end → 1 + a + b ≡ signatureCount bytes
+    unfolding signatureCount
+    all-signatures a b first second = rw (first, second, ends, p .end, p .at, p .next)
+
+-- Entries behind a head whose last byte is their number.
+module _ (h : ℕ) (part : List ℕ) (whole : suc h + 65 * getD part h 0 ≡ length part) where
+  count-behind : length (drop (suc h) part) / 65 ≡ getD part h 0
+  count-behind = rw length-drop (omega arith)
+
+  entries-behind : entriesIn (drop (suc h) part) ≡ readEntries (getD part h 0) (drop (suc h) part)
+  entries-behind = rw count-behind
+
+none-left : (verdicts : List ℕ) → length verdicts ≡ 0 → verdicts ≡ []
+none-left [] e = refl
+none-left (v ∷ verdicts) e = absurd (omega arith)
+
+module _ (bytes : List ℕ) (f : Framed bytes) where
+  -- The entries of a proof are as many as fit between its places.
+  prepared-count : length (entriesIfThere (λ (proof : PreparedProof). proof .entries) (preparedAt bytes)) ≡ entryCount (place bytes 6) 38 (place bytes 7)
+  prepared-count = go (bit (mapIn bytes) 6) refl
+    where
+      go : (t : Bool) → bit (mapIn bytes) 6 ≡ t
+          → length (entriesIfThere (λ (proof : PreparedProof). proof .entries) (cond t (some (preparedFrom (field bytes 6))) none)) ≡ entryCount (place bytes 6) 38 (place bytes 7)
+      go true e =
+          let part = field bytes 6 in
+          let whole = prepared-whole bytes f e in
+          let size = length-field bytes f 6 (omega arith) in
+          rw (length-read (getD part 37 0) (drop 38 part)) (omega arith)
+      go false e = let same = place-absent bytes 6 e in omega arith
+
+  written-count : length (entriesIfThere (λ (proof : WrittenProof). proof .entries) (writtenAt bytes)) ≡ entryCount (place bytes 7) 6 (place bytes 8)
+  written-count = go (bit (mapIn bytes) 7) refl
+    where
+      go : (t : Bool) → bit (mapIn bytes) 7 ≡ t
+          → length (entriesIfThere (λ (proof : WrittenProof). proof .entries) (cond t (some (writtenFrom (field bytes 7))) none)) ≡ entryCount (place bytes 7) 6 (place bytes 8)
+      go true e =
+          let part = field bytes 7 in
+          let whole = written-whole bytes f e in
+          let size = length-field bytes f 7 (omega arith) in
+          rw (length-read (getD part 5 0) (drop 6 part)) (omega arith)
+      go false e = let same = place-absent bytes 7 e in omega arith
+
+  -- A proof with its verdicts, by its places.
+  prepared-between : (n : ℕ) (verdicts : List ℕ) → length verdicts ≡ entryCount (place bytes 6) 38 (place bytes 7)
+      → proofBetween n bytes (place bytes 6) 38 (place bytes 7) verdicts ≡ preparedOutcome n verdicts (preparedAt bytes)
+  unfolding proofBetween
+  prepared-between n verdicts size = go (bit (mapIn bytes) 6) refl
+    where
+      go : (t : Bool) → bit (mapIn bytes) 6 ≡ t
+          → cond (eqb (place bytes 6) (place bytes 7)) (accepted tt) (proofOutcome n (entriesIn (drop 38 (between bytes (place bytes 6) (place bytes 7)))) verdicts (fromBytes (take 5 (between bytes (place bytes 6) (place bytes 7)))))
+          ≡ preparedOutcome n verdicts (cond t (some (preparedFrom (field bytes 6))) none)
+      go true e =
+          let part = field bytes 6 in
+          let whole = prepared-whole bytes f e in
+          let long = length-field bytes f 6 (omega arith) in
+          let apart : place bytes 6 ≡ place bytes 7 → ⊥ = λ s. omega arith in
+          let same : field bytes 6 ≡ between bytes (place bytes 6) (place bytes 7) = unfold field in refl in
+          rw (ne-eqb (place bytes 6) (place bytes 7) apart, ← same, entries-behind 37 part whole)
+      go false e =
+          let same = place-absent bytes 6 e in
+          let nothing : verdicts ≡ [] = none-left verdicts (omega arith) in
+          rw (eq-eqb (place bytes 6) (place bytes 7) (omega arith), nothing) (sym (prepared-missing n))
+
+  written-between : (n : ℕ) (verdicts : List ℕ) → length verdicts ≡ entryCount (place bytes 7) 6 (place bytes 8)
+      → proofBetween n bytes (place bytes 7) 6 (place bytes 8) verdicts ≡ writtenOutcome n verdicts (writtenAt bytes)
+  unfolding proofBetween
+  written-between n verdicts size = go (bit (mapIn bytes) 7) refl
+    where
+      go : (t : Bool) → bit (mapIn bytes) 7 ≡ t
+          → cond (eqb (place bytes 7) (place bytes 8)) (accepted tt) (proofOutcome n (entriesIn (drop 6 (between bytes (place bytes 7) (place bytes 8)))) verdicts (fromBytes (take 5 (between bytes (place bytes 7) (place bytes 8)))))
+          ≡ writtenOutcome n verdicts (cond t (some (writtenFrom (field bytes 7))) none)
+      go true e =
+          let part = field bytes 7 in
+          let whole = written-whole bytes f e in
+          let long = length-field bytes f 7 (omega arith) in
+          let apart : place bytes 7 ≡ place bytes 8 → ⊥ = λ s. omega arith in
+          let same : field bytes 7 ≡ between bytes (place bytes 7) (place bytes 8) = unfold field in refl in
+          rw (ne-eqb (place bytes 7) (place bytes 8) apart, ← same, entries-behind 5 part whole)
+      go false e =
+          let same = place-absent bytes 7 e in
+          let nothing : verdicts ≡ [] = none-left verdicts (omega arith) in
+          rw (eq-eqb (place bytes 7) (place bytes 8) (omega arith), nothing) (sym (written-missing n))
+
+-- Test 7 by the places of the proofs.
+pub one-each : (party : Party) (bytes : List ℕ) (message : Message) (verdicts : List ℕ) → decode party bytes ≡ accepted message → Framed bytes
+    → oneEach message verdicts ≡ (eqb (length verdicts) (signatureCount bytes) && all (λ v. leb v 1) verdicts)
+unfolding oneEach entriesOf signatureCount
+one-each party bytes message verdicts e f =
+    let s = seen party bytes message e in
+    let first = prepared-count bytes f in
+    let second = written-count bytes f in
+    let p = entriesIfThere (λ (proof : PreparedProof). proof .entries) (preparedAt bytes) in
+    let w = entriesIfThere (λ (proof : WrittenProof). proof .entries) (writtenAt bytes) in
+    let count : 1 + length (p ++ w) ≡ 1 + entryCount (place bytes 6) 38 (place bytes 7) + entryCount (place bytes 7) 6 (place bytes 8) = rw length-append (omega arith) in
+    rw (s .prepared, s .written, count)
+
+-- Tests 9 to 11 by the places of the proofs.
+good-again : (x : Outcome (Unit {0})) → (x >>= λ good. accepted tt) ≡ x
+good-again (accepted tt) = refl
+good-again (refused n) = refl
+
+own-timestamp : (bytes : List ℕ) → cond (bit (mapIn bytes) 3) (isIssued (ofNumber (timestampIn bytes))) true ≡ ifThere issued (timestampAt bytes)
+own-timestamp bytes = go (bit (mapIn bytes) 3)
+  where
+    go : (t : Bool) → cond t (isIssued (ofNumber (timestampIn bytes))) true ≡ ifThere issued (cond t (some (timestampIn bytes)) none)
+    go true = refl
+    go false = refl
+
+pub judged : (f : ℕ) (party : Party) (bytes : List ℕ) (message : Message) (first second : List ℕ) → decode party bytes ≡ accepted message → Framed bytes
+    → length first ≡ entryCount (place bytes 6) 38 (place bytes 7)
+    → length second ≡ entryCount (place bytes 7) 6 (place bytes 8)
+    → smallest (smallest (proofBetween f bytes (place bytes 6) 38 (place bytes 7) first) (proofBetween f bytes (place bytes 7) 6 (place bytes 8) second)) (guard 11 (cond (bit (mapIn bytes) 3) (isIssued (ofNumber (timestampIn bytes))) true) (accepted tt))
+    ≡ proven f message (first ++ second) (accepted tt)
+judged f party bytes message first second e whole first-size second-size =
+    let s = seen party bytes message e in
+    let found = smallest (smallest (preparedOutcome f first (preparedAt bytes)) (writtenOutcome f second (writtenAt bytes))) (guard 11 (ifThere issued (timestampAt bytes)) (accepted tt)) in
+    rw (prepared-between bytes whole f first first-size, written-between bytes whole f second second-size, own-timestamp bytes, proven-smallest f message first second (accepted (tt {0})), s .prepared, s .written, s .timestamp)
+    (sym (good-again found))
+
+-- Tests 2 to 8 by the bytes.
+pub opened-read : (party : Party) (f : ℕ) (bytes verdicts : List ℕ) (fields : Fields) → reading party bytes ≡ accepted fields
+    → opened party f bytes verdicts ≡ guard 6 (inItsRange party f (fields .sender)) (guard 7 (eqb (length verdicts) (signatureCount bytes) && all (λ v. leb v 1) verdicts) (guard 8 (ownGenuine verdicts) (accepted fields)))
+unfolding opened
+opened-read party f bytes verdicts fields e =
+    let p = parsed party bytes fields e in
+    let m = messageOf (p .taken) bytes in
+    let s = seen party bytes m (p .decodes) in
+    let at = placed-reading party bytes fields e in
+    rw (p .decodes, s .sender, ← at .sender, one-each party bytes m verdicts (p .decodes) (p .framed), p .same)
+
+pub opened-unread : (party : Party) (f : ℕ) (bytes verdicts : List ℕ) (n : ℕ) → reading party bytes ≡ refused n → opened party f bytes verdicts ≡ refused n
+unfolding opened
+opened-unread party f bytes verdicts n e = rw (decode-refused party bytes n e)
+
+-- What an answer says of the outcome that it stands for.
+pub answered : (outcome : Outcome Fields) (answer : Reading) (fields : Fields) → readingOutcome answer ≡ outcome → answer ≡ Found fields → outcome ≡ accepted fields
+answered outcome answer fields e found = rw (← e, found)
+
+pub turned-down : (outcome : Outcome Fields) (answer : Reading) (n : ℕ) → readingOutcome answer ≡ outcome → answer ≡ Refused n → outcome ≡ refused n
+turned-down outcome answer n e found = rw (← e, found)
+
+-- A proof that is there, as the code cuts it.
+pub there : (f : ℕ) (bytes : List ℕ) (at head end : ℕ) (verdicts : List ℕ) (timestamp : Timestamp) → (at ≡ end → ⊥) → 5 ≤ head → at + head ≤ end → end ≤ length bytes
+    → timestamp ≡ ofNumber (fromBytes (take 5 (between bytes at (at + head))))
+    → proofOutcome f (entriesIn (between bytes (at + head) end)) verdicts (number timestamp) ≡ proofBetween f bytes at head end verdicts
+unfolding proofBetween
+there f bytes at head end verdicts timestamp apart five inside within same =
+    let rest = drop at bytes in
+    let sum : end - at ≡ head + (end - (at + head)) = omega arith in
+    let front : length (take head rest) ≡ head = length-take-le head rest (rw length-drop (omega arith)) in
+    let cut : drop head (between bytes at end) ≡ between bytes (at + head) end =
+    rw (sum, take-add head (end - (at + head)) rest, drop-at (take head rest) (take (end - (at + head)) (drop head rest)) head front, drop-drop head at bytes) in
+    let first : take 5 (between bytes at (at + head)) ≡ take 5 (between bytes at end) = front-some bytes 5 at (at + head) (omega arith) ∙ sym (front-some bytes 5 at end (omega arith)) in
+    let stamp : number timestamp ≡ fromBytes (take 5 (between bytes at end)) = ap number same ∙ number-ofNumber (fromBytes (take 5 (between bytes at (at + head)))) ∙ ap fromBytes first in
+    rw (ne-eqb at end apart, cut, stamp)
+
+-- The verdicts behind the message's own, as the code cuts them: so many, and the rest.
+module _ (verdicts : List ℕ) (n a b : ℕ) (size : length verdicts ≡ 1 + a + b) (same : n ≡ a) where
+  abbrev firstPart : List ℕ
+  firstPart = take (1 + n - 1) (drop 1 verdicts)
+
+  abbrev secondPart : List ℕ
+  secondPart = take (length verdicts - (1 + n)) (drop (1 + n) verdicts)
+
+  behind : secondPart ≡ drop n (drop 1 verdicts)
+  behind = take-all (length verdicts - (1 + n)) (drop (1 + n) verdicts) (rw length-drop (omega arith)) ∙ sym (drop-drop n 1 verdicts)
+
+  first-size : length firstPart ≡ a
+  first-size = length-take-le (1 + n - 1) (drop 1 verdicts) (rw length-drop (omega arith)) ∙ omega arith
+
+  second-size : length secondPart ≡ b
+  second-size = rw behind (simp length-drop (omega arith))
+
+  both-parts : firstPart ++ secondPart ≡ drop 1 verdicts
+  both-parts = let less : 1 + n - 1 ≡ n = omega arith in rw (behind, less) (take-append-drop n (drop 1 verdicts))
+
+-- Tests 9 to 11 from what the code finds, part by part.
+module _ (f : ℕ) (bytes verdicts : List ℕ) (fields : Fields) (n end : ℕ) (ready : Ready bytes verdicts fields)
+    (count : n ≡ entryCount (fields .prepared) 38 (fields .written)) (ends : end ≡ fields .signature - cond (bit (fields .map) 8) 1 0) where
+  pub judged-parts : (prepared written : ProofCheck) (own : Bool)
+      → proofCheckOutcome prepared ≡ proofBetween f bytes (fields .prepared) 38 (fields .written) (take (1 + n - 1) (drop 1 verdicts))
+      → proofCheckOutcome written ≡ proofBetween f bytes (fields .written) 6 end (take (length verdicts - (1 + n)) (drop (1 + n) verdicts))
+      → own ≡ cond (bit (fields .map) 3) (isIssued (fields .timestamp)) true
+      → (party : Party) (message : Message) → decode party bytes ≡ accepted message
+      → smallest (smallest (proofCheckOutcome prepared) (proofCheckOutcome written)) (guard 11 own (accepted tt)) ≡ proven f message (drop 1 verdicts) (accepted tt)
+  unfolding signatureCount
+  judged-parts one two own first second third party message e =
+      let p = placed bytes fields (ready .whole) in
+      let a = entryCount (place bytes 6) 38 (place bytes 7) in
+      let b = entryCount (place bytes 7) 6 (place bytes 8) in
+      let size = ready .one-each in
+      let counted : n ≡ a = rw (← p .at, ← p .next) count in
+      let until : end ≡ place bytes 8 = ends ∙ p .end in
+      let left = take (1 + n - 1) (drop 1 verdicts) in
+      let right = take (length verdicts - (1 + n)) (drop (1 + n) verdicts) in
+      rw (first, second, third, until, p .at, p .next, p .map, p .timestamp)
+      (judged f party bytes message left right e (p .whole) (first-size verdicts n a b size counted) (second-size verdicts n a b size counted)
+      ∙ ap (λ (l : List ℕ). proven f message l (accepted tt)) (both-parts verdicts n a b size counted))

@@ -1,0 +1,54 @@
+-- Acceptance as the code finds it: 2 to 8, then 9 to 11.
+use mathlib.Core.Path.{_≡_}
+use mathlib.Core.Bool.{cond}
+use mathlib.Core.List.{List}
+use Prim.Native.Nat.{ℕ, _+_, _-_, _/_}
+use lib.Dec.{eqb}
+use lib.ListN.{length, take, drop}
+use Rattle.base.specs.BigEndian.{fromBytes}
+use Rattle.base.specs.Outcome.{Outcome, accepted, guard, _>>=_}
+use Rattle.wire.specs.Acceptance.{senderOf, inItsRange}
+use Rattle.wire.specs.Checks.{oneEach, ownGenuine, proven, proofOutcome}
+use Rattle.wire.specs.Decode.{decode, fieldsIn, framed}
+use Rattle.wire.specs.Judging.{entriesIn, proofCheckOutcome}
+use Rattle.wire.specs.Layout.{place}
+use Rattle.wire.specs.Message.{Message}
+use Rattle.wire.specs.Places.{between}
+use Rattle.wire.specs.declared.checks.ProofCheck.{ProofCheck}
+use Rattle.wire.specs.declared.message.Fields.{Fields}
+use Rattle.wire.specs.declared.message.Party.{Party}
+
+-- 2 to 8, and what follows for the message.
+abbrev pub opening : {A : Type 0} → Party → ℕ → List ℕ → List ℕ → (Message → Outcome A) → Outcome A
+opening party f bytes verdicts next =
+    decode party bytes >>= λ message.
+    guard 6 (inItsRange party f (senderOf message))
+    (guard 7 (oneEach message verdicts)
+    (guard 8 (ownGenuine verdicts)
+    (next message)))
+
+unfoldable pub opened : Party → ℕ → List ℕ → List ℕ → Outcome Fields
+opened party f bytes verdicts = opening party f bytes verdicts (λ message. accepted (fieldsIn bytes))
+
+-- The entries behind the head of a proof from one place to another; none if there is no proof.
+abbrev pub entryCount : ℕ → ℕ → ℕ → ℕ
+entryCount at head end = (end - at - head) / 65
+
+-- The signatures of a message: its own and those of its proofs' entries.
+unfoldable pub signatureCount : List ℕ → ℕ
+signatureCount bytes = 1 + entryCount (place bytes 6) 38 (place bytes 7) + entryCount (place bytes 7) 6 (place bytes 8)
+
+-- 9 to 11 of the proof from one place to another, with its entries' verdicts; good if there is none.
+unfoldable pub proofBetween : ℕ → List ℕ → ℕ → ℕ → ℕ → List ℕ → Outcome (Unit {0})
+proofBetween f bytes at head end verdicts =
+    cond (eqb at end) (accepted tt)
+    (proofOutcome f (entriesIn (drop head (between bytes at end))) verdicts (fromBytes (take 5 (between bytes at end))))
+
+-- What 9 to 11 rest on: the fields of bytes that passed 2 to 4, and one verdict per signature.
+pub record Ready (bytes verdicts : List ℕ) (fields : Fields) : Type 0 where
+  pub whole : framed bytes (accepted (fieldsIn bytes)) ≡ accepted fields
+  pub one-each : length verdicts ≡ signatureCount bytes
+
+-- 9 to 11 of the message that the bytes are, whoever is handed it.
+abbrev pub Judges : ℕ → List ℕ → List ℕ → ProofCheck → Type 0
+Judges f bytes verdicts check = (party : Party) (message : Message) → decode party bytes ≡ accepted message → proofCheckOutcome check ≡ proven f message (drop 1 verdicts) (accepted tt)

@@ -1,0 +1,154 @@
+// What a party makes of a message before its own rules: tests 2 to 11 on bytes and verdicts of any number and value.
+use crate::checks::ProofCheck;
+use crate::checks::check_proof;
+use crate::checks::first_refusal;
+use crate::checks::verdicts_fit;
+use crate::message::Fields;
+use crate::message::Party;
+use crate::message::Reading;
+use base::party::ClientId;
+use base::party::ReplicaId;
+use base::party::is_client;
+use base::party::is_replica;
+use base::timestamp::Timestamp;
+ghost use mathlib.Core.Path.{_≡_};
+ghost use mathlib.Core.Bool.{true, cond};
+ghost use Prim.Native.Nat.{_-_, _+_, _≤_, _<_};
+ghost use Rattle.base.specs.BitMap.{bit};
+ghost use Rattle.base.specs.Timestamp.{isIssued};
+ghost use Rattle.wire.specs.Acceptance.{inItsRange, acceptance};
+ghost use Rattle.wire.specs.Accepting.{opened, entryCount, proofBetween, Ready, Judges};
+ghost use Rattle.wire.specs.Decode.{readingOutcome};
+ghost use Rattle.wire.specs.Judging.{proofCheckOutcome};
+ghost use Rattle.wire.specs.Places.{Room};
+
+const OUT_OF_RANGE: u8 = 6;
+
+const NOT_ONE_EACH: u8 = 7;
+
+const NOT_GENUINE: u8 = 8;
+
+// The bytes of a proof before its entries.
+const PREPARED_HEAD: usize = 38;
+
+const WRITTEN_HEAD: usize = 6;
+
+// Signer and signature.
+const ENTRY: usize = 65;
+
+// Test 6.
+fn in_range(party: Party, f: u8, sender: u8) -> bool
+    ensures { λ r. ⌜ r ≡ inItsRange party f sender ⌝ }
+{
+    match party {
+        Party::Replica => is_client(ClientId(sender)),
+        Party::Client => is_replica(f, ReplicaId(sender)),
+    }
+}
+
+// Where the written proof ends: the field behind it is one byte, before the signature.
+fn written_end(map: u16, signature: usize) -> usize
+    requires { ⌜ 1 ≤ signature ⌝ }
+    ensures { λ r. ⌜ r ≡ signature - cond (bit map 8) 1 0 ⌝ }
+{
+    if (map >> 8) % 2 == 1 {
+        return signature - 1;
+    }
+    signature
+}
+
+// The number of entries of the proof from one place to another; 0 if there is none.
+fn entry_count(at: usize, head: usize, end: usize) -> usize
+    requires { ⌜ (at ≤ end) × (at < end → at + head ≤ end) ⌝ }
+    ensures { λ r. ⌜ r ≡ entryCount at head end ⌝ }
+{
+    if at == end {
+        return 0;
+    }
+    (end - at - head) / ENTRY
+}
+
+// Tests 2 to 8.
+fn open(party: Party, f: u8, bytes: &[u8], verdicts: &[u8]) -> Reading
+    ensures { λ r. ⌜ readingOutcome r ≡ opened party f (now (bytes .entry)) (now (verdicts .entry)) ⌝ }
+{
+    match crate::reader::read(party, bytes) {
+        Reading::Message(fields) => {
+            if !in_range(party, f, fields.sender) {
+                return Reading::Refused(OUT_OF_RANGE);
+            }
+            let end = written_end(fields.map, fields.signature);
+            let prepared = entry_count(fields.prepared, PREPARED_HEAD, fields.written);
+            let written = entry_count(fields.written, WRITTEN_HEAD, end);
+            if !verdicts_fit(verdicts, 1 + prepared + written) {
+                return Reading::Refused(NOT_ONE_EACH);
+            }
+            if verdicts[0] != 1 {
+                return Reading::Refused(NOT_GENUINE);
+            }
+            Reading::Message(fields)
+        }
+        Reading::Refused(number) => Reading::Refused(number),
+    }
+}
+
+// Tests 9 to 11 of the proof from one place to another; good if there is none.
+fn check_between(
+    f: u8,
+    bytes: &[u8],
+    at: usize,
+    head: usize,
+    end: usize,
+    verdicts: &[u8],
+) -> ProofCheck
+    requires { ⌜ Room (now bytes) head at end × (5 ≤ head) ⌝ }
+    ensures { λ r. ⌜ proofCheckOutcome r ≡ proofBetween f (now (bytes .entry)) at head end (now (verdicts .entry)) ⌝ }
+{
+    if at == end {
+        return ProofCheck::Good;
+    }
+    let entries = at + head;
+    let timestamp = crate::numbers::timestamp_in(bytes, at, entries);
+    check_proof(f, &bytes[entries..end], verdicts, timestamp)
+}
+
+// Test 11 of the timestamp field, if it is there.
+fn issued_if_there(map: u16, timestamp: Timestamp) -> bool
+    ensures { λ r. ⌜ r ≡ cond (bit map 3) (isIssued timestamp) true ⌝ }
+{
+    if (map >> 3) % 2 == 1 {
+        return timestamp.is_issued();
+    }
+    true
+}
+
+// Tests 9 to 11: the verdicts are the message's own, those of the prepared proof's entries, and those of the written proof's.
+fn judge(f: u8, bytes: &[u8], verdicts: &[u8], fields: Fields) -> ProofCheck
+    requires { ⌜ Ready (now bytes) (now verdicts) fields ⌝ }
+    ensures { λ r. ⌜ Judges f (now (bytes .entry)) (now (verdicts .entry)) r ⌝ }
+{
+    let at = fields.prepared;
+    let next = fields.written;
+    let end = written_end(fields.map, fields.signature);
+    let second = 1 + entry_count(at, PREPARED_HEAD, next);
+    let prepared = check_between(f, bytes, at, PREPARED_HEAD, next, &verdicts[1..second]);
+    let written = check_between(f, bytes, next, WRITTEN_HEAD, end, &verdicts[second..]);
+    first_refusal(
+        prepared,
+        written,
+        issued_if_there(fields.map, fields.timestamp),
+    )
+}
+
+// What a message with its verdicts is to the party that is handed it: its fields, or the number of its refusal.
+pub fn accept(party: Party, f: u8, bytes: &[u8], verdicts: &[u8]) -> Reading
+    ensures { λ r. ⌜ readingOutcome r ≡ acceptance party f (now (bytes .entry)) (now (verdicts .entry)) ⌝ }
+{
+    match open(party, f, bytes, verdicts) {
+        Reading::Message(fields) => match judge(f, bytes, verdicts, fields) {
+            ProofCheck::Good => Reading::Message(fields),
+            ProofCheck::Refused(number) => Reading::Refused(number),
+        },
+        Reading::Refused(number) => Reading::Refused(number),
+    }
+}
