@@ -7,7 +7,7 @@ use lib.Dec.{eqb, ltb}
 use lib.ListN.{length, take, drop, replicate}
 use Rattle.base.specs.Counting.{replica}
 use Rattle.base.specs.Outcome.{Outcome, accepted, refused, guard, _>>=_}
-use Rattle.base.specs.Party.{isReplica, replicaCount}
+use Rattle.base.specs.Party.{isReplica, replicaCount, clientSetup}
 use Rattle.base.specs.ReplicaSet.{empty, has, with, isQuorum}
 use Rattle.base.specs.Same.{same}
 use Rattle.base.specs.Timestamp.{number, ofNumber, start, successor}
@@ -62,13 +62,13 @@ built client counted signatures = take 11 (gathered (replicaCount (client .f)) c
 abbrev pub withSignature : List ℕ → ReplicaId → List ℕ → List ℕ
 withSignature signatures id mark = take (64 * (id .0 - 1)) signatures ++ (mark ++ drop (64 * id .0) signatures)
 
--- "a desk is made with its first nonce"
-abbrev pub freshClient : ℕ → ClientId → ℕ → Client
-freshClient f id firstNonce =
+-- A client with no operation, which used the nonces up to this one.
+abbrev pub idleClient : ℕ → ClientId → ℕ → Client
+idleClient f id lastNonce =
     record {
       f = f;
       id = id;
-      «last_nonce» = firstNonce - 1;
+      «last_nonce» = lastNonce;
       phase = Idle;
       «card_length» = 0;
       card = replicate 17 0;
@@ -80,6 +80,21 @@ freshClient f id firstNonce =
       «written_count» = 0;
       «written_entries» = replicate 715 0;
     }
+
+-- "a desk is made with its first nonce"
+abbrev pub freshClient : ℕ → ClientId → ℕ → Client
+freshClient f id firstNonce = idleClient f id (firstNonce - 1)
+
+-- 16: "A party is set up with f, number or first nonce (0) out of range.": then the record is that of no client.
+abbrev pub noClient : Client
+noClient = idleClient 0 (record { 0 = 0 }) 0
+
+abbrev pub ifSetUp : Outcome (Unit {0}) → Client → Client
+ifSetUp (accepted ready) client = client
+ifSetUp (refused number) client = noClient
+
+abbrev pub madeClient : ℕ → ClientId → ℕ → Client
+madeClient f id firstNonce = ifSetUp (clientSetup f id firstNonce) (freshClient f id firstNonce)
 
 -- ---- Changes of a record
 
@@ -438,3 +453,29 @@ beginReadCall client old = clientAnswers client old (withOutput old (beginRead c
 
 unfoldable pub clientCall : Client → List ℕ → List ℕ → List ℕ → ClientCall
 clientCall client bytes verdicts old = clientAnswers client old (withOutput old (clientStep client bytes verdicts))
+
+-- What an answer of the code stands for, with the card beside it and the output: "a message to send", "counted", "done,
+-- with stamp and card", "ended", or the refusal by its number.
+pub data Said : Type 0 where
+  message : List ℕ → Said
+  nothing : Said
+  finished : Timestamp → List ℕ → Said
+  noSuccessor : Said
+
+abbrev pub answerOutcome : ClientAnswer → ℕ → List ℕ → List ℕ → Outcome Said
+answerOutcome (Send n) size card output = accepted (message (take n output))
+answerOutcome Counted size card output = accepted nothing
+answerOutcome (Done timestamp) size card output = accepted (finished timestamp (take size card))
+answerOutcome Ended size card output = accepted noSuccessor
+answerOutcome (Refused number) size card output = refused number
+
+-- The same of a step.
+abbrev pub said : Answer → Said
+said (send m) = message (unsigned m)
+said counted = nothing
+said (done timestamp card) = finished timestamp card
+said ended = noSuccessor
+
+abbrev pub stepOutcome : Outcome Turn → Outcome Said
+stepOutcome (accepted turn) = accepted (said (turn .answer))
+stepOutcome (refused number) = refused number

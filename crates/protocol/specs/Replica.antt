@@ -6,7 +6,7 @@ use Prim.Native.Nat.{ℕ, _+_, _-_, _*_, _/_, max}
 use lib.Dec.{eqb, leb, ltb}
 use lib.ListN.{length, getD, take, drop, set, replicate}
 use Rattle.base.specs.Outcome.{Outcome, accepted, refused, guard, _>>=_}
-use Rattle.base.specs.Party.{isClient}
+use Rattle.base.specs.Party.{isClient, replicaSetup}
 use Rattle.base.specs.Same.{same}
 use Rattle.base.specs.Timestamp.{number, ofNumber, start, successor}
 use Rattle.base.specs.declared.party.ClientId.{ClientId}
@@ -65,6 +65,18 @@ freshRegister =
 
 abbrev pub freshReplica : ℕ → ReplicaId → Replica
 freshReplica f id = record { f = f; id = id; register = freshRegister }
+
+-- Where setting up is refused there is no replica: this record stands in its place.
+abbrev pub noReplica : Replica
+noReplica = freshReplica 0 (record { 0 = 0 })
+
+abbrev pub ifSetUp : Outcome (Unit {0}) → Replica → Replica
+ifSetUp (accepted done) replica = replica
+ifSetUp (refused number) replica = noReplica
+
+-- 16: "A party is set up with f, number or first nonce (0) out of range."
+unfoldable pub madeReplica : ℕ → ReplicaId → Replica
+madeReplica f id = ifSetUp (replicaSetup f id) (freshReplica f id)
 
 -- ---- What a register does
 
@@ -201,6 +213,16 @@ pub record ReplicaCall : Type 0 where
   pub answer : ReplicaAnswer
   pub replica : Replica
   pub output : List ℕ
+
+-- What an answer stands for: the length of the message to send, or the refusal by its number.
+abbrev pub answerOutcome : ReplicaAnswer → Outcome ℕ
+answerOutcome (Send n) = accepted n
+answerOutcome (Refused number) = refused number
+
+-- The length of the message that a reply sends.
+abbrev pub sentLength : Outcome Reply → Outcome ℕ
+sentLength (accepted reply) = accepted (length (unsigned (reply .message)))
+sentLength (refused number) = refused number
 
 -- "A refusal is its number alone; record and lent bytes keep their old contents."
 abbrev pub replicaAnswers : Replica → List ℕ → Outcome Reply → ReplicaCall

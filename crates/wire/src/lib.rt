@@ -5,7 +5,7 @@ pub mod card_part;
 pub mod checks;
 mod frame;
 pub mod message;
-mod numbers;
+pub mod numbers;
 pub mod reader;
 pub mod sha256;
 pub mod writer;

@@ -1,0 +1,296 @@
+-- What a message that tests 2 to 11 let through asks of a replica, and where its parts stand. Assumes nothing.
+use mathlib.Core.Path.{_≡_, refl, sym, ap, subst, _∙_}
+use mathlib.Core.Bool.{Bool, true, false, cond}
+use mathlib.Core.List.{List}
+use mathlib.Core.Logic.{⊎-elim}
+use mathlib.Core.Option.{Option, none, some}
+use Prim.Native.Nat.{ℕ, _+_, _/_, _≤_, _<_, max}
+use native.Mathlib.Omega.{arith}
+use borrow.Author.Tests.{eqb-true, ne-eqb, leb-true}
+use lib.Dec.{eqb, leb}
+use lib.ListN.{length, getD, take, drop}
+use Rattle.base.specs.BigEndian.{fromBytes}
+use Rattle.base.specs.BitMap.{bit}
+use Rattle.base.specs.Outcome.{Outcome, accepted, refused, guard, _>>=_}
+use Rattle.base.specs.Party.{quorumSize, replicaCount}
+use Rattle.base.specs.Range.{within}
+use Rattle.base.specs.Rising.{rising}
+use Rattle.base.specs.Timestamp.{number, ofNumber, successor}
+use Rattle.base.specs.declared.party.ClientId.{ClientId}
+use Rattle.base.specs.declared.timestamp.Timestamp.{Timestamp}
+use Rattle.base.proofs.Booleans.{and-true-both}
+use Rattle.base.proofs.Outcome.{guard-passes}
+use Rattle.base.proofs.Range.{bounds}
+use Rattle.base.proofs.Timestamps.{number-ofNumber}
+use Rattle.wire.specs.Acceptance.{senderOf, inItsRange, acceptance}
+use Rattle.wire.specs.Checks.{ifThere, shaped, issued, checked}
+use Rattle.wire.specs.Decode.{decode, reading, fieldsIn, digestIn, cardIn}
+use Rattle.wire.specs.Judging.{signers}
+use Rattle.wire.specs.Layout.{extent, preparedRule, rules, mapIn, place, field}
+use Rattle.wire.specs.Message.{Message, READ-STAMP, PREPARE, WRITE, READ, STAMP, PREPARED, WRITTEN, CARD, longest}
+use Rattle.wire.specs.Places.{between, Room}
+use Rattle.wire.specs.Proof.{PreparedProof, WrittenProof, preparedFrom, writtenFrom}
+use Rattle.wire.specs.declared.message.Fields.{Fields}
+use Rattle.wire.specs.declared.message.Party.the-variants.{Replica as AtReplica}
+use Rattle.wire.proofs.Accepted.{Accepted, acceptance-accepted, acceptance-refused}
+use Rattle.wire.proofs.FieldParts.{room}
+use Rattle.wire.proofs.Framed.{place-present, place-absent, place-rises, place-within, field-absent}
+use Rattle.wire.proofs.Parsed.{Parsed, parsed, messageOf, preparedAt, writtenAt, prepared-whole, digest-part, taken-kind, decode-accepted, replica-kind, reads-1, reads-2, reads-3, reads-4}
+use Rattle.wire.proofs.Rows.{Taken, read-stamp, prepare, write, read}
+use Rattle.wire.proofs.Windows.{behind-first}
+use Rattle.protocol.specs.Parts.{timestampOf}
+use Rattle.protocol.specs.Replica.{afterPrepare, isOwn, isTimestamp, Reply, answering, withRegister, onMessage, replicaStep, ReplicaCall, answerOutcome, sentLength, replicaAnswers, withOutput, replicaCall}
+use Rattle.protocol.specs.declared.replica.Replica.{Replica}
+use Rattle.protocol.proofs.ArrayLaws.{entries-read-length}
+use Rattle.protocol.specs.declared.replica.ReplicaAnswer.the-variants.{Refused}
+use Rattle.protocol.proofs.Calls.{long-output, replica-short}
+use Rattle.protocol.proofs.Passed.{Passed, checked-passed}
+use Rattle.replica.specs.Kinds.{preparedWith, onReadStamp, onPrepare, onWrite, onRead}
+use Rattle.replica.specs.Stepping.{Leaves, Answers, Steps}
+use Rattle.replica.specs.declared.Stepped.{Stepped}
+
+-- What follows tests 2 to 11. A replica takes no other kinds.
+abbrev pub stepOf : Replica → Message → Outcome Reply
+stepOf replica (READ-STAMP client nonce) = onReadStamp replica client nonce
+stepOf replica (PREPARE client timestamp digest proof last) =
+    guard 12 (isOwn client last)
+    (guard 13 (isTimestamp timestamp (successor (ofNumber (timestampOf proof)) client))
+    (afterPrepare client timestamp digest last (replica .register) >>= λ register.
+    answering (PREPARED (replica .id) timestamp digest) (withRegister replica register)))
+stepOf replica (WRITE client card proof) = onWrite replica card proof
+stepOf replica (READ client nonce) = onRead replica client nonce
+stepOf replica (STAMP sender nonce proof client) = refused 5
+stepOf replica (PREPARED sender timestamp digest) = refused 5
+stepOf replica (WRITTEN sender timestamp) = refused 5
+stepOf replica (CARD sender nonce card proof client) = refused 5
+
+-- The timestamp of a written proof, 0 where it is missing.
+abbrev writtenTimestamp : Option WrittenProof → ℕ
+writtenTimestamp none = 0
+writtenTimestamp (some last) = last .timestamp
+
+abbrev writtenIssued : Option WrittenProof → Bool
+writtenIssued last = ifThere (λ (proof : WrittenProof). issued (proof .timestamp)) last
+
+not-zero : (timestamp : ℕ) → issued timestamp ≡ true → timestamp ≡ 0 → ⊥
+not-zero timestamp i e =
+    let counted = leb-true 1 (timestamp / 256) (and-true-both (leb 1 (timestamp / 256)) (within 1 64 (ofNumber timestamp .client .0)) i .0) in
+    omega arith
+
+-- PREPARE by its proofs is PREPARE by their timestamps.
+plain : (replica : Replica) (client : ClientId) (timestamp : ℕ) (digest : List ℕ) (proof : Option PreparedProof) (last : Option WrittenProof) (shown written : ℕ)
+    → timestampOf proof ≡ shown → writtenTimestamp last ≡ written → writtenIssued last ≡ true
+    → stepOf replica (PREPARE client timestamp digest proof last) ≡ onPrepare replica client timestamp digest shown written
+unfolding onPrepare afterPrepare preparedWith
+plain replica client timestamp digest proof none shown written s w i =
+    let same : max (number (replica .register .written)) 0 ≡ number (replica .register .written) = omega arith in
+    rw (← s, ← w, same)
+plain replica client timestamp digest proof (some last) shown written s w i =
+    rw (← s, ← w, ne-eqb (last .timestamp) 0 (not-zero (last .timestamp) i))
+
+module _ (bytes : List ℕ) where
+  prepared-timestamp : timestampOf (preparedAt bytes) ≡ fromBytes (take 5 (field bytes 6))
+  prepared-timestamp = go (bit (mapIn bytes) 6) refl
+    where
+      go : (b : Bool) → bit (mapIn bytes) 6 ≡ b → timestampOf (cond b (some (preparedFrom (field bytes 6))) none) ≡ fromBytes (take 5 (field bytes 6))
+      go true e = refl
+      go false e = rw (field-absent bytes 6 e) (unfold fromBytes in refl)
+
+  written-timestamp : writtenTimestamp (writtenAt bytes) ≡ fromBytes (take 5 (field bytes 7))
+  written-timestamp = go (bit (mapIn bytes) 7) refl
+    where
+      go : (b : Bool) → bit (mapIn bytes) 7 ≡ b → writtenTimestamp (cond b (some (writtenFrom (field bytes 7))) none) ≡ fromBytes (take 5 (field bytes 7))
+      go true e = refl
+      go false e = rw (field-absent bytes 7 e) (unfold fromBytes in refl)
+
+module _ (replica : Replica) (bytes verdicts : List ℕ) where
+  abbrev after : Message → Outcome Reply
+  after m = guard 6 (inItsRange AtReplica (replica .f) (senderOf m)) (checked (replica .f) m verdicts (stepOf replica m))
+
+  taken-after : {map kind : ℕ} (t : Taken map kind AtReplica) → onMessage replica verdicts (messageOf t bytes) ≡ after (messageOf t bytes)
+  unfolding onMessage onWrite
+  taken-after (read-stamp e) = refl
+  taken-after (prepare e) = refl
+  taken-after (write e) = refl
+  taken-after (read e) = refl
+
+  step-after : replicaStep replica bytes verdicts ≡ (decode AtReplica bytes >>= after)
+  unfolding replicaStep
+  step-after = go (decode AtReplica bytes) refl
+    where
+      go : (o : Outcome Message) → decode AtReplica bytes ≡ o → (o >>= onMessage replica verdicts) ≡ (o >>= after)
+      go (refused n) d = refl
+      go (accepted m) d =
+          let p = parsed AtReplica bytes (fieldsIn bytes) (decode-accepted AtReplica bytes m d) in
+          let same : messageOf (p .taken) bytes ≡ m = cc (p .decodes) in
+          subst (λ (m : Message). onMessage replica verdicts m ≡ after m) same (taken-after (p .taken))
+
+  pub step-refused : (n : ℕ) → acceptance AtReplica (replica .f) bytes verdicts ≡ refused n → replicaStep replica bytes verdicts ≡ refused n
+  step-refused n e = step-after ∙ acceptance-refused AtReplica (replica .f) bytes verdicts n e Reply (stepOf replica)
+
+  module _ (fields : Fields) (e : acceptance AtReplica (replica .f) bytes verdicts ≡ accepted fields) where
+    a : Accepted AtReplica (replica .f) bytes verdicts fields
+    a = acceptance-accepted AtReplica (replica .f) bytes verdicts fields e
+
+    -- The message is this one: the step is what follows for it, it passed 7 to 11, and its sender is in range.
+    step-is : (m : Message) → decode AtReplica bytes ≡ accepted m → replicaStep replica bytes verdicts ≡ stepOf replica m
+    step-is m d =
+        let same : a .message ≡ m = cc (a .decodes) in
+        step-after ∙ rw (a .decodes)
+        (guard-passes 6 (inItsRange AtReplica (replica .f) (senderOf (a .message))) (checked (replica .f) (a .message) verdicts (stepOf replica (a .message))) (a .ranged)
+        ∙ a .checks Reply (stepOf replica (a .message)) ∙ ap (stepOf replica) same)
+
+    message-passed : (m : Message) → decode AtReplica bytes ≡ accepted m → Passed (replica .f) m verdicts
+    message-passed m d =
+        let same : a .message ≡ m = cc (a .decodes) in
+        subst (λ (m : Message). Passed (replica .f) m verdicts) same
+        (checked-passed (replica .f) (a .message) verdicts (accepted (tt {0})) (tt {0}) (a .checks (Unit {0}) (accepted tt)) .0)
+
+    sender-bounds : (m : Message) → decode AtReplica bytes ≡ accepted m → (1 ≤ senderOf m) × (senderOf m ≤ 64)
+    sender-bounds m d =
+        let same : a .message ≡ m = cc (a .decodes) in
+        subst (λ (m : Message). (1 ≤ senderOf m) × (senderOf m ≤ 64)) same (bounds 1 64 (senderOf (a .message)) (a .ranged))
+
+    pub step-read-stamp : fields .kind ≡ 1 → replicaStep replica bytes verdicts ≡ onReadStamp replica (record { 0 = fields .sender }) (fields .nonce)
+    step-read-stamp k = step-is _ (reads-1 bytes fields (a .reads) k)
+
+    pub step-read : fields .kind ≡ 4 → replicaStep replica bytes verdicts ≡ onRead replica (record { 0 = fields .sender }) (fields .nonce)
+    step-read k = step-is _ (reads-4 bytes fields (a .reads) k)
+
+    -- "holders 1 to 4"
+    pub last-kind : (fields .kind ≡ 1 → ⊥) → (fields .kind ≡ 2 → ⊥) → (fields .kind ≡ 3 → ⊥) → fields .kind ≡ 4
+    last-kind not-1 not-2 not-3 =
+        ⊎-elim (λ k. absurd (not-1 k)) (⊎-elim (λ k. absurd (not-2 k)) (⊎-elim (λ k. absurd (not-3 k)) (λ k. k))) (replica-kind (parsed AtReplica bytes fields (a .reads) .taken))
+
+    -- WRITE: its card and proof, and that the proof has at most 11 entries.
+    pub step-write : fields .kind ≡ 3 → replicaStep replica bytes verdicts ≡ onWrite replica (cardIn bytes) (preparedFrom (field bytes 6))
+    step-write k = step-is _ (reads-3 bytes fields (a .reads) k)
+
+    pub few-entries : fields .kind ≡ 3 → getD (field bytes 6) 37 0 ≤ 11
+    unfolding shaped
+    few-entries k =
+        let proof = preparedFrom (field bytes 6) in
+        let p = message-passed _ (reads-3 bytes fields (a .reads) k) .prepared-shaped in
+        let quorum = eqb-true (length (proof .entries)) (quorumSize (replica .f)) (and-true-both (eqb (length (proof .entries)) (quorumSize (replica .f))) (rising 0 (replicaCount (replica .f)) (signers (proof .entries))) p .0) in
+        omega (arith, quorum, entries-read-length (getD (field bytes 6) 37 0) (drop 38 (field bytes 6)))
+
+    -- PREPARE, with 0 for the timestamp of a missing proof.
+    pub step-prepare : fields .kind ≡ 2
+        → replicaStep replica bytes verdicts ≡ onPrepare replica (record { 0 = fields .sender }) (number (fields .timestamp)) (digestIn bytes) (fromBytes (take 5 (field bytes 6))) (fromBytes (take 5 (field bytes 7)))
+    step-prepare k =
+        let d = reads-2 bytes fields (a .reads) k in
+        step-is _ d ∙ plain replica (record { 0 = fields .sender }) (number (fields .timestamp)) (digestIn bytes) (preparedAt bytes) (writtenAt bytes) _ _
+        (prepared-timestamp bytes) (written-timestamp bytes) (message-passed _ d .written-issued)
+
+    pub prepare-sender : fields .kind ≡ 2 → (1 ≤ fields .sender) × (fields .sender ≤ 64)
+    prepare-sender k = sender-bounds _ (reads-2 bytes fields (a .reads) k)
+
+-- Where the parts of a PREPARE stand.
+pub record PrepareIn (bytes : List ℕ) (fields : Fields) : Type 0 where
+  pub digest-inside : fields .digest + 32 ≤ length bytes
+  pub digest-is : take 32 (drop (fields .digest) bytes) ≡ digestIn bytes
+  pub shown-room : Room bytes 5 (fields .prepared) (fields .written)
+  pub shown-is : between bytes (fields .prepared) (fields .written) ≡ field bytes 6
+  pub last-room : Room bytes 5 (fields .written) (fields .signature)
+  pub last-is : between bytes (fields .written) (fields .signature) ≡ field bytes 7
+
+prepare-bits : {map : ℕ} → Taken map 2 AtReplica → (bit map 4 ≡ true) × (bit map 8 ≡ false)
+prepare-bits (prepare e) = (cc, cc)
+
+write-bits : {map : ℕ} → Taken map 3 AtReplica → (bit map 5 ≡ true) × (bit map 6 ≡ true)
+write-bits (write e) = (cc, cc)
+
+-- Where the parts of a WRITE stand, and that its proof has the length it says.
+pub record WriteIn (bytes : List ℕ) (fields : Fields) : Type 0 where
+  pub card-rises : fields .card + 1 ≤ fields .prepared
+  pub proof-rises : fields .prepared ≤ fields .written
+  pub inside : fields .written ≤ length bytes
+  pub card-is : between bytes (fields .card + 1) (fields .prepared) ≡ cardIn bytes
+  pub proof-is : between bytes (fields .prepared) (fields .written) ≡ field bytes 6
+  pub proof-whole : extent preparedRule (field bytes 6) ≡ length (field bytes 6)
+
+module _ (bytes : List ℕ) (fields : Fields) (e : reading AtReplica bytes ≡ accepted fields) where
+  p : Parsed AtReplica bytes fields
+  p = parsed AtReplica bytes fields e
+
+  prepare-here : (bit (mapIn bytes) 4 ≡ true) × (bit (mapIn bytes) 8 ≡ false) → PrepareIn bytes (fieldsIn bytes)
+  unfolding fieldsIn field rules
+  prepare-here set =
+      let digest = place-present bytes 4 (set .0) in
+      let ends : place bytes 9 ≡ place bytes 8 = place-absent bytes 8 (set .1) in
+      record {
+        digest-inside = omega (arith, place-within bytes (p .framed) 5 (omega arith));
+        digest-is = sym (digest-part bytes (set .0));
+        shown-room = room bytes 6 5 (omega arith) (λ l. omega arith) (p .framed);
+        shown-is = refl;
+        last-room = rw ends (room bytes 7 5 (omega arith) (λ l. omega arith) (p .framed));
+        last-is = rw ends;
+      }
+
+  pub prepare-in : fields .kind ≡ 2 → PrepareIn bytes fields
+  prepare-in k = subst (λ (fs : Fields). PrepareIn bytes fs) (sym (p .same)) (prepare-here (prepare-bits (taken-kind AtReplica bytes fields e 2 k)))
+
+  write-here : (bit (mapIn bytes) 5 ≡ true) × (bit (mapIn bytes) 6 ≡ true) → WriteIn bytes (fieldsIn bytes)
+  unfolding fieldsIn field rules
+  write-here set =
+      record {
+        card-rises = omega (arith, place-present bytes 5 (set .0));
+        proof-rises = place-rises bytes 6 7 (omega arith);
+        inside = omega (arith, place-within bytes (p .framed) 7 (omega arith));
+        card-is = sym (behind-first bytes (place bytes 5) (place bytes 6));
+        proof-is = refl;
+        proof-whole = prepared-whole bytes (p .framed) (set .1);
+      }
+
+  pub write-in : fields .kind ≡ 3 → WriteIn bytes fields
+  write-in k = subst (λ (fs : Fields). WriteIn bytes fs) (sym (p .same)) (write-here (write-bits (taken-kind AtReplica bytes fields e 3 k)))
+
+-- The same by what the code takes out of the message.
+module _ (replica : Replica) (bytes verdicts : List ℕ) (fields : Fields) (e : acceptance AtReplica (replica .f) bytes verdicts ≡ accepted fields) where
+  pub reads-as : reading AtReplica bytes ≡ accepted fields
+  reads-as = acceptance-accepted AtReplica (replica .f) bytes verdicts fields e .reads
+
+  pub prepare-as : fields .kind ≡ 2 → (digest : List ℕ) (shown last : Timestamp) → digest ≡ take 32 (drop (fields .digest) bytes)
+      → shown ≡ ofNumber (fromBytes (take 5 (between bytes (fields .prepared) (fields .written))))
+      → last ≡ ofNumber (fromBytes (take 5 (between bytes (fields .written) (fields .signature))))
+      → replicaStep replica bytes verdicts ≡ onPrepare replica (record { 0 = fields .sender }) (number (fields .timestamp)) digest (number shown) (number last)
+  prepare-as k digest shown last d s l =
+      let p = prepare-in bytes fields reads-as k in
+      let shown-number : number shown ≡ fromBytes (take 5 (field bytes 6)) = ap number s ∙ number-ofNumber _ ∙ rw (p .shown-is) in
+      let last-number : number last ≡ fromBytes (take 5 (field bytes 7)) = ap number l ∙ number-ofNumber _ ∙ rw (p .last-is) in
+      step-prepare replica bytes verdicts fields e k ∙ rw (d, p .digest-is, shown-number, last-number)
+
+  pub write-as : fields .kind ≡ 3
+      → replicaStep replica bytes verdicts ≡ onWrite replica (between bytes (fields .card + 1) (fields .prepared)) (preparedFrom (between bytes (fields .prepared) (fields .written)))
+  write-as k = let w = write-in bytes fields reads-as k in rw (w .card-is, w .proof-is) (step-write replica bytes verdicts fields e k)
+
+-- A call whose step is this outcome, whichever verdicts let its message through.
+pub answers : (replica : Replica) (bytes : List ℕ) (fields : Fields) (old : List ℕ) (stepped : Stepped) (new : List ℕ) (outcome : Outcome Reply)
+    → ((verdicts : List ℕ) → acceptance AtReplica (replica .f) bytes verdicts ≡ accepted fields → replicaStep replica bytes verdicts ≡ outcome)
+    → Leaves (replicaAnswers replica old outcome) stepped new → Answers replica bytes fields old stepped new
+answers replica bytes fields old stepped new outcome same l =
+    record { leaves = λ verdicts e. subst (λ (o : Outcome Reply). Leaves (replicaAnswers replica old o) stepped new) (sym (same verdicts e)) l }
+
+module _ (replica : Replica) (bytes verdicts old : List ℕ) (stepped : Stepped) where
+  answered : (outcome : Outcome Reply) → answerOutcome (replicaAnswers replica old outcome .answer) ≡ sentLength outcome
+  answered (accepted reply) = refl
+  answered (refused number) = refl
+
+  steps : (new : List ℕ) → Leaves (replicaCall replica bytes verdicts old) stepped new → Steps replica bytes verdicts old stepped new
+  unfolding replicaCall
+  steps new l =
+      record {
+        answer = l .answer;
+        outcome = ap answerOutcome (l .answer) ∙ answered (withOutput old (replicaStep replica bytes verdicts));
+        next = l .replica;
+        output = l .output;
+      }
+
+  pub steps-long : (new : List ℕ) → longest ≤ length old → Leaves (replicaAnswers replica old (replicaStep replica bytes verdicts)) stepped new → Steps replica bytes verdicts old stepped new
+  unfolding replicaCall
+  steps-long new h l =
+      let same : withOutput old (replicaStep replica bytes verdicts) ≡ replicaStep replica bytes verdicts = long-output old (replicaStep replica bytes verdicts) h in
+      steps new (subst (λ (o : Outcome Reply). Leaves (replicaAnswers replica old o) stepped new) (sym same) l)
+
+  pub steps-short : length old < longest → (stepped .answer ≡ Refused 1) × (stepped .replica ≡ replica) → Steps replica bytes verdicts old stepped old
+  steps-short h r = steps old (subst (λ (c : ReplicaCall). Leaves c stepped old) (sym (replica-short replica bytes verdicts old h)) (record { answer = r .0; replica = r .1; output = refl }))

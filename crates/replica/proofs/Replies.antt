@@ -1,0 +1,132 @@
+-- Replies and refusals as a call leaves them. Assumes nothing.
+use mathlib.Core.Path.{_≡_, refl, sym, ap, _∙_}
+use mathlib.Core.Bool.{Bool, true, false}
+use mathlib.Core.List.{List}
+use Prim.Native.Nat.{ℕ, _-_, _≤_, _<_, max}
+use native.Mathlib.Omega.{arith}
+use borrow.Author.Tests.{le-leb}
+use lib.Dec.{eqb, leb}
+use lib.ListN.{length, getD, take, drop, length-drop}
+use lib.Seq.{take-all, take-take}
+use Rattle.base.specs.BigEndian.{fromBytes}
+use Rattle.base.specs.Outcome.{Outcome, accepted, refused, guard}
+use Rattle.base.specs.Same.{same}
+use Rattle.base.specs.Timestamp.{number, ofNumber, successor, successorOf}
+use Rattle.base.specs.declared.party.ClientId.{ClientId}
+use Rattle.base.specs.declared.timestamp.Successor.{Successor}
+use Rattle.base.specs.declared.timestamp.Successor.the-variants.{Next, Missing}
+use Rattle.base.specs.declared.timestamp.Timestamp.{Timestamp}
+use Rattle.base.proofs.Booleans.{and-true-both}
+use Rattle.base.proofs.Outcome.{guard-passes}
+use Rattle.base.proofs.Timestamps.{ofNumber-number, number-ofNumber}
+use Rattle.wire.specs.Card.{isCard, cardDigest, digestAnswer}
+use Rattle.wire.specs.Message.{Message, PREPARED, WRITTEN, longest}
+use Rattle.wire.specs.Places.{between}
+use Rattle.wire.specs.Proof.{PreparedProof, preparedFrom}
+use Rattle.wire.specs.Sha256.{sha256}
+use Rattle.wire.specs.Writing.{Wrote, encodedOutcome, unsigned}
+use Rattle.wire.specs.declared.card.CardCheck.the-variants.{Good, Refused as Bad}
+use Rattle.wire.specs.declared.card.CardDigest.{CardDigest}
+use Rattle.wire.specs.declared.writer.Encoded.{Encoded}
+use Rattle.wire.proofs.card.Digests.{card-short}
+use Rattle.protocol.specs.Replica.{Reply, answerOutcome, answering, isTimestamp, withRegister, afterWrite, replicaAnswers}
+use Rattle.protocol.specs.declared.replica.Replica.{Replica}
+use Rattle.protocol.specs.declared.replica.ReplicaAnswer.{ReplicaAnswer}
+use Rattle.protocol.specs.declared.replica.ReplicaAnswer.the-variants.{Send, Refused}
+use Rattle.replica.specs.Kinds.{proofOf, ownOrMissing, preparedWith, preparedOutcome, onPrepare, standsFor, onWrite}
+use Rattle.replica.specs.Stepping.{Leaves}
+use Rattle.replica.specs.declared.register.Prepared.{Prepared}
+use Rattle.replica.specs.declared.Stepped.{Stepped}
+
+answer-sends : (answer : ReplicaAnswer) (n : ℕ) → answerOutcome answer ≡ accepted n → answer ≡ Send n
+answer-sends (Send m) n e = cc
+answer-sends (Refused number) n e = let z : _≡_ {A = ℕ} 0 1 = cc in absurd (omega arith)
+
+-- A message that was written into an output that is long enough.
+pub sends : (replica : Replica) (old new : List ℕ) (outcome : Outcome Reply) (message : Message) (next : Replica) (encoded : Encoded) (stepped : Stepped)
+    → outcome ≡ answering message next → longest ≤ length old → Wrote old (unsigned message) encoded new
+    → answerOutcome (stepped .answer) ≡ encodedOutcome encoded → stepped .replica ≡ next → Leaves (replicaAnswers replica old outcome) stepped new
+sends replica old new outcome message next encoded stepped o enough wrote e same =
+    let roomy = le-leb longest (length old) enough in
+    rw o
+    (record {
+      answer = answer-sends (stepped .answer) (length (unsigned message)) (e ∙ wrote .answered ∙ guard-passes 1 (leb longest (length old)) (accepted (length (unsigned message))) roomy);
+      replica = same;
+      output = wrote .holds ∙ rw roomy;
+    })
+
+-- A refusal: its number alone.
+pub refuses : (replica : Replica) (old : List ℕ) (outcome : Outcome Reply) (number : ℕ) (stepped : Stepped)
+    → outcome ≡ refused number → (stepped .answer ≡ Refused number) × (stepped .replica ≡ replica) → Leaves (replicaAnswers replica old outcome) stepped old
+refuses replica old outcome number stepped e s = rw e (record { answer = s .0; replica = s .1; output = refl })
+
+-- What the digest of a card says of test 14.
+module _ (card digest : List ℕ) (made : CardDigest) (e : made ≡ cardDigest card) where
+  pub stands : made .check ≡ Good → same (made .bytes) digest ≡ standsFor card digest
+  stands good = go (isCard card) refl
+    where
+      go : (b : Bool) → isCard card ≡ b → same (made .bytes) digest ≡ standsFor card digest
+      go true h = rw (e, h)
+      go false h = let f : made ≡ digestAnswer false card = e ∙ ap (λ (b : Bool). digestAnswer b card) h in let z : _≡_ {A = ℕ} 0 1 = cc in absurd (omega arith)
+
+  pub breaks : (number : ℕ) → made .check ≡ Bad number → standsFor card digest ≡ false
+  breaks number bad = go (isCard card) refl
+    where
+      go : (b : Bool) → isCard card ≡ b → standsFor card digest ≡ false
+      go true h = let f : made ≡ digestAnswer true card = e ∙ ap (λ (b : Bool). digestAnswer b card) h in let z : _≡_ {A = ℕ} 0 1 = cc in absurd (omega arith)
+      go false h = rw h
+
+-- Test 13, from the successor that was found.
+module _ (timestamp : ℕ) (shown : Timestamp) (client : ClientId) (found : Successor) (small : shown .client .0 < 256) (e : successorOf found ≡ successor shown client) where
+  follows : isTimestamp timestamp (successorOf found) ≡ isTimestamp timestamp (successor (ofNumber (number shown)) client)
+  follows = ap (isTimestamp timestamp) (e ∙ ap (λ (t : Timestamp). successor t client) (sym (ofNumber-number shown small)))
+
+  pub follows-next : (next : Timestamp) → found ≡ Next next → eqb timestamp (number next) ≡ isTimestamp timestamp (successor (ofNumber (number shown)) client)
+  follows-next next f = ap (λ (s : Successor). isTimestamp timestamp (successorOf s)) (sym f) ∙ follows
+
+  pub follows-none : found ≡ Missing → false ≡ isTimestamp timestamp (successor (ofNumber (number shown)) client)
+  follows-none f = ap (λ (s : Successor). isTimestamp timestamp (successorOf s)) (sym f) ∙ follows
+
+-- PREPARE, test by test.
+module _ (replica : Replica) (client : ClientId) (timestamp : ℕ) (digest : List ℕ) (shown last : ℕ) where
+  pub not-own : ownOrMissing client last ≡ false → onPrepare replica client timestamp digest shown last ≡ refused 12
+  unfolding onPrepare guard
+  not-own e = rw e
+
+  module _ (own : ownOrMissing client last ≡ true) where
+    pub not-successor : isTimestamp timestamp (successor (ofNumber shown) client) ≡ false → onPrepare replica client timestamp digest shown last ≡ refused 13
+    unfolding onPrepare guard
+    not-successor e = rw (own, e)
+
+    module _ (follows : isTimestamp timestamp (successor (ofNumber shown) client) ≡ true) (prepared : Prepared)
+        (e : preparedOutcome prepared ≡ preparedWith client timestamp digest (max (number (replica .register .written)) last) (replica .register)) where
+      pub not-taken : prepared .taken ≡ false → onPrepare replica client timestamp digest shown last ≡ refused 15
+      unfolding onPrepare guard
+      not-taken t = rw (own, follows, ← e, t)
+
+      pub is-taken : prepared .taken ≡ true
+          → onPrepare replica client timestamp digest shown last ≡ answering (PREPARED (replica .id) timestamp digest) (withRegister replica (prepared .register))
+      unfolding onPrepare guard
+      is-taken t = rw (own, follows, ← e, t)
+
+-- WRITE, test by test.
+module _ (replica : Replica) (card : List ℕ) (proof : PreparedProof) where
+  pub wrong-card : standsFor card (proof .digest) ≡ false → onWrite replica card proof ≡ refused 14
+  unfolding onWrite guard
+  wrong-card e = rw e
+
+  pub right-card : standsFor card (proof .digest) ≡ true
+      → onWrite replica card proof ≡ answering (WRITTEN (replica .id) (proof .timestamp)) (withRegister replica (afterWrite card proof (replica .register)))
+  unfolding onWrite guard
+  right-card e = rw e
+
+pub standing-short : (card digest : List ℕ) → standsFor card digest ≡ true → length card ≤ 17
+standing-short card digest e = card-short card (and-true-both (isCard card) (same (sha256 card) digest) e .0)
+
+-- A proof in parts.
+pub proof-parts : (proof : List ℕ) (timestamp : Timestamp) → timestamp ≡ ofNumber (fromBytes (take 5 (between proof 0 5)))
+    → proofOf timestamp (take 32 (drop 5 proof)) (getD proof 37 0) (take (length proof - 38) (drop 38 proof)) ≡ preparedFrom proof
+proof-parts proof timestamp e =
+    let front : take 5 (between proof 0 5) ≡ take 5 proof = take-take 5 5 proof (omega arith) in
+    let rest : take (length proof - 38) (drop 38 proof) ≡ drop 38 proof = take-all (length proof - 38) (drop 38 proof) (rw length-drop (omega arith)) in
+    rw (rest, e, front, number-ofNumber (fromBytes (take 5 proof)))

@@ -1,0 +1,12 @@
+-- `replica::fresh_register` meets its contract. Assumes nothing.
+use borrow.Author.Needs.{needs}
+use Rattle.protocol.specs.Replica.{freshRegister}
+use Rattle.replica.proofs.fresh_register.Statement.{statement}
+use Rattle.replica.proofs.fresh_register.Tie as tie
+
+returns : tie.Need-returns
+unfolding freshRegister
+returns c = rw (c .before .start .ensures, c .start2 .ensures)
+
+pub fresh-register-spec : {M : Type 1} → statement M
+fresh-register-spec = tie.close (tie.spec (λ c κs. search needs) (λ c κs. search needs) returns)

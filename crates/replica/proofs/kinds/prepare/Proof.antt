@@ -1,0 +1,71 @@
+-- `replica::kinds::prepare` meets its contract. Assumes nothing.
+use mathlib.Core.Path.{_≡_, sym, _∙_}
+use mathlib.Core.Bool.{true}
+use borrow.Author.Tests.{not-true, not-false}
+use borrow.Author.Needs.{needs}
+use Rattle.base.specs.Timestamp.{number, ofNumber, successor}
+use Rattle.protocol.specs.Replica.{isTimestamp}
+use Rattle.replica.specs.Kinds.{ownOrMissing}
+use Rattle.replica.proofs.Replies.{sends, refuses, not-own, not-successor, not-taken, is-taken}
+use Rattle.replica.proofs.kinds.prepare.Statement.{statement}
+use Rattle.replica.proofs.kinds.prepare.Tie as tie
+
+own : (c : tie.Else1) → ownOrMissing (c .before .before .before .args .client) (number (c .before .before .before .args .last)) ≡ true
+own c = sym (c .before .is-own .ensures) ∙ not-false _ (c .if1 .left)
+
+follows : (c : tie.Else2)
+    → isTimestamp (number (c .before .before .before .before .before .args .timestamp))
+    (successor (ofNumber (number (c .before .before .before .before .before .args .shown))) (c .before .before .before .before .before .args .client)) ≡ true
+follows c = sym (c .before .is-successor .ensures) ∙ not-false _ (c .if2 .left)
+
+returns : tie.Need-returns
+returns c =
+    let a = c .before .before .before .before .args in
+    refuses (a .replica) (a .out .now) _ 12 _
+    (not-own (a .replica) (a .client) (number (a .timestamp)) (a .digest .now) (number (a .shown)) (number (a .last)) (sym (c .before .before .is-own .ensures) ∙ not-true _ (c .before .if1 .taken)))
+    (c .refuse .ensures)
+
+returns-2 : tie.Need-returns-2
+returns-2 c =
+    let a = c .before .before .before .before .before .before .args in
+    let x = c .before .before in
+    refuses (a .replica) (a .out .now) _ 13 _
+    (not-successor (a .replica) (a .client) (number (a .timestamp)) (a .digest .now) (number (a .shown)) (number (a .last)) (own (x .before)) (sym (x .is-successor .ensures) ∙ not-true _ (c .before .if2 .taken)))
+    (c .refuse2 .ensures)
+
+returns-3 : tie.Need-returns-3
+returns-3 c =
+    let a = c .before .before .before .before .before .before .before .before .before .before .args in
+    let x = c .before .before .before in
+    refuses (a .replica) (a .out .now) _ 15 _
+    (not-taken (a .replica) (a .client) (number (a .timestamp)) (a .digest .now) (number (a .shown)) (number (a .last)) (own (x .before .before .before .before)) (follows (x .before .before)) (x .after-prepare .result) (x .after-prepare .ensures) (not-true _ (c .before .if3 .taken)))
+    (c .refuse3 .ensures)
+
+returns-4 : tie.Need-returns-4
+returns-4 c =
+    let s = c .before .before .before .before .before .before .before .before .before .before .before .before .before .before .before in
+    let a = s .args in
+    let w = c .before .before .before .before in
+    let x = w .before .before .before .before in
+    sends (a .replica) (a .out .now) _ _ _ _ _ _
+    (is-taken (a .replica) (a .client) (number (a .timestamp)) (a .digest .now) (number (a .shown)) (number (a .last)) (own (x .before .before .before .before)) (follows (x .before .before)) (x .after-prepare .result) (x .after-prepare .ensures) (not-false _ (w .before .before .if3 .left)))
+    (s .pre .1) (w .write-prepared .ensures) (c .before .answer-of .ensures) (c .with-register .ensures)
+
+pub prepare-spec : {M : Type 1} → statement M
+prepare-spec =
+    tie.close
+    (tie.spec
+    (λ c κs. search needs)
+    (λ c κs. search needs)
+    returns
+    (λ c κs. search needs)
+    (λ c κs. search needs)
+    returns-2
+    (λ c κs. search needs)
+    (λ c κs. search needs)
+    returns-3
+    (λ c κs. search needs)
+    (λ c κs. search needs)
+    (λ c κs. search needs)
+    (λ c. search needs)
+    returns-4)

@@ -1,0 +1,69 @@
+-- The four requests on plain values: once tests 2 to 11 are passed, what a replica makes of what it read.
+use mathlib.Core.Path.{_≡_}
+use mathlib.Core.Bool.{Bool, _&&_, _||_, cond}
+use mathlib.Core.List.{List}
+use Prim.Native.Nat.{ℕ, _*_, _%_, _≤_, max}
+use lib.Dec.{eqb}
+use lib.ListN.{length}
+use Rattle.base.specs.Outcome.{Outcome, accepted, refused, guard, _>>=_}
+use Rattle.base.specs.Same.{same}
+use Rattle.base.specs.Timestamp.{number, ofNumber, successor}
+use Rattle.base.specs.declared.party.ClientId.{ClientId}
+use Rattle.base.specs.declared.timestamp.Timestamp.{Timestamp}
+use Rattle.wire.specs.Card.{isCard}
+use Rattle.wire.specs.Message.{STAMP, PREPARED, WRITTEN, CARD}
+use Rattle.wire.specs.Proof.{PreparedProof, readEntries}
+use Rattle.wire.specs.Sha256.{sha256}
+use Rattle.protocol.specs.Replica.{heldProof, heldCard, withWritten, withSlot, slotIs, slotTakes, afterWrite, isTimestamp, Reply, answering, withRegister}
+use Rattle.protocol.specs.declared.replica.Register.{Register}
+use Rattle.protocol.specs.declared.replica.Replica.{Replica}
+use Rattle.replica.specs.declared.register.Prepared.{Prepared}
+
+-- PREPARE on a register, with the written timestamp that the slot is judged by.
+unfoldable pub preparedWith : ClientId → ℕ → List ℕ → ℕ → Register → Outcome Register
+preparedWith client timestamp digest written register =
+    cond (slotIs client timestamp digest register) (accepted (withWritten written register))
+    (guard 15 (slotTakes client timestamp written register) (accepted (withWritten written (withSlot client timestamp digest register))))
+
+-- What an answer of the code stands for.
+abbrev pub preparedOutcome : Prepared → Outcome Register
+preparedOutcome prepared = cond (prepared .taken) (accepted (prepared .register)) (refused 15)
+
+-- A prepared proof as it stands in a message: timestamp, digest, number of entries, and their bytes.
+abbrev pub proofOf : Timestamp → List ℕ → ℕ → List ℕ → PreparedProof
+proofOf timestamp digest count entries = record { timestamp = number timestamp; digest = digest; entries = readEntries count entries }
+
+-- A card, a digest, and so many entries' bytes that fit a register's arrays.
+pub record Fitting (card digest : List ℕ) (count : ℕ) (entries : List ℕ) : Type 0 where
+  pub card-short : length card ≤ 17
+  pub digest-whole : length digest ≡ 32
+  pub few : count ≤ 11
+  pub entries-whole : length entries ≡ 65 * count
+
+-- READ-STAMP
+abbrev pub onReadStamp : Replica → ClientId → ℕ → Outcome Reply
+onReadStamp replica client nonce = answering (STAMP (replica .id) nonce (heldProof (replica .register)) client) replica
+
+-- PREPARE; the timestamps of the prepared proof and of the written proof are 0 where the proofs are missing.
+abbrev pub ownOrMissing : ClientId → ℕ → Bool
+ownOrMissing client last = eqb last 0 || eqb (last % 256) (client .0)
+
+unfoldable pub onPrepare : Replica → ClientId → ℕ → List ℕ → ℕ → ℕ → Outcome Reply
+onPrepare replica client timestamp digest shown last =
+    guard 12 (ownOrMissing client last)
+    (guard 13 (isTimestamp timestamp (successor (ofNumber shown) client))
+    (preparedWith client timestamp digest (max (number (replica .register .written)) last) (replica .register) >>= λ register.
+    answering (PREPARED (replica .id) timestamp digest) (withRegister replica register)))
+
+-- WRITE
+abbrev pub standsFor : List ℕ → List ℕ → Bool
+standsFor card digest = isCard card && same (sha256 card) digest
+
+unfoldable pub onWrite : Replica → List ℕ → PreparedProof → Outcome Reply
+onWrite replica card proof =
+    guard 14 (standsFor card (proof .digest))
+    (answering (WRITTEN (replica .id) (proof .timestamp)) (withRegister replica (afterWrite card proof (replica .register))))
+
+-- READ
+abbrev pub onRead : Replica → ClientId → ℕ → Outcome Reply
+onRead replica client nonce = answering (CARD (replica .id) nonce (heldCard (replica .register)) (heldProof (replica .register)) client) replica

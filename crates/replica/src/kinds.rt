@@ -1,0 +1,216 @@
+// The four requests on plain values, each with its reply in the output.
+use crate::Stepped;
+use crate::register::after_prepare;
+use crate::register::after_write;
+use base::party::ClientId;
+use base::timestamp::Successor;
+use base::timestamp::Timestamp;
+use protocol::replica::Register;
+use protocol::replica::Replica;
+use protocol::replica::ReplicaAnswer;
+use wire::card::CardCheck;
+use wire::writer::Encoded;
+ghost use mathlib.Core.Path.{_≡_};
+ghost use Prim.Native.Nat.{_*_, _≤_};
+ghost use lib.ListN.{length, getD};
+ghost use Rattle.base.specs.Timestamp.{number, ofNumber, successor};
+ghost use Rattle.wire.specs.Layout.{extent, preparedRule};
+ghost use Rattle.wire.specs.Message.{longest};
+ghost use Rattle.wire.specs.Proof.{preparedFrom};
+ghost use Rattle.wire.specs.Writing.{encodedOutcome};
+ghost use Rattle.protocol.specs.Replica.{answerOutcome, isTimestamp, withRegister, replicaAnswers};
+ghost use Rattle.replica.specs.Kinds.{proofOf, ownOrMissing, standsFor, onReadStamp, onPrepare, onWrite, onRead};
+ghost use Rattle.replica.specs.Stepping.{Leaves};
+
+const NOT_OWN: u8 = 12;
+
+const NOT_SUCCESSOR: u8 = 13;
+
+const WRONG_CARD: u8 = 14;
+
+const NOT_TAKEN: u8 = 15;
+
+// A refusal, which leaves the record as it was.
+pub fn refuse(replica: Replica, number: u8) -> Stepped
+    ensures { λ r. ⌜ (r .answer ≡ ReplicaAnswer.Refused number) × (r .replica ≡ replica) ⌝ }
+{
+    Stepped {
+        answer: ReplicaAnswer::Refused(number),
+        replica: replica,
+    }
+}
+
+fn answer_of(encoded: Encoded) -> ReplicaAnswer
+    ensures { λ r. ⌜ answerOutcome r ≡ encodedOutcome encoded ⌝ }
+{
+    match encoded {
+        Encoded::Length(n) => ReplicaAnswer::Send(n),
+        Encoded::Refused(number) => ReplicaAnswer::Refused(number),
+    }
+}
+
+fn with_register(replica: Replica, register: Register) -> Replica
+    ensures { λ r. ⌜ r ≡ withRegister replica register ⌝ }
+{
+    let mut next = replica;
+    next.register = register;
+    next
+}
+
+// READ-STAMP
+pub fn read_stamp(replica: Replica, client: ClientId, nonce: u64, out: &mut [u8]) -> Stepped
+    requires { ⌜ longest ≤ length (now out) ⌝ }
+    ensures { λ r. ⌜ Leaves (replicaAnswers replica (now (out .entry)) (onReadStamp replica client nonce)) r (now (out .exit)) ⌝ }
+{
+    let register = replica.register;
+    let digest = register.digest;
+    let entries = register.entries;
+    let encoded = wire::writer::write_stamp(
+        out,
+        replica.id,
+        nonce,
+        register.timestamp,
+        &digest,
+        register.entry_count,
+        &entries,
+        client,
+    );
+    Stepped {
+        answer: answer_of(encoded),
+        replica: replica,
+    }
+}
+
+// READ
+pub fn read(replica: Replica, client: ClientId, nonce: u64, out: &mut [u8]) -> Stepped
+    requires { ⌜ longest ≤ length (now out) ⌝ }
+    ensures { λ r. ⌜ Leaves (replicaAnswers replica (now (out .entry)) (onRead replica client nonce)) r (now (out .exit)) ⌝ }
+{
+    let held = replica.register;
+    let card = held.card;
+    let digest = held.digest;
+    let entries = held.entries;
+    let encoded = wire::writer::write_card(
+        out,
+        replica.id,
+        nonce,
+        &card,
+        held.card_length,
+        held.timestamp,
+        &digest,
+        held.entry_count,
+        &entries,
+        client,
+    );
+    Stepped {
+        answer: answer_of(encoded),
+        replica: replica,
+    }
+}
+
+// Test 12, with 0.0 for a missing written proof.
+fn is_own(client: ClientId, last: Timestamp) -> bool
+    ensures { λ r. ⌜ r ≡ ownOrMissing client (number last) ⌝ }
+{
+    if last.number() == 0 {
+        return true;
+    }
+    last.client.0 == client.0
+}
+
+// Test 13, with 0.0 for a missing prepared proof.
+fn is_successor(timestamp: Timestamp, shown: Timestamp, client: ClientId) -> bool
+    ensures { λ r. ⌜ r ≡ isTimestamp (number timestamp) (successor (ofNumber (number shown)) client) ⌝ }
+{
+    match shown.successor(client) {
+        Successor::Next(next) => timestamp.is(next),
+        Successor::Missing => false,
+    }
+}
+
+// PREPARE
+pub fn prepare(
+    replica: Replica,
+    client: ClientId,
+    timestamp: Timestamp,
+    digest: &[u8; 32],
+    shown: Timestamp,
+    last: Timestamp,
+    out: &mut [u8],
+) -> Stepped
+    requires { ⌜ ((1 ≤ client .0) × (client .0 ≤ 64)) × (longest ≤ length (now out)) ⌝ }
+    ensures { λ r. ⌜ Leaves (replicaAnswers replica (now (out .entry)) (onPrepare replica client (number timestamp) (now (digest .entry)) (number shown) (number last))) r (now (out .exit)) ⌝ }
+{
+    if !is_own(client, last) {
+        return refuse(replica, NOT_OWN);
+    }
+    if !is_successor(timestamp, shown, client) {
+        return refuse(replica, NOT_SUCCESSOR);
+    }
+    let register = replica.register;
+    let prepared = after_prepare(register, client, timestamp, digest, last);
+    if !prepared.taken {
+        return refuse(replica, NOT_TAKEN);
+    }
+    let encoded = wire::writer::write_prepared(out, replica.id, timestamp, digest);
+    Stepped {
+        answer: answer_of(encoded),
+        replica: with_register(replica, prepared.register),
+    }
+}
+
+// Test 14 of a card with its proof's digest.
+fn stands_for(card: &[u8], digest: &[u8]) -> bool
+    ensures { λ r. ⌜ r ≡ standsFor (now (card .entry)) (now (digest .entry)) ⌝ }
+{
+    let made = wire::card::digest(card);
+    let check = made.check;
+    let CardCheck::Good = check else {
+        return false;
+    };
+    let bytes = made.bytes;
+    crate::bytes::same(&bytes, digest)
+}
+
+// WRITE, with its proof in parts.
+fn write_parts(
+    replica: Replica,
+    timestamp: Timestamp,
+    card: &[u8],
+    digest: &[u8],
+    entry_count: u8,
+    entries: &[u8],
+    out: &mut [u8],
+) -> Stepped
+    requires { ⌜ (length (now digest) ≡ 32) × («entry_count» ≤ 11) × (length (now entries) ≡ 65 * «entry_count») × (longest ≤ length (now out)) ⌝ }
+    ensures { λ r. ⌜ Leaves (replicaAnswers replica (now (out .entry)) (onWrite replica (now (card .entry)) (proofOf timestamp (now (digest .entry)) «entry_count» (now (entries .entry))))) r (now (out .exit)) ⌝ }
+{
+    if !stands_for(card, digest) {
+        return refuse(replica, WRONG_CARD);
+    }
+    let register = replica.register;
+    let held = after_write(register, timestamp, card, digest, entry_count, entries);
+    let encoded = wire::writer::write_written(out, replica.id, timestamp);
+    Stepped {
+        answer: answer_of(encoded),
+        replica: with_register(replica, held),
+    }
+}
+
+// WRITE
+pub fn write(replica: Replica, card: &[u8], proof: &[u8], out: &mut [u8]) -> Stepped
+    requires { ⌜ (extent preparedRule (now proof) ≡ length (now proof)) × (getD (now proof) 37 0 ≤ 11) × (longest ≤ length (now out)) ⌝ }
+    ensures { λ r. ⌜ Leaves (replicaAnswers replica (now (out .entry)) (onWrite replica (now (card .entry)) (preparedFrom (now (proof .entry))))) r (now (out .exit)) ⌝ }
+{
+    let timestamp = wire::numbers::timestamp_in(proof, 0, 5);
+    let entry_count = proof[37];
+    write_parts(
+        replica,
+        timestamp,
+        card,
+        &proof[5..37],
+        entry_count,
+        &proof[38..],
+        out,
+    )
+}

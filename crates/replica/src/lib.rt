@@ -1,0 +1,93 @@
+// The replica engine (document 01: a holder): setting up, and the step by value.
+mod bytes;
+mod kinds;
+mod register;
+mod requests;
+
+use base::party::ReplicaId;
+use base::party::Setup;
+use base::party::replica_setup;
+use base::timestamp::Timestamp;
+use protocol::replica::Register;
+use protocol::replica::Replica;
+use protocol::replica::ReplicaAnswer;
+use wire::acceptance::accept;
+use wire::message::Party;
+use wire::message::Reading;
+ghost use mathlib.Core.Path.{_≡_};
+ghost use Rattle.base.specs.Party.{replicaSetup, setupOutcome};
+ghost use Rattle.protocol.specs.Replica.{freshRegister, freshReplica, madeReplica};
+ghost use Rattle.replica.specs.Stepping.{Steps};
+
+// A replica as it is set up. Where that is refused its record is a fresh one of replica 0, for f = 0.
+pub struct NewReplica {
+    pub setup: Setup,
+    pub replica: Replica,
+}
+
+// What a step leaves.
+pub struct Stepped {
+    pub answer: ReplicaAnswer,
+    pub replica: Replica,
+}
+
+fn fresh_register() -> Register
+    ensures { λ r. ⌜ r ≡ freshRegister ⌝ }
+{
+    Register {
+        counts: [0; 64],
+        digests: [0; 2048],
+        written: Timestamp::start(),
+        timestamp: Timestamp::start(),
+        card_length: 2,
+        card: [0; 17],
+        digest: [0; 32],
+        entry_count: 0,
+        entries: [0; 715],
+    }
+}
+
+fn fresh_replica(f: u8, id: ReplicaId) -> Replica
+    ensures { λ r. ⌜ r ≡ freshReplica f id ⌝ }
+{
+    Replica {
+        f: f,
+        id: id,
+        register: fresh_register(),
+    }
+}
+
+// The replica with these numbers, or refusal 16.
+pub fn fresh(f: u8, id: ReplicaId) -> NewReplica
+    ensures { λ r. ⌜ (setupOutcome (r .setup) ≡ replicaSetup f id) × (r .replica ≡ madeReplica f id) ⌝ }
+{
+    let setup = replica_setup(f, id);
+    let Setup::Good = setup else {
+        return NewReplica {
+            setup: setup,
+            replica: fresh_replica(0, ReplicaId(0)),
+        };
+    };
+    NewReplica {
+        setup: Setup::Good,
+        replica: fresh_replica(f, id),
+    }
+}
+
+// The length of the longest message: a shorter output is refused.
+const LONGEST: usize = 1_579;
+
+const TOO_SHORT: u8 = 1;
+
+// A message is handed to a replica, with a verdict for each signature and an output for the reply.
+pub fn step(replica: Replica, message: &[u8], verdicts: &[u8], out: &mut [u8]) -> Stepped
+    ensures { λ r. ⌜ Steps replica (now (message .entry)) (now (verdicts .entry)) (now (out .entry)) r (now (out .exit)) ⌝ }
+{
+    if out.len() < LONGEST {
+        return kinds::refuse(replica, TOO_SHORT);
+    }
+    match accept(Party::Replica, replica.f, message, verdicts) {
+        Reading::Message(fields) => requests::on_message(replica, message, fields, out),
+        Reading::Refused(number) => kinds::refuse(replica, number),
+    }
+}

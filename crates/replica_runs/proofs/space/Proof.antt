@@ -1,0 +1,26 @@
+-- `replica_runs::space` meets its contract. Assumes nothing.
+use Prim.Native.Nat.{_-_}
+use borrow.Author.Needs.{needs}
+use lib.ListN.{length}
+use Rattle.replica_runs.proofs.space.Statement.{statement}
+use Rattle.replica_runs.proofs.space.Tie as tie
+
+abbrev Inv-loop : tie.InvT-loop
+Inv-loop line at₀ at = Unit {0}
+
+abbrev μ-loop : tie.MeasureT-loop
+μ-loop line at₀ at = length line - at
+
+pub space-spec : {M : Type 1} → statement M
+space-spec =
+    tie.close
+    (tie.spec
+    Inv-loop
+    μ-loop
+    (λ c. search needs)
+    (λ c. search needs)
+    (λ c. search needs)
+    (λ c. search needs)
+    (λ c. search needs)
+    (λ c. search needs)
+    (λ c. search needs))
