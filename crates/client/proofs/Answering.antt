@@ -1,0 +1,61 @@
+-- What the code returns, as the call that document 01 speaks of. Assumes nothing.
+use mathlib.Core.Path.{_≡_, refl, sym, ap, subst, _∙_}
+use mathlib.Core.Bool.{Bool, true, false, cond}
+use mathlib.Core.List.{List, []}
+use mathlib.Core.Option.{Option, none, some}
+use Prim.Native.Nat.{ℕ, _≤_}
+use native.Mathlib.Omega.{arith}
+use borrow.Author.Tests.{le-leb}
+use lib.Dec.{leb}
+use lib.ListN.{length}
+use Rattle.base.specs.Outcome.{accepted, refused}
+use Rattle.base.specs.Timestamp.{successor, successorOf}
+use Rattle.base.specs.declared.party.ClientId.{ClientId}
+use Rattle.base.specs.declared.timestamp.Successor.{Successor}
+use Rattle.base.specs.declared.timestamp.Successor.the-variants.{Next, Missing}
+use Rattle.base.specs.declared.timestamp.Timestamp.{Timestamp}
+use Rattle.base.proofs.Outcome.{guard-passes}
+use Rattle.wire.specs.Message.{Message, longest}
+use Rattle.wire.specs.Writing.{Wrote, unsigned, encodedOutcome, inFront}
+use Rattle.wire.specs.declared.writer.Encoded.{Encoded}
+use Rattle.wire.specs.declared.writer.Encoded.the-variants.{Length, Refused}
+use Rattle.protocol.specs.Client.{send, call, answered}
+use Rattle.protocol.specs.declared.client.Client.{Client}
+use Rattle.protocol.specs.declared.client.ClientAnswer.{ClientAnswer}
+use Rattle.protocol.specs.declared.client.ClientAnswer.the-variants.{Send, Done}
+use Rattle.client.specs.Stepping.{callOf, plain, doneWith, sentAs}
+use Rattle.client.specs.declared.Stepped.{Stepped}
+
+module _ (stepped : Stepped) (old : List ℕ) (next : Client) where
+  pub plain-call : (answer : ClientAnswer) → stepped ≡ plain answer next → callOf stepped old ≡ call answer [] next old
+  plain-call answer e = ap (λ (s : Stepped). callOf s old) e
+
+  pub done-call : (timestamp : Timestamp) (card : List ℕ) → stepped ≡ doneWith timestamp card next → callOf stepped old ≡ call (Done timestamp) card next old
+  done-call timestamp card e = ap (λ (s : Stepped). callOf s old) e
+
+-- A message written into an output that is long enough.
+module _ (old new : List ℕ) (message : Message) (enough : longest ≤ length old) where
+  roomy : leb longest (length old) ≡ true
+  roomy = le-leb longest (length old) enough
+
+  written-length : (encoded : Encoded) → Wrote old (unsigned message) encoded new → encoded ≡ Length (length (unsigned message))
+  written-length encoded w = go encoded (w .answered ∙ guard-passes 1 (leb longest (length old)) (accepted (length (unsigned message))) roomy)
+    where
+      go : (e : Encoded) → encodedOutcome e ≡ accepted (length (unsigned message)) → e ≡ Length (length (unsigned message))
+      go (Length n) h = cc
+      go (Refused number) h = let z : _≡_ {A = ℕ} 0 1 = cc in absurd (omega arith)
+
+  pub sends : (encoded : Encoded) (stepped : Stepped) (next : Client) → Wrote old (unsigned message) encoded new → stepped ≡ sentAs encoded next
+      → callOf stepped new ≡ answered old (send message) next
+  sends encoded stepped next w e =
+      let same : new ≡ inFront (unsigned message) old = w .holds ∙ rw roomy in
+      let plainly : stepped ≡ plain (Send (length (unsigned message))) next = e ∙ rw (written-length encoded w) in
+      rw (same, plainly)
+
+-- The successor, by the code's answer.
+module _ (best : Timestamp) (id : ClientId) (found : Successor) (e : successorOf found ≡ successor best id) where
+  pub no-successor : found ≡ Missing → successor best id ≡ none
+  no-successor m = sym e ∙ ap successorOf m
+
+  pub the-successor : (next : Timestamp) → found ≡ Next next → successor best id ≡ some next
+  the-successor next m = sym e ∙ ap successorOf m

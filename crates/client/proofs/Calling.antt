@@ -1,0 +1,98 @@
+-- The contract of the calls, from what they leave. Assumes nothing.
+use mathlib.Core.Path.{_≡_, refl, ap, _∙_}
+use mathlib.Core.Bool.{true, false}
+use mathlib.Core.List.{List, []}
+use Prim.Native.Nat.{ℕ, _+_, _≤_, _<_}
+use lib.Seq.{take-append-seam}
+use lib.ListN.{length, drop}
+use Rattle.base.specs.Outcome.{Outcome, accepted, refused}
+use Rattle.base.specs.ReplicaSet.{empty}
+use Rattle.base.specs.Timestamp.{start}
+use Rattle.base.proofs.Outcome.{guard-passes, guard-refuses}
+use Rattle.wire.specs.Card.{isCard}
+use Rattle.wire.specs.Message.{longest, READ-STAMP, READ}
+use Rattle.wire.specs.Writing.{unsigned}
+use Rattle.protocol.specs.Client.{send, Turn, turn, ClientCall, clientAnswers, Said, answerOutcome, stepOutcome, mayBegin, beginning, beginWrite, beginRead, clientStep, beginWriteCall, beginReadCall, clientCall}
+use Rattle.protocol.specs.Parts.{startCard}
+use Rattle.protocol.specs.Replica.{withOutput}
+use Rattle.protocol.specs.declared.client.Client.{Client}
+use Rattle.protocol.specs.declared.client.ClientAnswer.the-variants.{Refused}
+use Rattle.protocol.specs.declared.client.Phase.the-variants.{Stamps, Cards}
+use Rattle.protocol.proofs.ArrayLaws.{card-kept, front-kept}
+use Rattle.protocol.proofs.Calls.{long-output, short-output}
+use Rattle.client.specs.Stepping.{callOf, Calls, plain, Takes}
+use Rattle.client.specs.declared.Stepped.{Stepped}
+use Rattle.client.proofs.Answering.{plain-call}
+use Rattle.client.proofs.Filling.{filled-zeros}
+use Rattle.client.proofs.Shorts.{Short, refuses, sends, counts, finishes, ends, short-write, short-read, short-step}
+
+abbrev saysOf : ClientCall → Outcome Said
+saysOf made = answerOutcome (made .answer) (made .«card_length») (made .card) (made .output)
+
+call-says : (client : Client) (old : List ℕ) (step : Outcome Turn) → Short step → saysOf (clientAnswers client old step) ≡ stepOutcome step
+call-says client old (refused number) refuses = refl
+call-says client old (accepted turn) (sends {message = m}) = rw (take-append-seam (unsigned m) (drop (length (unsigned m)) old))
+call-says client old (accepted turn) counts = refl
+call-says client old (accepted turn) (finishes {card = card} h) = rw (filled-zeros 17 card h, take-append-seam card)
+call-says client old (accepted turn) ends = refl
+
+module _ (client : Client) (old : List ℕ) (stepped : Stepped) (new : List ℕ) where
+  calls : (step : Outcome Turn) → Short step → callOf stepped new ≡ clientAnswers client old step → Calls (clientAnswers client old step) step stepped new
+  calls step short e =
+      record {
+        answer = ap (λ (made : ClientCall). made .answer) e;
+        «card_length» = ap (λ (made : ClientCall). made .«card_length») e;
+        card = ap (λ (made : ClientCall). made .card) e;
+        client = ap (λ (made : ClientCall). made .client) e;
+        output = ap (λ (made : ClientCall). made .output) e;
+        says = ap saysOf e ∙ call-says client old step short;
+      }
+
+  pub write-calls : (card : List ℕ) → callOf stepped new ≡ clientAnswers client old (withOutput old (beginWrite client card)) → Calls (beginWriteCall client card old) (withOutput old (beginWrite client card)) stepped new
+  unfolding beginWriteCall
+  write-calls card e = calls (withOutput old (beginWrite client card)) (short-write client old card) e
+
+  pub read-calls : callOf stepped new ≡ clientAnswers client old (withOutput old (beginRead client)) → Calls (beginReadCall client old) (withOutput old (beginRead client)) stepped new
+  unfolding beginReadCall
+  read-calls e = calls (withOutput old (beginRead client)) (short-read client old) e
+
+  pub step-calls : (bytes verdicts : List ℕ) → callOf stepped new ≡ clientAnswers client old (withOutput old (clientStep client bytes verdicts))
+      → Calls (clientCall client bytes verdicts old) (withOutput old (clientStep client bytes verdicts)) stepped new
+  unfolding clientCall
+  step-calls bytes verdicts e = calls (withOutput old (clientStep client bytes verdicts)) (short-step client old bytes verdicts) e
+
+  -- An output that is long enough.
+  pub behind-output : (step after : Outcome Turn) → longest ≤ length old → step ≡ after → callOf stepped new ≡ clientAnswers client old after → callOf stepped new ≡ clientAnswers client old (withOutput old step)
+  behind-output step after h e f = rw (long-output old step h, e) f
+
+-- Refusals.
+module _ (client : Client) (old : List ℕ) (stepped : Stepped) (step : Outcome Turn) where
+  pub too-short : length old < longest → stepped ≡ plain (Refused 1) client → callOf stepped old ≡ clientAnswers client old (withOutput old step)
+  too-short h e = rw (short-output old step h) (plain-call stepped old client (Refused 1) e)
+
+  pub is-refused : (number : ℕ) → longest ≤ length old → step ≡ refused number → stepped ≡ plain (Refused number) client → callOf stepped old ≡ clientAnswers client old (withOutput old step)
+  is-refused number h e f = rw (long-output old step h, e) (plain-call stepped old client (Refused number) f)
+
+-- Beginnings.
+module _ (client : Client) (card : List ℕ) where
+  pub write-14 : isCard card ≡ false → beginWrite client card ≡ refused 14
+  unfolding beginWrite
+  write-14 h = guard-refuses 14 _ _ h
+
+  pub write-17 : isCard card ≡ true → mayBegin client ≡ false → beginWrite client card ≡ refused 17
+  unfolding beginWrite
+  write-17 h k = guard-passes 14 _ _ h ∙ guard-refuses 17 _ _ k
+
+  pub write-begins : isCard card ≡ true → mayBegin client ≡ true
+      → beginWrite client card ≡ turn (send (READ-STAMP (client .id) (client .«last_nonce» + 1))) (beginning (client .«last_nonce» + 1) (Stamps (client .«last_nonce» + 1) start empty) card client)
+  unfolding beginWrite
+  write-begins h k = guard-passes 14 _ _ h ∙ guard-passes 17 _ _ k
+
+pub read-17 : (client : Client) → mayBegin client ≡ false → beginRead client ≡ refused 17
+unfolding beginRead
+read-17 client h = guard-refuses 17 _ _ h
+
+pub read-begins : (client : Client) → mayBegin client ≡ true
+    → beginRead client ≡ turn (send (READ (client .id) (client .«last_nonce» + 1))) (beginning (client .«last_nonce» + 1) (Cards (client .«last_nonce» + 1) start empty empty) startCard client)
+unfolding beginRead
+read-begins client h = guard-passes 17 _ _ h

@@ -1,0 +1,12 @@
+pub mod Answering
+pub mod Begins
+pub mod Calling
+pub mod Filling
+pub mod Gathering
+pub mod Parting
+pub mod Phases
+pub mod ProofPart
+pub mod Records
+pub mod Setups
+pub mod Shorts
+pub mod Steps

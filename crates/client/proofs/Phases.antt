@@ -1,0 +1,120 @@
+-- Replies by the phase that they meet: in the phase that awaits their kind, and in the others. Assumes nothing.
+use mathlib.Core.Path.{_≡_, refl, ap, _∙_}
+use mathlib.Core.Bool.{true, false, _&&_}
+use mathlib.Core.Logic.{⊎-elim}
+use mathlib.Core.List.{List, [], _∷_}
+use mathlib.Core.Option.{Option}
+use Prim.Native.Nat.{ℕ}
+use native.Mathlib.Omega.{arith}
+use lib.Dec.{eqb}
+use types.Run.{OneOf}
+use denote.Enum.Declared.{tagOf}
+use Rattle.base.specs.Outcome.{refused}
+use Rattle.base.specs.ReplicaSet.{with}
+use Rattle.base.specs.Same.{same}
+use Rattle.base.specs.Timestamp.{number}
+use Rattle.base.specs.declared.party.ClientId.{ClientId}
+use Rattle.base.specs.declared.party.ReplicaId.{ReplicaId}
+use Rattle.base.specs.declared.replica_set.ReplicaSet.{ReplicaSet}
+use Rattle.base.specs.declared.timestamp.Timestamp.{Timestamp}
+use Rattle.base.proofs.Outcome.{guard-passes, guard-refuses}
+use Rattle.wire.specs.Proof.{PreparedProof}
+use Rattle.protocol.specs.Client.{isNew, bestOf, keepBetter, withSignature, withSignatures, showedBy, keepBetterCard, onStamp, afterStamp, onPrepared, afterPrepared, onWritten, afterWritten, afterWriteBack, onCard, afterCard}
+use Rattle.protocol.specs.declared.client.Client.{Client}
+use Rattle.protocol.specs.declared.client.Phase.{Phase}
+use Rattle.protocol.specs.declared.client.Phase.the-variants.{Idle, Stamps, Prepareds, Writtens, Cards, WriteBack}
+use Rattle.protocol.proofs.client.Phase.{the-type}
+
+-- A tag that is none of the five others.
+five : {t a b c d e : ℕ} → OneOf (a ∷ b ∷ c ∷ d ∷ e ∷ []) t → (t ≡ a → ⊥) → (t ≡ b → ⊥) → (t ≡ c → ⊥) → (t ≡ d → ⊥) → (t ≡ e → ⊥) → ⊥
+five k na nb nc nd ne = ⊎-elim na (⊎-elim nb (⊎-elim nc (⊎-elim nd ne))) k
+
+module _ (client : Client) (sender : ReplicaId) (nonce : ℕ) (proof : Option PreparedProof) (addressed : ClientId) where
+  pub no-stamps : (phase : Phase) → OneOf (0 ∷ 2 ∷ 3 ∷ 4 ∷ 5 ∷ []) (tagOf the-type phase) → onStamp client sender nonce proof addressed phase ≡ refused 18
+  unfolding onStamp
+  no-stamps Idle k = refl
+  no-stamps (Stamps asked best counts) k = absurd (five k (λ e. omega arith) (λ e. omega arith) (λ e. omega arith) (λ e. omega arith) (λ e. omega arith))
+  no-stamps (Prepareds timestamp counts) k = refl
+  no-stamps (Writtens timestamp counts) k = refl
+  no-stamps (Cards asked best counts showed) k = refl
+  no-stamps (WriteBack timestamp counts) k = refl
+
+  module _ (phase : Phase) (asked : ℕ) (best : Timestamp) (counts : ReplicaSet) (e : phase ≡ Stamps asked best counts) where
+    pub stamp-refused : (eqb nonce asked && (eqb (addressed .0) (client .id .0) && isNew counts sender)) ≡ false → onStamp client sender nonce proof addressed phase ≡ refused 18
+    unfolding onStamp
+    stamp-refused h = ap (onStamp client sender nonce proof addressed) e ∙ guard-refuses 18 _ _ h
+
+    pub stamp-taken : (eqb nonce asked && (eqb (addressed .0) (client .id .0) && isNew counts sender)) ≡ true
+        → onStamp client sender nonce proof addressed phase ≡ afterStamp asked (bestOf best proof) (with counts sender) (keepBetter best proof client)
+    unfolding onStamp
+    stamp-taken h = ap (onStamp client sender nonce proof addressed) e ∙ guard-passes 18 _ _ h
+
+module _ (client : Client) (sender : ReplicaId) (nonce : ℕ) (card : List ℕ) (proof : Option PreparedProof) (addressed : ClientId) where
+  pub no-cards : (phase : Phase) → OneOf (0 ∷ 1 ∷ 2 ∷ 3 ∷ 5 ∷ []) (tagOf the-type phase) → onCard client sender nonce card proof addressed phase ≡ refused 18
+  unfolding onCard
+  no-cards Idle k = refl
+  no-cards (Stamps asked best counts) k = refl
+  no-cards (Prepareds timestamp counts) k = refl
+  no-cards (Writtens timestamp counts) k = refl
+  no-cards (Cards asked best counts showed) k = absurd (five k (λ e. omega arith) (λ e. omega arith) (λ e. omega arith) (λ e. omega arith) (λ e. omega arith))
+  no-cards (WriteBack timestamp counts) k = refl
+
+  module _ (phase : Phase) (asked : ℕ) (best : Timestamp) (counts showed : ReplicaSet) (e : phase ≡ Cards asked best counts showed) where
+    pub card-refused : (eqb nonce asked && (eqb (addressed .0) (client .id .0) && isNew counts sender)) ≡ false → onCard client sender nonce card proof addressed phase ≡ refused 18
+    unfolding onCard
+    card-refused h = ap (onCard client sender nonce card proof addressed) e ∙ guard-refuses 18 _ _ h
+
+    pub card-taken : (eqb nonce asked && (eqb (addressed .0) (client .id .0) && isNew counts sender)) ≡ true
+        → onCard client sender nonce card proof addressed phase
+        ≡ afterCard asked (bestOf best proof) (with counts sender) (showedBy best proof sender showed) (keepBetterCard best card proof client)
+    unfolding onCard
+    card-taken h = ap (onCard client sender nonce card proof addressed) e ∙ guard-passes 18 _ _ h
+
+module _ (client : Client) (sender : ReplicaId) (timestamp : ℕ) (digest mark : List ℕ) where
+  pub no-prepareds : (phase : Phase) → OneOf (0 ∷ 1 ∷ 3 ∷ 4 ∷ 5 ∷ []) (tagOf the-type phase) → onPrepared client sender timestamp digest mark phase ≡ refused 18
+  unfolding onPrepared
+  no-prepareds Idle k = refl
+  no-prepareds (Stamps asked best counts) k = refl
+  no-prepareds (Prepareds asked counts) k = absurd (five k (λ e. omega arith) (λ e. omega arith) (λ e. omega arith) (λ e. omega arith) (λ e. omega arith))
+  no-prepareds (Writtens asked counts) k = refl
+  no-prepareds (Cards asked best counts showed) k = refl
+  no-prepareds (WriteBack asked counts) k = refl
+
+  module _ (phase : Phase) (asked : Timestamp) (counts : ReplicaSet) (e : phase ≡ Prepareds asked counts) where
+    pub prepared-refused : (eqb timestamp (number asked) && (same digest (client .digest) && isNew counts sender)) ≡ false → onPrepared client sender timestamp digest mark phase ≡ refused 18
+    unfolding onPrepared
+    prepared-refused h = ap (onPrepared client sender timestamp digest mark) e ∙ guard-refuses 18 _ _ h
+
+    pub prepared-taken : (eqb timestamp (number asked) && (same digest (client .digest) && isNew counts sender)) ≡ true
+        → onPrepared client sender timestamp digest mark phase ≡ afterPrepared asked (with counts sender) (withSignatures (withSignature (client .signatures) sender mark) client)
+    unfolding onPrepared
+    prepared-taken h = ap (onPrepared client sender timestamp digest mark) e ∙ guard-passes 18 _ _ h
+
+module _ (client : Client) (sender : ReplicaId) (timestamp : ℕ) (mark : List ℕ) where
+  pub no-writtens : (phase : Phase) → OneOf (0 ∷ 1 ∷ 2 ∷ 4 ∷ []) (tagOf the-type phase) → onWritten client sender timestamp mark phase ≡ refused 18
+  unfolding onWritten
+  no-writtens Idle k = refl
+  no-writtens (Stamps asked best counts) k = refl
+  no-writtens (Prepareds asked counts) k = refl
+  no-writtens (Writtens asked counts) k = absurd (⊎-elim (λ e. omega arith) (⊎-elim (λ e. omega arith) (⊎-elim (λ e. omega arith) (λ e. omega arith))) k)
+  no-writtens (Cards asked best counts showed) k = refl
+  no-writtens (WriteBack asked counts) k = absurd (⊎-elim (λ e. omega arith) (⊎-elim (λ e. omega arith) (⊎-elim (λ e. omega arith) (λ e. omega arith))) k)
+
+  module _ (phase : Phase) (asked : Timestamp) (counts : ReplicaSet) where
+    pub written-refused : phase ≡ Writtens asked counts → (eqb timestamp (number asked) && isNew counts sender) ≡ false → onWritten client sender timestamp mark phase ≡ refused 18
+    unfolding onWritten
+    written-refused e h = ap (onWritten client sender timestamp mark) e ∙ guard-refuses 18 _ _ h
+
+    pub written-taken : phase ≡ Writtens asked counts → (eqb timestamp (number asked) && isNew counts sender) ≡ true
+        → onWritten client sender timestamp mark phase ≡ afterWritten asked (with counts sender) (withSignatures (withSignature (client .signatures) sender mark) client)
+    unfolding onWritten
+    written-taken e h = ap (onWritten client sender timestamp mark) e ∙ guard-passes 18 _ _ h
+
+    pub back-refused : phase ≡ WriteBack asked counts → (eqb timestamp (number asked) && isNew counts sender) ≡ false → onWritten client sender timestamp mark phase ≡ refused 18
+    unfolding onWritten
+    back-refused e h = ap (onWritten client sender timestamp mark) e ∙ guard-refuses 18 _ _ h
+
+    pub back-taken : phase ≡ WriteBack asked counts → (eqb timestamp (number asked) && isNew counts sender) ≡ true
+        → onWritten client sender timestamp mark phase ≡ afterWriteBack asked (with counts sender) client
+    unfolding onWritten
+    back-taken e h = ap (onWritten client sender timestamp mark) e ∙ guard-passes 18 _ _ h

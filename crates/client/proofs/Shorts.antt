@@ -1,0 +1,132 @@
+-- A card that a client is done with has at most 17 bytes. Assumes nothing.
+use mathlib.Core.Bool.{Bool, true, false, cond, _&&_}
+use mathlib.Core.List.{List}
+use mathlib.Core.Option.{Option, none, some}
+use Prim.Native.Nat.{ℕ, _≤_}
+use lib.ListN.{length, drop}
+use Rattle.base.specs.Outcome.{Outcome, accepted, refused, guard, _>>=_}
+use Rattle.base.specs.ReplicaSet.{with, isQuorum}
+use Rattle.base.specs.Timestamp.{successor}
+use Rattle.base.specs.declared.party.ClientId.{ClientId}
+use Rattle.base.specs.declared.party.ReplicaId.{ReplicaId}
+use Rattle.base.specs.declared.replica_set.ReplicaSet.{ReplicaSet}
+use Rattle.base.specs.declared.timestamp.Timestamp.{Timestamp}
+use Rattle.wire.specs.Checks.{checked, proven}
+use Rattle.wire.specs.Decode.{decode}
+use Rattle.wire.specs.Layout.{signature}
+use Rattle.wire.specs.Message.{Message, READ-STAMP, PREPARE, WRITE, READ, STAMP, PREPARED, WRITTEN, CARD}
+use Rattle.wire.specs.Proof.{PreparedProof}
+use Rattle.wire.specs.declared.message.Party.the-variants.{Client as AtClient}
+use Rattle.protocol.specs.Client.{Answer, send, counted, done, ended, Turn, currentCard, bestOf, keepBetter, showedBy, keepBetterCard, withSignature, withSignatures, beginWrite, beginRead, toPrepare, afterStamp, onStamp, afterPrepared, onPrepared, afterWritten, afterWriteBack, onWritten, afterCard, onCard, onMessage, clientStep}
+use Rattle.protocol.specs.Replica.{withOutput}
+use Rattle.protocol.specs.declared.client.Client.{Client}
+use Rattle.protocol.specs.declared.client.Phase.{Phase}
+use Rattle.protocol.specs.declared.client.Phase.the-variants.{Idle, Stamps, Prepareds, Writtens, Cards, WriteBack}
+use Rattle.protocol.proofs.ArrayLaws.{card-in-short}
+
+pub data Short : Outcome Turn → Type 0 where
+  refuses : {number : ℕ} → Short (refused number)
+  sends : {message : Message} {next : Client} → Short (accepted (record { answer = send message; next = next }))
+  counts : {next : Client} → Short (accepted (record { answer = counted; next = next }))
+  finishes : {timestamp : Timestamp} {card : List ℕ} {next : Client} → length card ≤ 17 → Short (accepted (record { answer = done timestamp card; next = next }))
+  ends : {next : Client} → Short (accepted (record { answer = ended; next = next }))
+
+short-guard : (number : ℕ) (test : Bool) (next : Outcome Turn) → Short next → Short (guard number test next)
+unfolding guard
+short-guard number true next h = h
+short-guard number false next h = refuses
+
+short-cond : (test : Bool) (x y : Outcome Turn) → Short x → Short y → Short (cond test x y)
+short-cond true x y hx hy = hx
+short-cond false x y hx hy = hy
+
+short-card : (client : Client) → length (currentCard client) ≤ 17
+short-card client = card-in-short (client .card) (client .«card_length»)
+
+short-stamps : (nonce : ℕ) (best : Timestamp) (held : ReplicaSet) (client : Client) → Short (afterStamp nonce best held client)
+unfolding afterStamp
+short-stamps nonce best held client = short-cond (isQuorum (client .f) held) _ _ (go (successor best (client .id))) counts
+  where
+    go : (next : Option Timestamp) → Short (toPrepare client best next)
+    go none = ends
+    go (some next) = sends
+
+short-stamp : (client : Client) (sender : ReplicaId) (nonce : ℕ) (proof : Option PreparedProof) (addressed : ClientId) (phase : Phase) → Short (onStamp client sender nonce proof addressed phase)
+unfolding onStamp
+short-stamp client sender nonce proof addressed Idle = refuses
+short-stamp client sender nonce proof addressed (Stamps asked best held) = short-guard 18 _ _ (short-stamps asked (bestOf best proof) (with held sender) (keepBetter best proof client))
+short-stamp client sender nonce proof addressed (Prepareds asked held) = refuses
+short-stamp client sender nonce proof addressed (Writtens asked held) = refuses
+short-stamp client sender nonce proof addressed (Cards asked best held showed) = refuses
+short-stamp client sender nonce proof addressed (WriteBack asked held) = refuses
+
+short-prepared : (client : Client) (sender : ReplicaId) (timestamp : ℕ) (digest mark : List ℕ) (phase : Phase) → Short (onPrepared client sender timestamp digest mark phase)
+unfolding onPrepared afterPrepared
+short-prepared client sender timestamp digest mark Idle = refuses
+short-prepared client sender timestamp digest mark (Stamps asked best held) = refuses
+short-prepared client sender timestamp digest mark (Prepareds asked held) = short-guard 18 _ _ (short-cond (isQuorum (client .f) (with held sender)) _ _ sends counts)
+short-prepared client sender timestamp digest mark (Writtens asked held) = refuses
+short-prepared client sender timestamp digest mark (Cards asked best held showed) = refuses
+short-prepared client sender timestamp digest mark (WriteBack asked held) = refuses
+
+short-written : (client : Client) (sender : ReplicaId) (timestamp : ℕ) (mark : List ℕ) (phase : Phase) → Short (onWritten client sender timestamp mark phase)
+unfolding onWritten afterWritten afterWriteBack
+short-written client sender timestamp mark Idle = refuses
+short-written client sender timestamp mark (Stamps asked best held) = refuses
+short-written client sender timestamp mark (Prepareds asked held) = refuses
+short-written client sender timestamp mark (Writtens asked held) = short-guard 18 _ _ (short-cond (isQuorum (client .f) (with held sender)) _ _ (finishes (short-card client)) counts)
+short-written client sender timestamp mark (Cards asked best held showed) = refuses
+short-written client sender timestamp mark (WriteBack asked held) = short-guard 18 _ _ (short-cond (isQuorum (client .f) (with held sender)) _ _ (finishes (short-card client)) counts)
+
+short-cards : (nonce : ℕ) (best : Timestamp) (held showed : ReplicaSet) (client : Client) → Short (afterCard nonce best held showed client)
+unfolding afterCard
+short-cards nonce best held showed client =
+    short-cond (isQuorum (client .f) held) _ _ (short-cond (isQuorum (client .f) showed) _ _ (finishes (short-card client)) sends) counts
+
+short-on-card : (client : Client) (sender : ReplicaId) (nonce : ℕ) (card : List ℕ) (proof : Option PreparedProof) (addressed : ClientId) (phase : Phase)
+    → Short (onCard client sender nonce card proof addressed phase)
+unfolding onCard
+short-on-card client sender nonce card proof addressed Idle = refuses
+short-on-card client sender nonce card proof addressed (Stamps asked best held) = refuses
+short-on-card client sender nonce card proof addressed (Prepareds asked held) = refuses
+short-on-card client sender nonce card proof addressed (Writtens asked held) = refuses
+short-on-card client sender nonce card proof addressed (Cards asked best held showed) =
+    short-guard 18 _ _ (short-cards asked (bestOf best proof) (with held sender) (showedBy best proof sender showed) (keepBetterCard best card proof client))
+short-on-card client sender nonce card proof addressed (WriteBack asked held) = refuses
+
+-- 6 to 11 in front.
+short-tests : (f : ℕ) (ranged : Bool) (message : Message) (verdicts : List ℕ) (next : Outcome Turn) → Short next → Short (guard 6 ranged (checked f message verdicts next))
+unfolding checked proven
+short-tests f ranged message verdicts next h = short-guard 6 _ _ (short-guard 7 _ _ (short-guard 8 _ _ (short-guard 9 _ _ (short-guard 10 _ _ (short-guard 11 _ _ h)))))
+
+module _ (client : Client) where
+  short-message : (verdicts mark : List ℕ) (message : Message) → Short (onMessage client verdicts mark message)
+  unfolding onMessage
+  short-message verdicts mark (STAMP sender nonce proof addressed) =
+      short-tests (client .f) _ (STAMP sender nonce proof addressed) verdicts _ (short-stamp client sender nonce proof addressed (client .phase))
+  short-message verdicts mark (PREPARED sender timestamp digest) =
+      short-tests (client .f) _ (PREPARED sender timestamp digest) verdicts _ (short-prepared client sender timestamp digest mark (client .phase))
+  short-message verdicts mark (WRITTEN sender timestamp) = short-tests (client .f) _ (WRITTEN sender timestamp) verdicts _ (short-written client sender timestamp mark (client .phase))
+  short-message verdicts mark (CARD sender nonce card proof addressed) =
+      short-tests (client .f) _ (CARD sender nonce card proof addressed) verdicts _ (short-guard 14 _ _ (short-on-card client sender nonce card proof addressed (client .phase)))
+  short-message verdicts mark (READ-STAMP sender nonce) = refuses
+  short-message verdicts mark (PREPARE sender timestamp digest proof last) = refuses
+  short-message verdicts mark (WRITE sender card proof) = refuses
+  short-message verdicts mark (READ sender nonce) = refuses
+
+  module _ (old : List ℕ) where
+    pub short-write : (card : List ℕ) → Short (withOutput old (beginWrite client card))
+    unfolding beginWrite
+    short-write card = short-guard 1 _ _ (short-guard 14 _ _ (short-guard 17 _ _ sends))
+
+    pub short-read : Short (withOutput old (beginRead client))
+    unfolding beginRead
+    short-read = short-guard 1 _ _ (short-guard 17 _ _ sends)
+
+    pub short-step : (bytes verdicts : List ℕ) → Short (withOutput old (clientStep client bytes verdicts))
+    unfolding clientStep
+    short-step bytes verdicts = short-guard 1 _ _ (go (decode AtClient bytes))
+      where
+        go : (m : Outcome Message) → Short (m >>= onMessage client verdicts (signature bytes))
+        go (accepted message) = short-message verdicts (signature bytes) message
+        go (refused number) = refuses

@@ -1,0 +1,10 @@
+-- `client::idle` meets its contract. Assumes nothing.
+use borrow.Author.Needs.{needs}
+use Rattle.client.proofs.idle.Statement.{statement}
+use Rattle.client.proofs.idle.Tie as tie
+
+returns : tie.Need-returns
+returns c = rw (c .start .ensures)
+
+pub idle-spec : {M : Type 1} → statement M
+idle-spec = tie.close (tie.spec (λ c κs. search needs) returns)

@@ -1,0 +1,63 @@
+-- `client::step` meets its contract. Assumes nothing.
+use mathlib.Core.Path.{sym, ap, _∙_}
+use Rattle.protocol.specs.Client.{clientStep}
+use Rattle.wire.specs.Decode.{readingOutcome}
+use Rattle.client.proofs.Calling.{step-calls, too-short, is-refused, behind-output}
+use Rattle.client.proofs.Steps.{step-refused, step-passes, step-passing}
+use borrow.Author.Needs.{needs}
+use Rattle.client.proofs.step.Statement.{statement}
+use Rattle.client.proofs.step.Tie as tie
+
+returns : tie.Need-returns
+returns c =
+    let a = c .before .before .before .before .before .args in
+    let bytes = a .message .now in
+    let verdicts = a .verdicts .now in
+    let old = a .out .now in
+    step-calls (a .client) old (c .refused .result) old bytes verdicts (too-short (a .client) old (c .refused .result) (clientStep (a .client) bytes verdicts) (c .before .if1 .taken) (c .refused .ensures))
+
+take-requires : tie.Need-take-requires
+take-requires c κs =
+    let a = c .before .before .before .before .before .before .before .before .before .args in
+    let bytes = a .message .now in
+    let verdicts = a .verdicts .now in
+    let old = a .out .now in
+    let passed = sym (c .before .before .before .before .accept .ensures) ∙ ap readingOutcome (c .before .before .fields .given .1) in
+    let fields = c .before .before .fields .given .0 .0 in
+    (c .before .before .before .before .before .if1 .left, step-passing (a .client) bytes verdicts fields passed)
+
+returns-2 : tie.Need-returns-2
+returns-2 c =
+    let a = c .before .before .before .before .before .before .before .before .before .before .before .before .args in
+    let bytes = a .message .now in
+    let verdicts = a .verdicts .now in
+    let old = a .out .now in
+    let passed = sym (c .before .before .before .before .before .before .before .accept .ensures) ∙ ap readingOutcome (c .before .before .before .before .before .fields .given .1) in
+    let fields = c .before .before .before .before .before .fields .given .0 .0 in
+    let taken = c .before .before .take in
+    step-calls (a .client) old (taken .result) (taken .last .1 .1 .1 .0) bytes verdicts (behind-output (a .client) old (taken .result) (taken .last .1 .1 .1 .0) (clientStep (a .client) bytes verdicts) _ (c .before .before .before .before .before .before .before .before .if1 .left) (step-passes (a .client) bytes verdicts fields passed) (taken .ensures))
+
+returns-3 : tie.Need-returns-3
+returns-3 c =
+    let a = c .before .before .before .before .before .before .before .before .before .args in
+    let bytes = a .message .now in
+    let verdicts = a .verdicts .now in
+    let old = a .out .now in
+    let number = c .before .before .number .given .0 .0 in
+    let no = sym (c .before .before .before .before .accept .ensures) ∙ ap readingOutcome (c .before .before .number .given .1) in
+    step-calls (a .client) old (c .refused2 .result) old bytes verdicts (is-refused (a .client) old (c .refused2 .result) (clientStep (a .client) bytes verdicts) number (c .before .before .before .before .before .if1 .left) (step-refused (a .client) bytes verdicts number no) (c .refused2 .ensures))
+
+pub step-spec : {M : Type 1} → statement M
+step-spec =
+    tie.close
+    (tie.spec
+    (λ c κs. search needs)
+    returns
+    (λ c κs. search needs)
+    (λ c. search needs)
+    take-requires
+    (λ c. search needs)
+    (λ c κs. search needs)
+    (λ c. search needs)
+    returns-2
+    returns-3)

@@ -1,0 +1,3 @@
+pub mod Arrays
+pub mod Messages
+pub mod Stepping

@@ -1,0 +1,79 @@
+// What a call returns.
+use crate::Stepped;
+use crate::arrays::card_array;
+use crate::record::with_phase;
+use base::timestamp::Timestamp;
+use protocol::client::Client;
+use protocol::client::ClientAnswer;
+use protocol::client::Phase;
+use wire::writer::Encoded;
+ghost use mathlib.Core.Path.{_≡_};
+ghost use Prim.Native.Nat.{min};
+ghost use Rattle.wire.specs.Sha256.{sha256};
+ghost use Rattle.protocol.specs.Client.{currentCard, withPhase};
+ghost use Rattle.client.specs.Stepping.{plain, doneWith, sentAs};
+
+const LONGEST_CARD: u8 = 17;
+
+// An answer with no card beside it.
+pub fn plain(answer: ClientAnswer, client: Client) -> Stepped
+    ensures { λ r. ⌜ r ≡ plain answer client ⌝ }
+{
+    Stepped {
+        answer: answer,
+        card_length: 0,
+        card: [0; 17],
+        client: client,
+    }
+}
+
+pub fn refused(number: u8, client: Client) -> Stepped
+    ensures { λ r. ⌜ r ≡ plain (ClientAnswer.Refused number) client ⌝ }
+{
+    plain(ClientAnswer::Refused(number), client)
+}
+
+// The message that was written is to be sent.
+pub fn sent(encoded: Encoded, client: Client) -> Stepped
+    ensures { λ r. ⌜ r ≡ sentAs encoded client ⌝ }
+{
+    match encoded {
+        Encoded::Length(n) => plain(ClientAnswer::Send(n), client),
+        Encoded::Refused(number) => refused(number, client),
+    }
+}
+
+// A record of any value has at most 17 bytes of a card.
+fn kept(card_length: u8) -> u8
+    ensures { λ r. ⌜ r ≡ min «card_length» 17 ⌝ }
+{
+    if card_length < LONGEST_CARD {
+        card_length
+    } else {
+        LONGEST_CARD
+    }
+}
+
+// Done with the card that the record holds, which is then idle.
+pub fn done(timestamp: Timestamp, client: Client) -> Stepped
+    ensures { λ r. ⌜ r ≡ doneWith timestamp (currentCard client) (withPhase Phase.Idle client) ⌝ }
+{
+    let card = client.card;
+    let length = kept(client.card_length);
+    let end = length as usize;
+    Stepped {
+        answer: ClientAnswer::Done(timestamp),
+        card_length: length,
+        card: card_array(&card[..end]),
+        client: with_phase(client, Phase::Idle),
+    }
+}
+
+// The digest of the card that the record holds.
+pub fn card_digest(client: Client) -> [u8; 32]
+    ensures { λ r. ⌜ r ≡ sha256 (currentCard client) ⌝ }
+{
+    let card = client.card;
+    let end = kept(client.card_length) as usize;
+    wire::sha256::sha256(&card[..end]).bytes
+}

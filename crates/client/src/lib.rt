@@ -1,0 +1,129 @@
+// The client engine: beginnings of writes and reads, and what a client makes of a message.
+mod answers;
+mod arrays;
+mod begin;
+mod messages;
+mod read;
+mod record;
+mod replies;
+mod signatures;
+mod write;
+mod written;
+
+use answers::refused;
+use base::party::ClientId;
+use base::party::Setup;
+use base::timestamp::Timestamp;
+use protocol::client::Client;
+use protocol::client::ClientAnswer;
+use protocol::client::Phase;
+use wire::card::CardCheck;
+use wire::message::Party;
+use wire::message::Reading;
+ghost use mathlib.Core.Path.{_≡_};
+ghost use Rattle.protocol.specs.Client.{idleClient, beginWrite, beginRead, clientStep, beginWriteCall, beginReadCall, clientCall};
+ghost use Rattle.protocol.specs.Replica.{withOutput};
+ghost use Rattle.client.specs.Stepping.{Made, Calls};
+
+// The longest message.
+const LONGEST: usize = 1_579;
+
+const TOO_SHORT: u8 = 1;
+
+const BAD_CARD: u8 = 14;
+
+const BUSY: u8 = 17;
+
+// A client that is set up; a record of no client where it is refused.
+pub struct NewClient {
+    pub setup: Setup,
+    pub client: Client,
+}
+
+// A call's answer. The card stands beside Done, zeros behind it; beside other answers there are zeros.
+pub struct Stepped {
+    pub answer: ClientAnswer,
+    pub card_length: u8,
+    pub card: [u8; 17],
+    pub client: Client,
+}
+
+// An idle client that has used the nonce.
+fn idle(f: u8, id: ClientId, last_nonce: u64) -> Client
+    ensures { λ r. ⌜ r ≡ idleClient f id «last_nonce» ⌝ }
+{
+    Client {
+        f: f,
+        id: id,
+        last_nonce: last_nonce,
+        phase: Phase::Idle,
+        card_length: 0,
+        card: [0; 17],
+        digest: [0; 32],
+        entry_count: 0,
+        entries: [0; 715],
+        signatures: [0; 1024],
+        written: Timestamp::start(),
+        written_count: 0,
+        written_entries: [0; 715],
+    }
+}
+
+// A client before its first operation, or refusal 16.
+pub fn fresh(f: u8, id: ClientId, first_nonce: u64) -> NewClient
+    ensures { λ r. ⌜ Made f id «first_nonce» r ⌝ }
+{
+    match base::party::client_setup(f, id, first_nonce) {
+        Setup::Good => NewClient {
+            setup: Setup::Good,
+            client: idle(f, id, first_nonce - 1),
+        },
+        Setup::Refused(number) => NewClient {
+            setup: Setup::Refused(number),
+            client: idle(0, ClientId(0), 0),
+        },
+    }
+}
+
+// Begins a write of a card.
+pub fn begin_write(client: Client, card: &[u8], out: &mut [u8]) -> Stepped
+    ensures { λ r. ⌜ Calls (beginWriteCall client (now (card .entry)) (now (out .entry))) (withOutput (now (out .entry)) (beginWrite client (now (card .entry)))) r (now (out .exit)) ⌝ }
+{
+    if out.len() < LONGEST {
+        return refused(TOO_SHORT, client);
+    }
+    let CardCheck::Good = wire::card::check(card) else {
+        return refused(BAD_CARD, client);
+    };
+    if !begin::may_begin(client) {
+        return refused(BUSY, client);
+    }
+    begin::ask_stamps(client, card, out)
+}
+
+// Begins a read.
+pub fn begin_read(client: Client, out: &mut [u8]) -> Stepped
+    ensures { λ r. ⌜ Calls (beginReadCall client (now (out .entry))) (withOutput (now (out .entry)) (beginRead client)) r (now (out .exit)) ⌝ }
+{
+    if out.len() < LONGEST {
+        return refused(TOO_SHORT, client);
+    }
+    if !begin::may_begin(client) {
+        return refused(BUSY, client);
+    }
+    begin::ask_cards(client, out)
+}
+
+// What the client makes of a message of any bytes, with verdicts of any number and value.
+pub fn step(client: Client, message: &[u8], verdicts: &[u8], out: &mut [u8]) -> Stepped
+    ensures { λ r. ⌜ Calls (clientCall client (now (message .entry)) (now (verdicts .entry)) (now (out .entry)))
+        (withOutput (now (out .entry)) (clientStep client (now (message .entry)) (now (verdicts .entry)))) r (now (out .exit)) ⌝ }
+{
+    if out.len() < LONGEST {
+        return refused(TOO_SHORT, client);
+    }
+    match wire::acceptance::accept(Party::Client, client.f, message, verdicts) {
+        Reading::Message(fields) => messages::take(client, message, fields, out),
+        Reading::Refused(number) => refused(number, client),
+    }
+}

@@ -1,0 +1,111 @@
+// A read's replies: CARDs, and the WRITTENs that end a write-back.
+use crate::Stepped;
+use crate::answers::done;
+use crate::answers::plain;
+use crate::answers::refused;
+use crate::answers::sent;
+use crate::record::with_phase;
+use crate::replies::best_of;
+use crate::replies::is_awaited;
+use crate::replies::keep_better_card;
+use crate::replies::showed_by;
+use base::party::ClientId;
+use base::party::ReplicaId;
+use base::replica_set::ReplicaSet;
+use base::timestamp::Timestamp;
+use protocol::client::Client;
+use protocol::client::ClientAnswer;
+use protocol::client::Phase;
+ghost use mathlib.Core.Path.{_≡_};
+ghost use Prim.Native.Nat.{_≤_};
+ghost use lib.ListN.{length};
+ghost use Rattle.wire.specs.Message.{longest, WRITE};
+ghost use Rattle.protocol.specs.Client.{clientAnswers, currentCard, bestProof, withPhase, turn, send, afterCard, onCard, afterWriteBack};
+ghost use Rattle.client.specs.Arrays.{proofIn, IfProof};
+ghost use Rattle.client.specs.Stepping.{callOf, Takes, TakesAny};
+
+const NOT_AWAITED: u8 = 18;
+
+// WRITE the best card with its proof; the replicas that showed it count.
+fn write_back(client: Client, best: Timestamp, showed: ReplicaSet, out: &mut [u8]) -> Stepped
+    requires { ⌜ longest ≤ length (now out) ⌝ }
+    ensures { λ r. ⌜ Takes (now (out .entry))
+        (turn (send (WRITE (client .id) (currentCard client) (bestProof client best))) (withPhase (Phase.WriteBack best showed) client))
+        r (now (out .exit)) ⌝ }
+{
+    let id = client.id;
+    let card = client.card;
+    let digest = client.digest;
+    let entries = client.entries;
+    let encoded = wire::writer::write_write(
+        out,
+        id,
+        &card,
+        client.card_length,
+        best,
+        &digest,
+        client.entry_count,
+        &entries,
+    );
+    sent(encoded, with_phase(client, Phase::WriteBack(best, showed)))
+}
+
+// A CARD more was taken.
+fn after_card(
+    client: Client,
+    nonce: u64,
+    best: Timestamp,
+    counts: ReplicaSet,
+    showed: ReplicaSet,
+    out: &mut [u8],
+) -> Stepped
+    requires { ⌜ longest ≤ length (now out) ⌝ }
+    ensures { λ r. ⌜ Takes (now (out .entry)) (afterCard nonce best counts showed client) r (now (out .exit)) ⌝ }
+{
+    if !counts.is_quorum(client.f) {
+        let waiting = Phase::Cards(nonce, best, counts, showed);
+        return plain(ClientAnswer::Counted, with_phase(client, waiting));
+    }
+    if showed.is_quorum(client.f) {
+        return done(best, client);
+    }
+    write_back(client, best, showed, out)
+}
+
+// A CARD that passed test 14.
+pub fn on_card<'a>(
+    client: Client,
+    sender: ReplicaId,
+    nonce: u64,
+    card: &'a [u8],
+    proof: &'a [u8],
+    addressed: ClientId,
+    out: &mut [u8],
+) -> Stepped
+    requires { ⌜ (longest ≤ length (now out)) × IfProof (now proof) × (length (now card) ≤ 17) ⌝ }
+    ensures { λ r. ⌜ callOf r (now (out .exit)) ≡ clientAnswers client (now (out .entry)) (onCard client sender nonce (now (card .entry)) (proofIn (now (proof .entry))) addressed (client .phase)) ⌝ }
+{
+    let phase = client.phase;
+    let Phase::Cards(asked, best, counts, showed) = phase else {
+        return refused(NOT_AWAITED, client);
+    };
+    let id = client.id;
+    if !is_awaited(nonce, asked, addressed, id, counts, sender) {
+        return refused(NOT_AWAITED, client);
+    }
+    let later = best_of(best, proof);
+    let shown = showed_by(best, proof, sender, showed);
+    let kept = keep_better_card(client, best, card, proof);
+    after_card(kept, asked, later, counts.with(sender), shown, out)
+}
+
+// A WRITTEN more was taken in a write-back: with those that showed the timestamp, q end the read.
+pub fn after_write_back(client: Client, timestamp: Timestamp, counts: ReplicaSet) -> Stepped
+    ensures { λ r. ⌜ TakesAny (afterWriteBack timestamp counts client) r ⌝ }
+{
+    if !counts.is_quorum(client.f) {
+        let waiting = Phase::WriteBack(timestamp, counts);
+        return plain(ClientAnswer::Counted, with_phase(client, waiting));
+    }
+    done(timestamp, client)
+}

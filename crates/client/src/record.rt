@@ -1,0 +1,214 @@
+// Changes of a client's record, each the record anew.
+use crate::arrays::card_array;
+use crate::arrays::digest_array;
+use crate::arrays::entries_array;
+use crate::signatures::Built;
+use base::replica_set::ReplicaSet;
+use base::timestamp::Timestamp;
+use protocol::client::Client;
+use protocol::client::Phase;
+ghost use mathlib.Core.Path.{_≡_};
+ghost use Prim.Native.Nat.{_≤_};
+ghost use lib.ListN.{length};
+ghost use Rattle.wire.specs.Proof.{preparedFrom};
+ghost use Rattle.protocol.specs.Client.{withPhase, beginning, withProof, withCard, withDigest, withSignatures, withLastWritten, built};
+ghost use Rattle.client.specs.Arrays.{Reaches, Keeps};
+
+pub fn with_phase(client: Client, phase: Phase) -> Client
+    ensures { λ r. ⌜ r ≡ withPhase phase client ⌝ }
+{
+    let id = client.id;
+    let card = client.card;
+    let digest = client.digest;
+    let entries = client.entries;
+    let signatures = client.signatures;
+    let written = client.written;
+    let written_entries = client.written_entries;
+    Client {
+        f: client.f,
+        id: id,
+        last_nonce: client.last_nonce,
+        phase: phase,
+        card_length: client.card_length,
+        card: card,
+        digest: digest,
+        entry_count: client.entry_count,
+        entries: entries,
+        signatures: signatures,
+        written: written,
+        written_count: client.written_count,
+        written_entries: written_entries,
+    }
+}
+
+// A new operation: its nonce, its card, no reply yet.
+pub fn beginning(client: Client, nonce: u64, phase: Phase, card: &[u8]) -> Client
+    requires { ⌜ length (now card) ≤ 17 ⌝ }
+    ensures { λ r. ⌜ r ≡ beginning nonce phase (now (card .entry)) client ⌝ }
+{
+    let id = client.id;
+    let written = client.written;
+    let written_entries = client.written_entries;
+    Client {
+        f: client.f,
+        id: id,
+        last_nonce: nonce,
+        phase: phase,
+        card_length: card.len() as u8,
+        card: card_array(card),
+        digest: [0; 32],
+        entry_count: 0,
+        entries: [0; 715],
+        signatures: [0; 1024],
+        written: written,
+        written_count: client.written_count,
+        written_entries: written_entries,
+    }
+}
+
+// The prepared proof of the bytes, in place of the one that was kept.
+pub fn with_proof(client: Client, proof: &[u8]) -> Client
+    requires { ⌜ Reaches (now proof) ⌝ }
+    ensures { λ r. ⌜ r ≡ withProof (preparedFrom (now (proof .entry))) client ⌝ }
+{
+    let id = client.id;
+    let phase = client.phase;
+    let card = client.card;
+    let signatures = client.signatures;
+    let written = client.written;
+    let written_entries = client.written_entries;
+    Client {
+        f: client.f,
+        id: id,
+        last_nonce: client.last_nonce,
+        phase: phase,
+        card_length: client.card_length,
+        card: card,
+        digest: digest_array(&proof[5..37]),
+        entry_count: proof[37],
+        entries: entries_array(&proof[38..]),
+        signatures: signatures,
+        written: written,
+        written_count: client.written_count,
+        written_entries: written_entries,
+    }
+}
+
+pub fn with_card(client: Client, card: &[u8]) -> Client
+    requires { ⌜ length (now card) ≤ 17 ⌝ }
+    ensures { λ r. ⌜ r ≡ withCard (now (card .entry)) client ⌝ }
+{
+    let id = client.id;
+    let phase = client.phase;
+    let digest = client.digest;
+    let entries = client.entries;
+    let signatures = client.signatures;
+    let written = client.written;
+    let written_entries = client.written_entries;
+    Client {
+        f: client.f,
+        id: id,
+        last_nonce: client.last_nonce,
+        phase: phase,
+        card_length: card.len() as u8,
+        card: card_array(card),
+        digest: digest,
+        entry_count: client.entry_count,
+        entries: entries,
+        signatures: signatures,
+        written: written,
+        written_count: client.written_count,
+        written_entries: written_entries,
+    }
+}
+
+// The digest of the card that is written; the best reply's proof is no longer needed.
+pub fn with_digest(client: Client, digest: [u8; 32]) -> Client
+    ensures { λ r. ⌜ r ≡ withDigest digest client ⌝ }
+{
+    let id = client.id;
+    let phase = client.phase;
+    let card = client.card;
+    let signatures = client.signatures;
+    let written = client.written;
+    let written_entries = client.written_entries;
+    Client {
+        f: client.f,
+        id: id,
+        last_nonce: client.last_nonce,
+        phase: phase,
+        card_length: client.card_length,
+        card: card,
+        digest: digest,
+        entry_count: 0,
+        entries: [0; 715],
+        signatures: signatures,
+        written: written,
+        written_count: client.written_count,
+        written_entries: written_entries,
+    }
+}
+
+pub fn with_signatures(client: Client, signatures: [u8; 1024]) -> Client
+    ensures { λ r. ⌜ r ≡ withSignatures signatures client ⌝ }
+{
+    let id = client.id;
+    let phase = client.phase;
+    let card = client.card;
+    let digest = client.digest;
+    let entries = client.entries;
+    let written = client.written;
+    let written_entries = client.written_entries;
+    Client {
+        f: client.f,
+        id: id,
+        last_nonce: client.last_nonce,
+        phase: phase,
+        card_length: client.card_length,
+        card: card,
+        digest: digest,
+        entry_count: client.entry_count,
+        entries: entries,
+        signatures: signatures,
+        written: written,
+        written_count: client.written_count,
+        written_entries: written_entries,
+    }
+}
+
+// The counted replicas and their signatures as a proof's entries.
+pub fn built(client: Client, counts: ReplicaSet) -> Built
+    ensures { λ r. ⌜ Keeps (built client counts (client .signatures)) (r .count) (r .entries) ⌝ }
+{
+    let signatures = client.signatures;
+    crate::signatures::gather(base::party::replica_count(client.f), counts, &signatures)
+}
+
+// The client's own write is finished: its WRITTENs are the last written proof.
+pub fn with_last_written(client: Client, timestamp: Timestamp, counts: ReplicaSet) -> Client
+    ensures { λ r. ⌜ r ≡ withLastWritten timestamp (built client counts (client .signatures)) client ⌝ }
+{
+    let proof = built(client, counts);
+    let id = client.id;
+    let phase = client.phase;
+    let card = client.card;
+    let digest = client.digest;
+    let entries = client.entries;
+    let signatures = client.signatures;
+    let written_entries = proof.entries;
+    Client {
+        f: client.f,
+        id: id,
+        last_nonce: client.last_nonce,
+        phase: phase,
+        card_length: client.card_length,
+        card: card,
+        digest: digest,
+        entry_count: client.entry_count,
+        entries: entries,
+        signatures: signatures,
+        written: timestamp,
+        written_count: proof.count,
+        written_entries: written_entries,
+    }
+}

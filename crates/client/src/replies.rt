@@ -1,0 +1,160 @@
+// What a STAMP or a CARD changes of the largest timestamp, the replicas that showed it, and what is kept of its reply.
+// A proof is the part of the message that carries it, empty if it is missing.
+use crate::arrays::same_bytes;
+use crate::record::with_card;
+use crate::record::with_proof;
+use base::party::ClientId;
+use base::party::ReplicaId;
+use base::replica_set::ReplicaSet;
+use base::timestamp::Timestamp;
+use protocol::client::Client;
+use wire::card::CardCheck;
+ghost use mathlib.Core.Path.{_≡_};
+ghost use mathlib.Core.Bool.{_&&_};
+ghost use Prim.Native.Nat.{_≤_};
+ghost use lib.Dec.{eqb};
+ghost use lib.ListN.{length};
+ghost use Rattle.base.specs.Same.{same};
+ghost use Rattle.base.specs.Timestamp.{number, ofNumber};
+ghost use Rattle.protocol.specs.Client.{bestOf, keepBetter, keepBetterCard, showedBy, isNew};
+ghost use Rattle.protocol.specs.Parts.{timestampOf, cardStands, startCard};
+ghost use Rattle.client.specs.Arrays.{proofIn, IfProof};
+
+// Whether a reply has the nonce and the client awaited, and its replica's was not taken yet.
+pub fn is_awaited(
+    nonce: u64,
+    asked: u64,
+    addressed: ClientId,
+    id: ClientId,
+    counts: ReplicaSet,
+    sender: ReplicaId,
+) -> bool
+    ensures { λ r. ⌜ r ≡ (eqb nonce asked && (eqb (addressed .0) (id .0) && isNew counts sender)) ⌝ }
+{
+    if nonce != asked {
+        return false;
+    }
+    if addressed.0 != id.0 {
+        return false;
+    }
+    !counts.has(sender)
+}
+
+// 0.0 for a missing proof.
+fn proof_timestamp(proof: &[u8]) -> Timestamp
+    requires { ⌜ IfProof (now proof) ⌝ }
+    ensures { λ r. ⌜ r ≡ ofNumber (timestampOf (proofIn (now (proof .entry)))) ⌝ }
+{
+    if proof.len() == 0 {
+        return Timestamp::start();
+    }
+    Timestamp::from_bytes(proof[0], proof[1], proof[2], proof[3], proof[4])
+}
+
+// The larger timestamp; the first reply's on a tie.
+pub fn best_of(best: Timestamp, proof: &[u8]) -> Timestamp
+    requires { ⌜ IfProof (now proof) ⌝ }
+    ensures { λ r. ⌜ r ≡ bestOf best (proofIn (now (proof .entry))) ⌝ }
+{
+    let shown = proof_timestamp(proof);
+    if best.is_before(shown) { shown } else { best }
+}
+
+// A better reply's proof is kept.
+pub fn keep_better(client: Client, best: Timestamp, proof: &[u8]) -> Client
+    requires { ⌜ IfProof (now proof) ⌝ }
+    ensures { λ r. ⌜ r ≡ keepBetter best (proofIn (now (proof .entry))) client ⌝ }
+{
+    if !best.is_before(proof_timestamp(proof)) {
+        return client;
+    }
+    with_proof(client, proof)
+}
+
+pub fn keep_better_card<'a>(
+    client: Client,
+    best: Timestamp,
+    card: &'a [u8],
+    proof: &'a [u8],
+) -> Client
+    requires { ⌜ IfProof (now proof) × (length (now card) ≤ 17) ⌝ }
+    ensures { λ r. ⌜ r ≡ keepBetterCard best (now (card .entry)) (proofIn (now (proof .entry))) client ⌝ }
+{
+    if !best.is_before(proof_timestamp(proof)) {
+        return client;
+    }
+    with_card(with_proof(client, proof), card)
+}
+
+// The replicas that showed the largest timestamp.
+pub fn showed_by(best: Timestamp, proof: &[u8], sender: ReplicaId, showed: ReplicaSet) -> ReplicaSet
+    requires { ⌜ IfProof (now proof) ⌝ }
+    ensures { λ r. ⌜ r ≡ showedBy best (proofIn (now (proof .entry))) sender showed ⌝ }
+{
+    let shown = proof_timestamp(proof);
+    if best.is_before(shown) {
+        return ReplicaSet::empty().with(sender);
+    }
+    if best.is(shown) {
+        return showed.with(sender);
+    }
+    showed
+}
+
+// A card behind no proof is the starting card.
+fn is_start_card(card: &[u8]) -> bool
+    ensures { λ r. ⌜ r ≡ same (now (card .entry)) startCard ⌝ }
+{
+    let start = [0u8; 2];
+    same_bytes(card, &start)
+}
+
+// Test 14 of a CARD.
+pub fn card_stands<'a>(card: &'a [u8], proof: &'a [u8]) -> bool
+    requires { ⌜ IfProof (now proof) ⌝ }
+    ensures { λ r. ⌜ r ≡ cardStands (now (card .entry)) (proofIn (now (proof .entry))) ⌝ }
+{
+    if proof.len() == 0 {
+        return is_start_card(card);
+    }
+    let CardCheck::Good = wire::card::check(card) else {
+        return false;
+    };
+    let digest = wire::sha256::sha256(card).bytes;
+    same_bytes(&digest, &proof[5..37])
+}
+
+// Whether a WRITTEN has the timestamp awaited, and its replica's was not taken yet.
+pub fn is_awaited_written(
+    timestamp: Timestamp,
+    asked: Timestamp,
+    counts: ReplicaSet,
+    sender: ReplicaId,
+) -> bool
+    ensures { λ r. ⌜ r ≡ (eqb (number timestamp) (number asked) && isNew counts sender) ⌝ }
+{
+    if !timestamp.is(asked) {
+        return false;
+    }
+    !counts.has(sender)
+}
+
+// The same of a PREPARED, which has the digest too.
+pub fn is_awaited_prepared<'a>(
+    timestamp: Timestamp,
+    asked: Timestamp,
+    digest: &'a [u8],
+    kept: &'a [u8; 32],
+    counts: ReplicaSet,
+    sender: ReplicaId,
+) -> bool
+    ensures { λ r. ⌜ r ≡ (eqb (number timestamp) (number asked) && (same (now (digest .entry)) (now (kept .entry)) && isNew counts sender)) ⌝ }
+{
+    if !timestamp.is(asked) {
+        return false;
+    }
+    if !same_bytes(digest, kept) {
+        return false;
+    }
+    !counts.has(sender)
+}

@@ -1,0 +1,77 @@
+// The signatures counted in a phase, and the proofs built of them.
+use crate::arrays::put;
+use base::party::ReplicaId;
+use base::replica_set::ReplicaSet;
+ghost use mathlib.Core.Path.{_≡_};
+ghost use Prim.Native.Nat.{_≤_};
+ghost use lib.ListN.{length, take};
+ghost use Rattle.protocol.specs.Client.{withSignature, gathered};
+ghost use Rattle.client.specs.Arrays.{Added, Keeps};
+
+// Entries in an array, and how many they are.
+pub struct Built {
+    pub count: u8,
+    pub entries: [u8; 715],
+}
+
+const SIGNATURE: usize = 64;
+
+// Signer and signature.
+const ENTRY: usize = 65;
+
+// The largest quorum.
+const MOST_ENTRIES: u8 = 11;
+
+// A replica's signature in its place.
+pub fn with_signature(signatures: [u8; 1024], id: ReplicaId, mark: &[u8]) -> [u8; 1024]
+    requires { ⌜ (1 ≤ id .0) × (id .0 ≤ 16) × (length (now mark) ≡ 64) ⌝ }
+    ensures { λ r. ⌜ r ≡ withSignature signatures id (now (mark .entry)) ⌝ }
+{
+    let mut array = signatures;
+    let at = SIGNATURE * (id.0 as usize - 1);
+    put(&mut array, at, mark);
+    array
+}
+
+// One replica more, if it is counted and there is room.
+fn add_entry(
+    entries: &mut [u8],
+    count: u8,
+    counts: ReplicaSet,
+    id: ReplicaId,
+    signatures: &[u8],
+) -> u8
+    requires { ⌜ (1 ≤ id .0) × (id .0 ≤ 16) × (length (now entries) ≡ 715) × (length (now signatures) ≡ 1024) ⌝ }
+    ensures { λ r. ⌜ Added counts id (now (signatures .entry)) count (now (entries .entry)) r (now (entries .exit)) ⌝ }
+{
+    if !counts.has(id) {
+        return count;
+    }
+    if MOST_ENTRIES <= count {
+        return count;
+    }
+    let at = ENTRY * count as usize;
+    let from = SIGNATURE * (id.0 as usize - 1);
+    let to = from + SIGNATURE;
+    entries[at] = id.0;
+    put(entries, at + 1, &signatures[from..to]);
+    count + 1
+}
+
+// The counted replicas among 1 to n, in rising order.
+pub fn gather(n: u8, counts: ReplicaSet, signatures: &[u8; 1024]) -> Built
+    requires { ⌜ n ≤ 16 ⌝ }
+    ensures { λ r. ⌜ Keeps (take 11 (gathered n counts (now (signatures .entry)))) (r .count) (r .entries) ⌝ }
+{
+    let mut entries = [0u8; 715];
+    let mut count: u8 = 0;
+    let mut id: u8 = 0;
+    while id < n {
+        id += 1;
+        count = add_entry(&mut entries, count, counts, ReplicaId(id), signatures);
+    }
+    Built {
+        count: count,
+        entries: entries,
+    }
+}

@@ -1,0 +1,203 @@
+// A write's replies: STAMPs, PREPAREDs, and the WRITTENs that end it.
+use crate::Stepped;
+use crate::answers::card_digest;
+use crate::answers::done;
+use crate::answers::plain;
+use crate::answers::refused;
+use crate::answers::sent;
+use crate::record::built;
+use crate::record::with_digest;
+use crate::record::with_last_written;
+use crate::record::with_phase;
+use crate::record::with_signatures;
+use crate::replies::best_of;
+use crate::replies::is_awaited;
+use crate::replies::is_awaited_prepared;
+use crate::replies::keep_better;
+use crate::signatures::with_signature;
+use base::party::ClientId;
+use base::party::ReplicaId;
+use base::replica_set::ReplicaSet;
+use base::timestamp::Successor;
+use base::timestamp::Timestamp;
+use protocol::client::Client;
+use protocol::client::ClientAnswer;
+use protocol::client::Phase;
+ghost use mathlib.Core.Path.{_≡_};
+ghost use Prim.Native.Nat.{_≤_};
+ghost use lib.ListN.{length};
+ghost use Rattle.base.specs.ReplicaSet.{with};
+ghost use Rattle.base.specs.Timestamp.{number, successor};
+ghost use Rattle.wire.specs.Message.{longest};
+ghost use Rattle.protocol.specs.Client.{clientAnswers, toPrepare, afterStamp, onStamp, afterPrepared, onPrepared, afterWritten, withSignature, withSignatures};
+ghost use Rattle.client.specs.Arrays.{proofIn, IfProof};
+ghost use Rattle.client.specs.Stepping.{callOf, Takes, TakesAny};
+
+const NOT_AWAITED: u8 = 18;
+
+// PREPARE the successor of the largest timestamp. The last count has none: the write ends.
+fn to_prepare(client: Client, best: Timestamp, out: &mut [u8]) -> Stepped
+    requires { ⌜ longest ≤ length (now out) ⌝ }
+    ensures { λ r. ⌜ Takes (now (out .entry)) (toPrepare client best (successor best (client .id))) r (now (out .exit)) ⌝ }
+{
+    let id = client.id;
+    let Successor::Next(next) = best.successor(id) else {
+        return plain(ClientAnswer::Ended, with_phase(client, Phase::Idle));
+    };
+    let digest = card_digest(client);
+    let best_digest = client.digest;
+    let best_entries = client.entries;
+    let written = client.written;
+    let written_entries = client.written_entries;
+    let encoded = wire::writer::write_prepare(
+        out,
+        id,
+        next,
+        &digest,
+        best,
+        &best_digest,
+        client.entry_count,
+        &best_entries,
+        written,
+        client.written_count,
+        &written_entries,
+    );
+    let waiting = Phase::Prepareds(next, ReplicaSet::empty());
+    sent(encoded, with_phase(with_digest(client, digest), waiting))
+}
+
+// A STAMP more was taken.
+fn after_stamp(
+    client: Client,
+    nonce: u64,
+    best: Timestamp,
+    counts: ReplicaSet,
+    out: &mut [u8],
+) -> Stepped
+    requires { ⌜ longest ≤ length (now out) ⌝ }
+    ensures { λ r. ⌜ Takes (now (out .entry)) (afterStamp nonce best counts client) r (now (out .exit)) ⌝ }
+{
+    if counts.is_quorum(client.f) {
+        return to_prepare(client, best, out);
+    }
+    plain(
+        ClientAnswer::Counted,
+        with_phase(client, Phase::Stamps(nonce, best, counts)),
+    )
+}
+
+pub fn on_stamp(
+    client: Client,
+    sender: ReplicaId,
+    nonce: u64,
+    proof: &[u8],
+    addressed: ClientId,
+    out: &mut [u8],
+) -> Stepped
+    requires { ⌜ (longest ≤ length (now out)) × IfProof (now proof) ⌝ }
+    ensures { λ r. ⌜ callOf r (now (out .exit)) ≡ clientAnswers client (now (out .entry)) (onStamp client sender nonce (proofIn (now (proof .entry))) addressed (client .phase)) ⌝ }
+{
+    let phase = client.phase;
+    let Phase::Stamps(asked, best, counts) = phase else {
+        return refused(NOT_AWAITED, client);
+    };
+    let id = client.id;
+    if !is_awaited(nonce, asked, addressed, id, counts, sender) {
+        return refused(NOT_AWAITED, client);
+    }
+    let later = best_of(best, proof);
+    after_stamp(
+        keep_better(client, best, proof),
+        asked,
+        later,
+        counts.with(sender),
+        out,
+    )
+}
+
+// A PREPARED more was taken: from q of them the proof is built, and WRITE sent.
+fn after_prepared(
+    client: Client,
+    timestamp: Timestamp,
+    counts: ReplicaSet,
+    out: &mut [u8],
+) -> Stepped
+    requires { ⌜ longest ≤ length (now out) ⌝ }
+    ensures { λ r. ⌜ Takes (now (out .entry)) (afterPrepared timestamp counts client) r (now (out .exit)) ⌝ }
+{
+    if !counts.is_quorum(client.f) {
+        let waiting = Phase::Prepareds(timestamp, counts);
+        return plain(ClientAnswer::Counted, with_phase(client, waiting));
+    }
+    let proof = built(client, counts);
+    let id = client.id;
+    let card = client.card;
+    let digest = client.digest;
+    let entries = proof.entries;
+    let encoded = wire::writer::write_write(
+        out,
+        id,
+        &card,
+        client.card_length,
+        timestamp,
+        &digest,
+        proof.count,
+        &entries,
+    );
+    let waiting = Phase::Writtens(timestamp, ReplicaSet::empty());
+    sent(
+        encoded,
+        with_phase(with_signatures(client, [0; 1024]), waiting),
+    )
+}
+
+pub fn on_prepared<'a>(
+    client: Client,
+    sender: ReplicaId,
+    timestamp: Timestamp,
+    digest: &'a [u8],
+    mark: &'a [u8],
+    out: &mut [u8],
+) -> Stepped
+    requires { ⌜ (longest ≤ length (now out)) × (1 ≤ sender .0) × (sender .0 ≤ 16) × (length (now mark) ≡ 64) ⌝ }
+    ensures { λ r. ⌜ callOf r (now (out .exit)) ≡ clientAnswers client (now (out .entry)) (onPrepared client sender (number timestamp) (now (digest .entry)) (now (mark .entry)) (client .phase)) ⌝ }
+{
+    let phase = client.phase;
+    let Phase::Prepareds(asked, counts) = phase else {
+        return refused(NOT_AWAITED, client);
+    };
+    let kept = client.digest;
+    if !is_awaited_prepared(timestamp, asked, digest, &kept, counts, sender) {
+        return refused(NOT_AWAITED, client);
+    }
+    let signatures = client.signatures;
+    let signed = with_signatures(client, with_signature(signatures, sender, mark));
+    after_prepared(signed, asked, counts.with(sender), out)
+}
+
+// A WRITTEN more was taken: q of them end the write, and are the next written proof.
+fn after_written(client: Client, timestamp: Timestamp, counts: ReplicaSet) -> Stepped
+    ensures { λ r. ⌜ TakesAny (afterWritten timestamp counts client) r ⌝ }
+{
+    if !counts.is_quorum(client.f) {
+        let waiting = Phase::Writtens(timestamp, counts);
+        return plain(ClientAnswer::Counted, with_phase(client, waiting));
+    }
+    done(timestamp, with_last_written(client, timestamp, counts))
+}
+
+// A WRITTEN to a client that waits for them to end its write.
+pub fn count_written(
+    client: Client,
+    asked: Timestamp,
+    counts: ReplicaSet,
+    sender: ReplicaId,
+    mark: &[u8],
+) -> Stepped
+    requires { ⌜ (1 ≤ sender .0) × (sender .0 ≤ 16) × (length (now mark) ≡ 64) ⌝ }
+    ensures { λ r. ⌜ TakesAny (afterWritten asked (with counts sender) (withSignatures (withSignature (client .signatures) sender (now (mark .entry))) client)) r ⌝ }
+{
+    let signatures = client.signatures;
+    let signed = with_signatures(client, with_signature(signatures, sender, mark));
+    after_written(signed, asked, counts.with(sender))
+}

@@ -1,0 +1,41 @@
+// WRITTENs, which end a write or a write-back.
+use crate::Stepped;
+use crate::answers::refused;
+use crate::read::after_write_back;
+use crate::replies::is_awaited_written;
+use crate::write::count_written;
+use base::party::ReplicaId;
+use base::timestamp::Timestamp;
+use protocol::client::Client;
+use protocol::client::Phase;
+ghost use mathlib.Core.Path.{_≡_};
+ghost use mathlib.Core.List.{List};
+ghost use Prim.Native.Nat.{ℕ, _≤_};
+ghost use lib.ListN.{length};
+ghost use Rattle.base.specs.Timestamp.{number};
+ghost use Rattle.protocol.specs.Client.{clientAnswers, onWritten};
+ghost use Rattle.client.specs.Stepping.{callOf};
+
+const NOT_AWAITED: u8 = 18;
+
+pub fn on_written(client: Client, sender: ReplicaId, timestamp: Timestamp, mark: &[u8]) -> Stepped
+    requires { ⌜ (1 ≤ sender .0) × (sender .0 ≤ 16) × (length (now mark) ≡ 64) ⌝ }
+    ensures { λ r. ⌜ ((old : List ℕ) → callOf r old ≡ clientAnswers client old (onWritten client sender (number timestamp) (now (mark .entry)) (client .phase))) ⌝ }
+{
+    let phase = client.phase;
+    match phase {
+        Phase::Writtens(asked, counts) => {
+            if !is_awaited_written(timestamp, asked, counts, sender) {
+                return refused(NOT_AWAITED, client);
+            }
+            count_written(client, asked, counts, sender, mark)
+        }
+        Phase::WriteBack(asked, counts) => {
+            if !is_awaited_written(timestamp, asked, counts, sender) {
+                return refused(NOT_AWAITED, client);
+            }
+            after_write_back(client, asked, counts.with(sender))
+        }
+        _ => refused(NOT_AWAITED, client),
+    }
+}
