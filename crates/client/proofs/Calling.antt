@@ -1,7 +1,7 @@
 -- The contract of the calls, from what they leave. Assumes nothing.
 use mathlib.Core.Path.{_≡_, refl, ap, _∙_}
 use mathlib.Core.Bool.{true, false}
-use mathlib.Core.List.{List, []}
+use mathlib.Core.List.{List}
 use Prim.Native.Nat.{ℕ, _+_, _≤_, _<_}
 use lib.Seq.{take-append-seam}
 use lib.ListN.{length, drop}
@@ -18,9 +18,8 @@ use Rattle.protocol.specs.Replica.{withOutput}
 use Rattle.protocol.specs.declared.client.Client.{Client}
 use Rattle.protocol.specs.declared.client.ClientAnswer.the-variants.{Refused}
 use Rattle.protocol.specs.declared.client.Phase.the-variants.{Stamps, Cards}
-use Rattle.protocol.proofs.ArrayLaws.{card-kept, front-kept}
 use Rattle.protocol.proofs.Calls.{long-output, short-output}
-use Rattle.client.specs.Stepping.{callOf, Calls, plain, Takes}
+use Rattle.client.specs.Stepping.{callOf, Calls, plain}
 use Rattle.client.specs.declared.Stepped.{Stepped}
 use Rattle.client.proofs.Answering.{plain-call}
 use Rattle.client.proofs.Filling.{filled-zeros}

@@ -1,11 +1,11 @@
 -- Arrays of zeros with bytes stored in front. Assumes nothing.
 use mathlib.Core.Path.{_≡_, refl, sym, ap, _∙_}
-use mathlib.Core.List.{List, [], _∷_, _++_, append-assoc, append-nil}
-use Prim.Native.Nat.{ℕ, zero, suc, _+_, _-_, _*_, _≤_, _<_}
+use mathlib.Core.List.{List, [], _∷_, _++_, append-assoc}
+use Prim.Native.Nat.{ℕ, zero, suc, _+_, _-_, _≤_}
 use native.Mathlib.Nat.{zero-add}
 use native.Mathlib.Omega.{arith}
 use lib.ListN.{length, take, drop, set, replicate, length-append}
-use lib.Seq.{take-append-seam, drop-append-add, set-split, take-at, drop-at, drop-drop, append-snoc, length-take-le}
+use lib.Seq.{take-append-seam, drop-append-add, set-split, take-at, drop-drop, append-snoc, length-take-le}
 use Rattle.protocol.specs.Parts.{filled}
 use Rattle.protocol.proofs.ArrayLaws.{filled-keeps}
 

@@ -1,12 +1,12 @@
 -- Entries gathered one by one into an array. Assumes nothing.
 use mathlib.Core.Path.{_≡_, refl, sym, ap, _∙_}
-use mathlib.Core.Bool.{Bool, true, false, cond, _&&_}
+use mathlib.Core.Bool.{Bool, true, false, cond}
 use mathlib.Core.List.{List, [], _∷_, _++_, append-assoc, append-nil}
-use Prim.Native.Nat.{ℕ, zero, suc, _+_, _-_, _*_, _≤_, _<_, min}
+use Prim.Native.Nat.{ℕ, zero, suc, _+_, _-_, _*_, _≤_, min}
 use native.Mathlib.Omega.{arith}
-use borrow.Author.Tests.{lt-ltb, le-ltb, ltb-true, ltb-false}
+use borrow.Author.Tests.{ltb-true, ltb-false}
 use lib.Dec.{ltb}
-use lib.ListN.{length, take, drop, replicate, length-append, length-take, length-drop, take-append-drop}
+use lib.ListN.{length, take, drop, length-append, length-take, length-drop, take-append-drop}
 use lib.Seq.{take-append-le, take-all, take-at, drop-at}
 use Rattle.base.specs.Counting.{replica}
 use Rattle.base.specs.ReplicaSet.{has}
@@ -14,7 +14,7 @@ use Rattle.base.specs.declared.replica_set.ReplicaSet.{ReplicaSet}
 use Rattle.wire.specs.Proof.{Entry, entriesBytes, readEntries}
 use Rattle.protocol.specs.Client.{gathered, signatureAt}
 use Rattle.protocol.specs.Parts.{filled, entriesIn}
-use Rattle.client.specs.Arrays.{Added, Keeps, entryOf, taken}
+use Rattle.client.specs.Arrays.{Added, Keeps}
 use Rattle.client.proofs.Filling.{zeros, filled-zeros, filled-more}
 
 -- Entries whose signatures have 64 bytes.

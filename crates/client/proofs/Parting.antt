@@ -1,7 +1,7 @@
 -- The parts of a message that passed 2 to 11, where the code finds them, and what follows by kind. Assumes nothing.
-use mathlib.Core.Path.{_≡_, refl, sym, ap, _∙_}
+use mathlib.Core.Path.{_≡_, refl, sym}
 use mathlib.Core.Bool.{Bool, true, false, cond}
-use mathlib.Core.Logic.{_⊎_, inl, inr, ⊎-elim}
+use mathlib.Core.Logic.{⊎-elim}
 use mathlib.Core.List.{List, [], _∷_}
 use mathlib.Core.Option.{Option, none, some}
 use Prim.Native.Nat.{ℕ, _+_, _-_, _≤_, _<_}
@@ -10,7 +10,7 @@ use lib.ListN.{length, take, drop, length-drop}
 use lib.Seq.{take-all}
 use Rattle.base.specs.BitMap.{bit}
 use Rattle.base.specs.Counting.{replica}
-use Rattle.base.specs.Outcome.{Outcome, accepted, guard}
+use Rattle.base.specs.Outcome.{guard}
 use Rattle.base.specs.Same.{same}
 use Rattle.base.specs.Timestamp.{number}
 use Rattle.base.proofs.Booleans.{and-true-both}
@@ -27,7 +27,7 @@ use Rattle.wire.proofs.Parsed.{Parsed, parsed, preparedAt, prepared-whole, take
 use Rattle.wire.proofs.Rows.{Taken, card as card-row}
 use Rattle.wire.proofs.Windows.{behind-first}
 use Rattle.wire.proofs.card.Digests.{card-short}
-use Rattle.protocol.specs.Client.{Turn, onStamp, onPrepared, onWritten, onCard}
+use Rattle.protocol.specs.Client.{onStamp, onPrepared, onWritten, onCard}
 use Rattle.protocol.specs.Parts.{cardStands, startCard}
 use Rattle.protocol.specs.declared.client.Client.{Client}
 use Rattle.client.specs.Arrays.{proofIn}

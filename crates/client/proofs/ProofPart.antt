@@ -1,18 +1,17 @@
 -- The part of a message that carries a prepared proof: there or missing. Assumes nothing.
 use mathlib.Core.Path.{_≡_, refl, sym, ap, _∙_}
-use mathlib.Core.Bool.{Bool, true, false}
+use mathlib.Core.Bool.{Bool, true}
 use mathlib.Core.List.{List, [], _∷_}
-use mathlib.Core.Option.{Option, none, some}
-use Prim.Native.Nat.{ℕ, _≤_, _<_}
+use mathlib.Core.Option.{none, some}
+use Prim.Native.Nat.{ℕ, _≤_}
 use native.Mathlib.Omega.{arith}
 use borrow.Author.Tests.{ltb-true}
 use lib.Dec.{ltb, eqb}
 use lib.ListN.{length, getD, take}
-use Rattle.base.specs.BigEndian.{fromBytes}
 use Rattle.base.specs.Timestamp.{number, ofNumber}
 use Rattle.base.specs.declared.timestamp.Timestamp.{Timestamp}
 use Rattle.base.proofs.Timestamps.{number-ofNumber}
-use Rattle.wire.specs.Proof.{PreparedProof, preparedFrom}
+use Rattle.wire.specs.Proof.{preparedFrom}
 use Rattle.wire.proofs.Windows.{front}
 use Rattle.protocol.specs.Parts.{timestampOf}
 use Rattle.client.specs.Arrays.{proofIn, Reaches, IfProof}

@@ -1,5 +1,5 @@
 -- The arrays of a client's record, as its owner knows them. Assumes nothing.
-use mathlib.Core.Path.{_≡_, refl, sym, ap, _∙_}
+use mathlib.Core.Path.{_≡_, sym, _∙_}
 use mathlib.Core.Bool.{true}
 use mathlib.Core.List.{List, map}
 use Prim.Native.Nat.{ℕ, _≤_, min}
@@ -9,7 +9,7 @@ use lib.ListN.{length, take, length-map, length-take}
 use lib.Seq.{length-take-le}
 use Rattle.base.specs.Party.{replicaCount}
 use Rattle.base.specs.declared.replica_set.ReplicaSet.{ReplicaSet}
-use Rattle.wire.specs.Sha256.{sha256, answer, digestOf, longestMessage}
+use Rattle.wire.specs.Sha256.{answer, digestOf, longestMessage}
 use Rattle.protocol.specs.Client.{currentCard, built}
 use Rattle.protocol.specs.Parts.{entriesIn}
 use Rattle.protocol.specs.declared.client.Client.{Client}

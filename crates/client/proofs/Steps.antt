@@ -1,9 +1,9 @@
 -- A message and the tests 2 to 11: what is refused, and what is known of a message that passed. Assumes nothing.
-use mathlib.Core.Path.{_≡_, refl, sym, ap, _∙_}
+use mathlib.Core.Path.{_≡_, refl, _∙_}
 use mathlib.Core.Bool.{Bool, true, false, cond}
 use mathlib.Core.List.{List, [], _∷_, map}
-use mathlib.Core.Option.{Option, none, some}
-use Prim.Native.Nat.{ℕ, _+_, _*_, _≤_, _<_}
+use mathlib.Core.Option.{none, some}
+use Prim.Native.Nat.{ℕ, _≤_}
 use native.Mathlib.Omega.{arith}
 use borrow.Author.Tests.{eqb-true}
 use lib.Dec.{eqb}
@@ -18,7 +18,7 @@ use Rattle.base.proofs.Outcome.{guard-passes}
 use Rattle.base.proofs.Range.{bounds}
 use Rattle.wire.specs.Acceptance.{senderOf, inItsRange, acceptance}
 use Rattle.wire.specs.Checks.{preparedOf, ifThere, shaped, checked}
-use Rattle.wire.specs.Decode.{decode, reading, fieldsIn}
+use Rattle.wire.specs.Decode.{decode, fieldsIn}
 use Rattle.wire.specs.Layout.{mapIn, field, signature}
 use Rattle.wire.specs.Message.{Message}
 use Rattle.wire.specs.Proof.{Entry, PreparedProof, preparedFrom, readEntries}
@@ -31,7 +31,7 @@ use Rattle.wire.proofs.Rows.{Taken, stamp, prepared, written, card}
 use Rattle.protocol.specs.Client.{Turn, onMessage, clientStep}
 use Rattle.protocol.specs.declared.client.Client.{Client}
 use Rattle.protocol.proofs.ArrayLaws.{entries-read-length}
-use Rattle.protocol.proofs.Passed.{Passed, checked-passed}
+use Rattle.protocol.proofs.Passed.{checked-passed}
 use Rattle.client.specs.Arrays.{Reaches, IfProof}
 use Rattle.client.specs.Messages.{onReply, afterTests, Passing}
 

@@ -1,9 +1,9 @@
 -- What the client's functions leave, as a call of document 01.
 use mathlib.Core.Path.{_≡_}
-use mathlib.Core.List.{List, []}
+use mathlib.Core.List.{List}
 use Prim.Native.Nat.{ℕ}
 use lib.ListN.{length, replicate}
-use Rattle.base.specs.Outcome.{Outcome, accepted, refused}
+use Rattle.base.specs.Outcome.{Outcome}
 use Rattle.base.specs.Party.{clientSetup, setupOutcome}
 use Rattle.base.specs.declared.party.ClientId.{ClientId}
 use Rattle.base.specs.declared.timestamp.Timestamp.{Timestamp}
@@ -11,10 +11,9 @@ use Rattle.wire.specs.declared.writer.Encoded.{Encoded}
 use Rattle.wire.specs.declared.writer.Encoded.the-variants.{Length as Wrote, Refused as Unwritten}
 use Rattle.protocol.specs.Client.{Turn, ClientCall, clientAnswers, madeClient, answerOutcome, stepOutcome}
 use Rattle.protocol.specs.Parts.{filled}
-use Rattle.protocol.specs.Replica.{withOutput}
 use Rattle.protocol.specs.declared.client.Client.{Client}
 use Rattle.protocol.specs.declared.client.ClientAnswer.{ClientAnswer}
-use Rattle.protocol.specs.declared.client.ClientAnswer.the-variants.{Send, Counted, Done, Ended, Refused}
+use Rattle.protocol.specs.declared.client.ClientAnswer.the-variants.{Send, Done, Refused}
 use Rattle.client.specs.declared.NewClient.{NewClient}
 use Rattle.client.specs.declared.Stepped.{Stepped}
 

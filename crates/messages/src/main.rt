@@ -28,25 +28,6 @@ fn has(map: u16, mask: u16) -> bool {
     map & mask != 0
 }
 
-fn digit(n: u8) -> u8
-    requires { ⌜ n < 16 ⌝ }
-{
-    if n < 10 { 48 + n } else { 55 + n }
-}
-
-fn print_pair(byte: u8) {
-    let pair = [digit(byte / 16), digit(byte % 16)];
-    text::print(&pair);
-}
-
-fn print_hex(part: &[u8]) {
-    let mut i = 0;
-    while i < part.len() {
-        print_pair(part[i]);
-        i += 1;
-    }
-}
-
 fn print_byte(byte: u8) {
     text::print_number(byte as u32);
 }
@@ -116,11 +97,11 @@ fn print_numbers(fields: Fields) {
 fn print_parts(bytes: &[u8], fields: Fields) {
     if has(fields.map, DIGEST) {
         text::print(b" digest ");
-        print_hex(front(tail(bytes, fields.digest), 32));
+        text::print_hex(front(tail(bytes, fields.digest), 32));
     }
     if has(fields.map, CARD) {
         text::print(b" card ");
-        print_hex(wire::card_part::card_part(bytes));
+        text::print_hex(wire::card_part::card_part(bytes));
     }
     if has(fields.map, PREPARED) {
         text::print(b" prepared ");

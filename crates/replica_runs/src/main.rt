@@ -16,25 +16,6 @@ enum Number {
 
 const OUTPUT: usize = 1_579;
 
-fn digit(n: u8) -> u8
-    requires { ⌜ n < 16 ⌝ }
-{
-    if n < 10 { 48 + n } else { 55 + n }
-}
-
-fn print_pair(byte: u8) {
-    let pair = [digit(byte / 16), digit(byte % 16)];
-    text::print(&pair);
-}
-
-fn print_hex(part: &[u8]) {
-    let mut i = 0;
-    while i < part.len() {
-        print_pair(part[i]);
-        i += 1;
-    }
-}
-
 fn print_refusal(number: u8) {
     text::print(b"refused ");
     text::print_number(number as u32);
@@ -45,7 +26,7 @@ fn print_answer(answer: ReplicaAnswer, out: &[u8]) {
     match answer {
         ReplicaAnswer::Send(n) => {
             text::print(b"send ");
-            print_hex(front(out, n));
+            text::print_hex(front(out, n));
             text::print(b"\n");
         }
         ReplicaAnswer::Refused(number) => print_refusal(number),

@@ -2,7 +2,7 @@
 use base::party::within;
 use libc::STDOUT_FILENO;
 ghost use mathlib.Core.Path.{_≡_};
-ghost use Prim.Native.Nat.{_+_};
+ghost use Prim.Native.Nat.{_+_, _<_};
 ghost use lib.ListN.{getD};
 ghost use Rattle.text.specs.Hex.{hexValue, pairValue, HexRead, digitOf, DigitBelow};
 ghost use Rattle.text.specs.Line.{LineEnd};
@@ -86,4 +86,23 @@ pub fn print(text: &[u8]) {
 
 pub fn print_number(n: u32) {
     io::print_decimal(STDOUT_FILENO, n as u64);
+}
+
+fn capital_digit(n: u8) -> u8
+    requires { ⌜ n < 16 ⌝ }
+{
+    if n < 10 { 48 + n } else { 55 + n }
+}
+
+fn print_pair(byte: u8) {
+    let pair = [capital_digit(byte / 16), capital_digit(byte % 16)];
+    print(&pair);
+}
+
+pub fn print_hex(bytes: &[u8]) {
+    let mut i = 0;
+    while i < bytes.len() {
+        print_pair(bytes[i]);
+        i += 1;
+    }
 }

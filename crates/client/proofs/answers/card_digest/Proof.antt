@@ -1,5 +1,5 @@
 -- `client::answers::card_digest` meets its contract. Assumes nothing.
-use mathlib.Core.Path.{_≡_, sym, _∙_}
+use mathlib.Core.Path.{sym, _∙_}
 use native.Mathlib.Omega.{arith}
 use Rattle.protocol.specs.Client.{currentCard}
 use Rattle.client.proofs.Records.{sized, kept-inside, kept-part, kept-many, current-many, short-digest}

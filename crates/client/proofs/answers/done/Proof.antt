@@ -1,8 +1,7 @@
 -- `client::answers::done` meets its contract. Assumes nothing.
-use mathlib.Core.Path.{_≡_, sym, _∙_}
+use mathlib.Core.Path.{sym}
 use native.Mathlib.Omega.{arith}
-use Rattle.protocol.specs.Client.{currentCard}
-use Rattle.client.proofs.Records.{sized, kept-inside, kept-part, kept-many, current-many, short-digest}
+use Rattle.client.proofs.Records.{sized, kept-inside, kept-part, kept-many, current-many}
 use borrow.Author.Needs.{needs}
 use Rattle.client.proofs.answers.done.Statement.{statement}
 use Rattle.client.proofs.answers.done.Tie as tie

@@ -2,7 +2,7 @@
 use Rattle.base.specs.Timestamp.{number}
 use Rattle.protocol.specs.Parts.{timestampOf}
 use Rattle.client.specs.Arrays.{proofIn}
-use mathlib.Core.Path.{_≡_, refl, sym, ap, _∙_}
+use mathlib.Core.Path.{_∙_}
 use borrow.Author.Tests.{not-true, not-false}
 use Rattle.client.proofs.ProofPart.{compared, later-there}
 use borrow.Author.Needs.{needs}

@@ -1,12 +1,12 @@
 -- `client::signatures::gather` meets its contract: the entries of the replicas up to id are kept. Assumes nothing.
-use mathlib.Core.Path.{_≡_, refl, ap, _∙_}
+use mathlib.Core.Path.{_≡_, refl, _∙_}
 use Prim.Native.Nat.{suc, _+_, _-_, _≤_}
 use native.Mathlib.Numerals.{add-one}
 use native.Mathlib.Omega.{arith}
 use borrow.Author.Needs.{needs}
 use lib.ListN.{length, take}
 use Rattle.protocol.specs.Client.{gathered}
-use Rattle.client.specs.Arrays.{Keeps, Added}
+use Rattle.client.specs.Arrays.{Keeps}
 use Rattle.client.proofs.Gathering.{gathered-more, nothing-gathered}
 use Rattle.client.proofs.signatures.gather.Statement.{statement}
 use Rattle.client.proofs.signatures.gather.Tie as tie

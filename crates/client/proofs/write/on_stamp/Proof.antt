@@ -1,8 +1,6 @@
 -- `client::write::on_stamp` meets its contract. Assumes nothing.
 use mathlib.Core.Path.{sym, _∙_}
 use borrow.Author.Tests.{not-true, not-false}
-use Rattle.base.proofs.Outcome.{guard-passes, guard-refuses}
-use Rattle.protocol.specs.Client.{onStamp}
 use Rattle.protocol.specs.declared.client.ClientAnswer.the-variants.{Refused}
 use Rattle.client.specs.Arrays.{proofIn}
 use Rattle.client.proofs.Answering.{plain-call}

@@ -1,5 +1,4 @@
 -- `client::write::to_prepare` meets its contract. Assumes nothing.
-use mathlib.Core.Path.{_∙_}
 use Rattle.base.specs.ReplicaSet.{empty}
 use Rattle.protocol.specs.Client.{withPhase, withDigest}
 use Rattle.protocol.specs.declared.client.Phase.the-variants.{Idle, Prepareds}

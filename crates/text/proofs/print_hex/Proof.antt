@@ -1,15 +1,15 @@
--- `messages::print_hex` meets its contract. Assumes nothing.
+-- `text::print_hex` meets its contract. Assumes nothing.
 use Prim.Native.Nat.{_-_}
 use borrow.Author.Needs.{needs}
 use lib.ListN.{length}
-use Rattle.messages.proofs.print_hex.Statement.{statement}
-use Rattle.messages.proofs.print_hex.Tie as tie
+use Rattle.text.proofs.print_hex.Statement.{statement}
+use Rattle.text.proofs.print_hex.Tie as tie
 
 abbrev Inv-loop : tie.InvT-loop
-Inv-loop part i₀ i = Unit {0}
+Inv-loop bytes i₀ i = Unit {0}
 
 abbrev μ-loop : tie.MeasureT-loop
-μ-loop part i₀ i = length part - i
+μ-loop bytes i₀ i = length bytes - i
 
 pub print-hex-spec : {M : Type 1} → statement M
 print-hex-spec =
