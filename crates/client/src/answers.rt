@@ -16,7 +16,7 @@ ghost use Rattle.client.specs.Stepping.{plain, doneWith, sentAs};
 const LONGEST_CARD: u8 = 17;
 
 // An answer with no card beside it.
-pub fn plain(answer: ClientAnswer, client: Client) -> Stepped
+pub(super) fn plain(answer: ClientAnswer, client: Client) -> Stepped
     ensures { λ r. ⌜ r ≡ plain answer client ⌝ }
 {
     Stepped {
@@ -27,14 +27,14 @@ pub fn plain(answer: ClientAnswer, client: Client) -> Stepped
     }
 }
 
-pub fn refused(number: u8, client: Client) -> Stepped
+pub(super) fn refused(number: u8, client: Client) -> Stepped
     ensures { λ r. ⌜ r ≡ plain (ClientAnswer.Refused number) client ⌝ }
 {
     plain(ClientAnswer::Refused(number), client)
 }
 
 // The message that was written is to be sent.
-pub fn sent(encoded: Encoded, client: Client) -> Stepped
+pub(super) fn sent(encoded: Encoded, client: Client) -> Stepped
     ensures { λ r. ⌜ r ≡ sentAs encoded client ⌝ }
 {
     match encoded {
@@ -55,7 +55,7 @@ fn kept(card_length: u8) -> u8
 }
 
 // Done with the card that the record holds, which is then idle.
-pub fn done(timestamp: Timestamp, client: Client) -> Stepped
+pub(super) fn done(timestamp: Timestamp, client: Client) -> Stepped
     ensures { λ r. ⌜ r ≡ doneWith timestamp (currentCard client) (withPhase Phase.Idle client) ⌝ }
 {
     let card = client.card;
@@ -70,7 +70,7 @@ pub fn done(timestamp: Timestamp, client: Client) -> Stepped
 }
 
 // The digest of the card that the record holds.
-pub fn card_digest(client: Client) -> [u8; 32]
+pub(super) fn card_digest(client: Client) -> [u8; 32]
     ensures { λ r. ⌜ r ≡ sha256 (currentCard client) ⌝ }
 {
     let card = client.card;

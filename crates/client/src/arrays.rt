@@ -7,7 +7,7 @@ ghost use Rattle.base.specs.Same.{same};
 ghost use Rattle.protocol.specs.Parts.{filled};
 
 // Bytes stored from a place on.
-pub fn put(array: &mut [u8], at: usize, bytes: &[u8])
+pub(super) fn put(array: &mut [u8], at: usize, bytes: &[u8])
     requires { ⌜ at + length (now bytes) ≤ length (now array) ⌝ }
     ensures { λ r. ⌜ now (array .exit) ≡ take at (now (array .entry)) ++ (now (bytes .entry) ++ drop (at + length (now (bytes .entry))) (now (array .entry))) ⌝ }
 {
@@ -18,7 +18,7 @@ pub fn put(array: &mut [u8], at: usize, bytes: &[u8])
     }
 }
 
-pub fn same_bytes(a: &[u8], b: &[u8]) -> bool
+pub(super) fn same_bytes(a: &[u8], b: &[u8]) -> bool
     ensures { λ r. ⌜ r ≡ same (now (a .entry)) (now (b .entry)) ⌝ }
 {
     if a.len() != b.len() {
@@ -35,7 +35,7 @@ pub fn same_bytes(a: &[u8], b: &[u8]) -> bool
 }
 
 // A card in an array, zeros behind it.
-pub fn card_array(card: &[u8]) -> [u8; 17]
+pub(super) fn card_array(card: &[u8]) -> [u8; 17]
     requires { ⌜ length (now card) ≤ 17 ⌝ }
     ensures { λ r. ⌜ r ≡ filled 17 (now (card .entry)) ⌝ }
 {
@@ -44,7 +44,7 @@ pub fn card_array(card: &[u8]) -> [u8; 17]
     array
 }
 
-pub fn entries_array(entries: &[u8]) -> [u8; 715]
+pub(super) fn entries_array(entries: &[u8]) -> [u8; 715]
     requires { ⌜ length (now entries) ≤ 715 ⌝ }
     ensures { λ r. ⌜ r ≡ filled 715 (now (entries .entry)) ⌝ }
 {
@@ -53,7 +53,7 @@ pub fn entries_array(entries: &[u8]) -> [u8; 715]
     array
 }
 
-pub fn digest_array(digest: &[u8]) -> [u8; 32]
+pub(super) fn digest_array(digest: &[u8]) -> [u8; 32]
     requires { ⌜ length (now digest) ≡ 32 ⌝ }
     ensures { λ r. ⌜ r ≡ now (digest .entry) ⌝ }
 {

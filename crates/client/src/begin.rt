@@ -20,7 +20,7 @@ ghost use Rattle.client.specs.Stepping.{Takes};
 const LAST_NONCE: u64 = 18_446_744_073_709_551_615;
 
 // Whether the client is idle and has a nonce left.
-pub fn may_begin(client: Client) -> bool
+pub(super) fn may_begin(client: Client) -> bool
     ensures { λ r. ⌜ r ≡ mayBegin client ⌝ }
 {
     let phase = client.phase;
@@ -30,7 +30,7 @@ pub fn may_begin(client: Client) -> bool
     client.last_nonce < LAST_NONCE
 }
 
-pub fn ask_stamps(client: Client, card: &[u8], out: &mut [u8]) -> Stepped
+pub(super) fn ask_stamps(client: Client, card: &[u8], out: &mut [u8]) -> Stepped
     requires { ⌜ (longest ≤ length (now out)) × (length (now card) ≤ 17) × (mayBegin client ≡ true) ⌝ }
     ensures { λ r. ⌜ Takes (now (out .entry))
         (turn (send (READ-STAMP (client .id) (client .«last_nonce» + 1)))
@@ -44,7 +44,7 @@ pub fn ask_stamps(client: Client, card: &[u8], out: &mut [u8]) -> Stepped
     sent(encoded, beginning(client, nonce, waiting, card))
 }
 
-pub fn ask_cards(client: Client, out: &mut [u8]) -> Stepped
+pub(super) fn ask_cards(client: Client, out: &mut [u8]) -> Stepped
     requires { ⌜ (longest ≤ length (now out)) × (mayBegin client ≡ true) ⌝ }
     ensures { λ r. ⌜ Takes (now (out .entry))
         (turn (send (READ (client .id) (client .«last_nonce» + 1)))

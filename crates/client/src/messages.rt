@@ -84,7 +84,7 @@ fn take_card(client: Client, message: &[u8], fields: Fields, out: &mut [u8]) -> 
     on_card(client, sender, fields.nonce, card, proof, addressed, out)
 }
 
-pub fn take(client: Client, message: &[u8], fields: Fields, out: &mut [u8]) -> Stepped
+pub(super) fn take(client: Client, message: &[u8], fields: Fields, out: &mut [u8]) -> Stepped
     requires { ⌜ (longest ≤ length (now out)) × Passing (now message) fields ⌝ }
     ensures { λ r. ⌜ callOf r (now (out .exit)) ≡ clientAnswers client (now (out .entry)) (afterTests client (now (message .entry))) ⌝ }
 {

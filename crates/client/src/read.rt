@@ -73,7 +73,7 @@ fn after_card(
 }
 
 // A CARD that passed test 14.
-pub fn on_card<'a>(
+pub(super) fn on_card<'a>(
     client: Client,
     sender: ReplicaId,
     nonce: u64,
@@ -100,7 +100,7 @@ pub fn on_card<'a>(
 }
 
 // A WRITTEN more was taken in a write-back: with those that showed the timestamp, q end the read.
-pub fn after_write_back(client: Client, timestamp: Timestamp, counts: ReplicaSet) -> Stepped
+pub(super) fn after_write_back(client: Client, timestamp: Timestamp, counts: ReplicaSet) -> Stepped
     ensures { λ r. ⌜ TakesAny (afterWriteBack timestamp counts client) r ⌝ }
 {
     if !counts.is_quorum(client.f) {

@@ -14,7 +14,7 @@ ghost use Rattle.wire.specs.Proof.{preparedFrom};
 ghost use Rattle.protocol.specs.Client.{withPhase, beginning, withProof, withCard, withDigest, withSignatures, withLastWritten, built};
 ghost use Rattle.client.specs.Arrays.{Reaches, Keeps};
 
-pub fn with_phase(client: Client, phase: Phase) -> Client
+pub(super) fn with_phase(client: Client, phase: Phase) -> Client
     ensures { λ r. ⌜ r ≡ withPhase phase client ⌝ }
 {
     let id = client.id;
@@ -42,7 +42,7 @@ pub fn with_phase(client: Client, phase: Phase) -> Client
 }
 
 // A new operation: its nonce, its card, no reply yet.
-pub fn beginning(client: Client, nonce: u64, phase: Phase, card: &[u8]) -> Client
+pub(super) fn beginning(client: Client, nonce: u64, phase: Phase, card: &[u8]) -> Client
     requires { ⌜ length (now card) ≤ 17 ⌝ }
     ensures { λ r. ⌜ r ≡ beginning nonce phase (now (card .entry)) client ⌝ }
 {
@@ -67,7 +67,7 @@ pub fn beginning(client: Client, nonce: u64, phase: Phase, card: &[u8]) -> Clien
 }
 
 // The prepared proof of the bytes, in place of the one that was kept.
-pub fn with_proof(client: Client, proof: &[u8]) -> Client
+pub(super) fn with_proof(client: Client, proof: &[u8]) -> Client
     requires { ⌜ Reaches (now proof) ⌝ }
     ensures { λ r. ⌜ r ≡ withProof (preparedFrom (now (proof .entry))) client ⌝ }
 {
@@ -94,7 +94,7 @@ pub fn with_proof(client: Client, proof: &[u8]) -> Client
     }
 }
 
-pub fn with_card(client: Client, card: &[u8]) -> Client
+pub(super) fn with_card(client: Client, card: &[u8]) -> Client
     requires { ⌜ length (now card) ≤ 17 ⌝ }
     ensures { λ r. ⌜ r ≡ withCard (now (card .entry)) client ⌝ }
 {
@@ -123,7 +123,7 @@ pub fn with_card(client: Client, card: &[u8]) -> Client
 }
 
 // The digest of the card that is written; the best reply's proof is no longer needed.
-pub fn with_digest(client: Client, digest: [u8; 32]) -> Client
+pub(super) fn with_digest(client: Client, digest: [u8; 32]) -> Client
     ensures { λ r. ⌜ r ≡ withDigest digest client ⌝ }
 {
     let id = client.id;
@@ -149,7 +149,7 @@ pub fn with_digest(client: Client, digest: [u8; 32]) -> Client
     }
 }
 
-pub fn with_signatures(client: Client, signatures: [u8; 1024]) -> Client
+pub(super) fn with_signatures(client: Client, signatures: [u8; 1024]) -> Client
     ensures { λ r. ⌜ r ≡ withSignatures signatures client ⌝ }
 {
     let id = client.id;
@@ -177,7 +177,7 @@ pub fn with_signatures(client: Client, signatures: [u8; 1024]) -> Client
 }
 
 // The counted replicas and their signatures as a proof's entries.
-pub fn built(client: Client, counts: ReplicaSet) -> Built
+pub(super) fn built(client: Client, counts: ReplicaSet) -> Built
     ensures { λ r. ⌜ Keeps (built client counts (client .signatures)) (r .count) (r .entries) ⌝ }
 {
     let signatures = client.signatures;
@@ -185,7 +185,7 @@ pub fn built(client: Client, counts: ReplicaSet) -> Built
 }
 
 // The client's own write is finished: its WRITTENs are the last written proof.
-pub fn with_last_written(client: Client, timestamp: Timestamp, counts: ReplicaSet) -> Client
+pub(super) fn with_last_written(client: Client, timestamp: Timestamp, counts: ReplicaSet) -> Client
     ensures { λ r. ⌜ r ≡ withLastWritten timestamp (built client counts (client .signatures)) client ⌝ }
 {
     let proof = built(client, counts);

@@ -20,8 +20,15 @@ ghost use Rattle.protocol.specs.Client.{bestOf, keepBetter, keepBetterCard, sho
 ghost use Rattle.protocol.specs.Parts.{timestampOf, cardStands, startCard};
 ghost use Rattle.client.specs.Arrays.{proofIn, IfProof};
 
+// Whether no reply of this replica was taken yet.
+fn is_new(counts: ReplicaSet, sender: ReplicaId) -> bool
+    ensures { λ r. ⌜ r ≡ isNew counts sender ⌝ }
+{
+    !counts.has(sender)
+}
+
 // Whether a reply has the nonce and the client awaited, and its replica's was not taken yet.
-pub fn is_awaited(
+pub(super) fn is_awaited(
     nonce: u64,
     asked: u64,
     addressed: ClientId,
@@ -37,7 +44,7 @@ pub fn is_awaited(
     if addressed.0 != id.0 {
         return false;
     }
-    !counts.has(sender)
+    is_new(counts, sender)
 }
 
 // 0.0 for a missing proof.
@@ -52,7 +59,7 @@ fn proof_timestamp(proof: &[u8]) -> Timestamp
 }
 
 // The larger timestamp; the first reply's on a tie.
-pub fn best_of(best: Timestamp, proof: &[u8]) -> Timestamp
+pub(super) fn best_of(best: Timestamp, proof: &[u8]) -> Timestamp
     requires { ⌜ IfProof (now proof) ⌝ }
     ensures { λ r. ⌜ r ≡ bestOf best (proofIn (now (proof .entry))) ⌝ }
 {
@@ -61,7 +68,7 @@ pub fn best_of(best: Timestamp, proof: &[u8]) -> Timestamp
 }
 
 // A better reply's proof is kept.
-pub fn keep_better(client: Client, best: Timestamp, proof: &[u8]) -> Client
+pub(super) fn keep_better(client: Client, best: Timestamp, proof: &[u8]) -> Client
     requires { ⌜ IfProof (now proof) ⌝ }
     ensures { λ r. ⌜ r ≡ keepBetter best (proofIn (now (proof .entry))) client ⌝ }
 {
@@ -71,7 +78,7 @@ pub fn keep_better(client: Client, best: Timestamp, proof: &[u8]) -> Client
     with_proof(client, proof)
 }
 
-pub fn keep_better_card<'a>(
+pub(super) fn keep_better_card<'a>(
     client: Client,
     best: Timestamp,
     card: &'a [u8],
@@ -87,7 +94,12 @@ pub fn keep_better_card<'a>(
 }
 
 // The replicas that showed the largest timestamp.
-pub fn showed_by(best: Timestamp, proof: &[u8], sender: ReplicaId, showed: ReplicaSet) -> ReplicaSet
+pub(super) fn showed_by(
+    best: Timestamp,
+    proof: &[u8],
+    sender: ReplicaId,
+    showed: ReplicaSet,
+) -> ReplicaSet
     requires { ⌜ IfProof (now proof) ⌝ }
     ensures { λ r. ⌜ r ≡ showedBy best (proofIn (now (proof .entry))) sender showed ⌝ }
 {
@@ -110,7 +122,7 @@ fn is_start_card(card: &[u8]) -> bool
 }
 
 // Test 14 of a CARD.
-pub fn card_stands<'a>(card: &'a [u8], proof: &'a [u8]) -> bool
+pub(super) fn card_stands<'a>(card: &'a [u8], proof: &'a [u8]) -> bool
     requires { ⌜ IfProof (now proof) ⌝ }
     ensures { λ r. ⌜ r ≡ cardStands (now (card .entry)) (proofIn (now (proof .entry))) ⌝ }
 {
@@ -125,7 +137,7 @@ pub fn card_stands<'a>(card: &'a [u8], proof: &'a [u8]) -> bool
 }
 
 // Whether a WRITTEN has the timestamp awaited, and its replica's was not taken yet.
-pub fn is_awaited_written(
+pub(super) fn is_awaited_written(
     timestamp: Timestamp,
     asked: Timestamp,
     counts: ReplicaSet,
@@ -136,11 +148,11 @@ pub fn is_awaited_written(
     if !timestamp.is(asked) {
         return false;
     }
-    !counts.has(sender)
+    is_new(counts, sender)
 }
 
 // The same of a PREPARED, which has the digest too.
-pub fn is_awaited_prepared<'a>(
+pub(super) fn is_awaited_prepared<'a>(
     timestamp: Timestamp,
     asked: Timestamp,
     digest: &'a [u8],
@@ -156,5 +168,5 @@ pub fn is_awaited_prepared<'a>(
     if !same_bytes(digest, kept) {
         return false;
     }
-    !counts.has(sender)
+    is_new(counts, sender)
 }

@@ -23,7 +23,7 @@ const ENTRY: usize = 65;
 const MOST_ENTRIES: u8 = 11;
 
 // A replica's signature in its place.
-pub fn with_signature(signatures: [u8; 1024], id: ReplicaId, mark: &[u8]) -> [u8; 1024]
+pub(super) fn with_signature(signatures: [u8; 1024], id: ReplicaId, mark: &[u8]) -> [u8; 1024]
     requires { ⌜ (1 ≤ id .0) × (id .0 ≤ 16) × (length (now mark) ≡ 64) ⌝ }
     ensures { λ r. ⌜ r ≡ withSignature signatures id (now (mark .entry)) ⌝ }
 {
@@ -59,7 +59,7 @@ fn add_entry(
 }
 
 // The counted replicas among 1 to n, in rising order.
-pub fn gather(n: u8, counts: ReplicaSet, signatures: &[u8; 1024]) -> Built
+pub(super) fn gather(n: u8, counts: ReplicaSet, signatures: &[u8; 1024]) -> Built
     requires { ⌜ n ≤ 16 ⌝ }
     ensures { λ r. ⌜ Keeps (take 11 (gathered n counts (now (signatures .entry)))) (r .count) (r .entries) ⌝ }
 {

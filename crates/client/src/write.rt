@@ -86,7 +86,7 @@ fn after_stamp(
     )
 }
 
-pub fn on_stamp(
+pub(super) fn on_stamp(
     client: Client,
     sender: ReplicaId,
     nonce: u64,
@@ -151,7 +151,7 @@ fn after_prepared(
     )
 }
 
-pub fn on_prepared<'a>(
+pub(super) fn on_prepared<'a>(
     client: Client,
     sender: ReplicaId,
     timestamp: Timestamp,
@@ -179,7 +179,8 @@ pub fn on_prepared<'a>(
 fn after_written(client: Client, timestamp: Timestamp, counts: ReplicaSet) -> Stepped
     ensures { λ r. ⌜ TakesAny (afterWritten timestamp counts client) r ⌝ }
 {
-    if !counts.is_quorum(client.f) {
+    let f = client.f;
+    if !counts.is_quorum(f) {
         let waiting = Phase::Writtens(timestamp, counts);
         return plain(ClientAnswer::Counted, with_phase(client, waiting));
     }
@@ -187,7 +188,7 @@ fn after_written(client: Client, timestamp: Timestamp, counts: ReplicaSet) -> St
 }
 
 // A WRITTEN to a client that waits for them to end its write.
-pub fn count_written(
+pub(super) fn count_written(
     client: Client,
     asked: Timestamp,
     counts: ReplicaSet,

@@ -18,7 +18,12 @@ ghost use Rattle.client.specs.Stepping.{callOf};
 
 const NOT_AWAITED: u8 = 18;
 
-pub fn on_written(client: Client, sender: ReplicaId, timestamp: Timestamp, mark: &[u8]) -> Stepped
+pub(super) fn on_written(
+    client: Client,
+    sender: ReplicaId,
+    timestamp: Timestamp,
+    mark: &[u8],
+) -> Stepped
     requires { ⌜ (1 ≤ sender .0) × (sender .0 ≤ 16) × (length (now mark) ≡ 64) ⌝ }
     ensures { λ r. ⌜ ((old : List ℕ) → callOf r old ≡ clientAnswers client old (onWritten client sender (number timestamp) (now (mark .entry)) (client .phase))) ⌝ }
 {

@@ -6,7 +6,7 @@ ghost use lib.ListN.{length, take, drop};
 ghost use Rattle.base.specs.Same.{same};
 ghost use Rattle.protocol.specs.Parts.{filled};
 
-pub fn same(a: &[u8], b: &[u8]) -> bool
+pub(super) fn same(a: &[u8], b: &[u8]) -> bool
     ensures { λ r. ⌜ r ≡ same (now (a .entry)) (now (b .entry)) ⌝ }
 {
     if a.len() != b.len() {
@@ -23,7 +23,7 @@ pub fn same(a: &[u8], b: &[u8]) -> bool
 }
 
 // All of some bytes, stored from a place on.
-pub fn copy(out: &mut [u8], at: usize, bytes: &[u8])
+pub(super) fn copy(out: &mut [u8], at: usize, bytes: &[u8])
     requires { ⌜ at + length (now bytes) ≤ length (now out) ⌝ }
     ensures { λ _. ⌜ now (out .exit) ≡ take at (now (out .entry)) ++ (now (bytes .entry) ++ drop (at + length (now (bytes .entry))) (now (out .entry))) ⌝ }
 {
@@ -35,7 +35,7 @@ pub fn copy(out: &mut [u8], at: usize, bytes: &[u8])
 }
 
 // Arrays with zeros behind the bytes.
-pub fn filled_17(bytes: &[u8]) -> [u8; 17]
+pub(super) fn filled_17(bytes: &[u8]) -> [u8; 17]
     requires { ⌜ length (now bytes) ≤ 17 ⌝ }
     ensures { λ r. ⌜ r ≡ filled 17 (now (bytes .entry)) ⌝ }
 {
@@ -44,7 +44,7 @@ pub fn filled_17(bytes: &[u8]) -> [u8; 17]
     array
 }
 
-pub fn filled_715(bytes: &[u8]) -> [u8; 715]
+pub(super) fn filled_715(bytes: &[u8]) -> [u8; 715]
     requires { ⌜ length (now bytes) ≤ 715 ⌝ }
     ensures { λ r. ⌜ r ≡ filled 715 (now (bytes .entry)) ⌝ }
 {
@@ -54,7 +54,7 @@ pub fn filled_715(bytes: &[u8]) -> [u8; 715]
 }
 
 // A digest's array.
-pub fn digest_array(bytes: &[u8]) -> [u8; 32]
+pub(super) fn digest_array(bytes: &[u8]) -> [u8; 32]
     requires { ⌜ length (now bytes) ≡ 32 ⌝ }
     ensures { λ r. ⌜ r ≡ now (bytes .entry) ⌝ }
 {

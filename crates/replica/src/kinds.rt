@@ -31,7 +31,7 @@ const WRONG_CARD: u8 = 14;
 const NOT_TAKEN: u8 = 15;
 
 // A refusal, which leaves the record as it was.
-pub fn refuse(replica: Replica, number: u8) -> Stepped
+pub(super) fn refuse(replica: Replica, number: u8) -> Stepped
     ensures { λ r. ⌜ (r .answer ≡ ReplicaAnswer.Refused number) × (r .replica ≡ replica) ⌝ }
 {
     Stepped {
@@ -58,7 +58,7 @@ fn with_register(replica: Replica, register: Register) -> Replica
 }
 
 // READ-STAMP
-pub fn read_stamp(replica: Replica, client: ClientId, nonce: u64, out: &mut [u8]) -> Stepped
+pub(super) fn read_stamp(replica: Replica, client: ClientId, nonce: u64, out: &mut [u8]) -> Stepped
     requires { ⌜ longest ≤ length (now out) ⌝ }
     ensures { λ r. ⌜ Leaves (replicaAnswers replica (now (out .entry)) (onReadStamp replica client nonce)) r (now (out .exit)) ⌝ }
 {
@@ -82,7 +82,7 @@ pub fn read_stamp(replica: Replica, client: ClientId, nonce: u64, out: &mut [u8]
 }
 
 // READ
-pub fn read(replica: Replica, client: ClientId, nonce: u64, out: &mut [u8]) -> Stepped
+pub(super) fn read(replica: Replica, client: ClientId, nonce: u64, out: &mut [u8]) -> Stepped
     requires { ⌜ longest ≤ length (now out) ⌝ }
     ensures { λ r. ⌜ Leaves (replicaAnswers replica (now (out .entry)) (onRead replica client nonce)) r (now (out .exit)) ⌝ }
 {
@@ -129,7 +129,7 @@ fn is_successor(timestamp: Timestamp, shown: Timestamp, client: ClientId) -> boo
 }
 
 // PREPARE
-pub fn prepare(
+pub(super) fn prepare(
     replica: Replica,
     client: ClientId,
     timestamp: Timestamp,
@@ -198,7 +198,7 @@ fn write_parts(
 }
 
 // WRITE
-pub fn write(replica: Replica, card: &[u8], proof: &[u8], out: &mut [u8]) -> Stepped
+pub(super) fn write(replica: Replica, card: &[u8], proof: &[u8], out: &mut [u8]) -> Stepped
     requires { ⌜ (extent preparedRule (now proof) ≡ length (now proof)) × (getD (now proof) 37 0 ≤ 11) × (longest ≤ length (now out)) ⌝ }
     ensures { λ r. ⌜ Leaves (replicaAnswers replica (now (out .entry)) (onWrite replica (now (card .entry)) (preparedFrom (now (proof .entry))))) r (now (out .exit)) ⌝ }
 {

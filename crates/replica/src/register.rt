@@ -119,7 +119,7 @@ fn with_held(
 }
 
 // PREPARE, once tests 2 to 13 are passed; `last` is the written proof's timestamp, 0.0 where the proof is missing.
-pub fn after_prepare(
+pub(super) fn after_prepare(
     register: Register,
     client: ClientId,
     timestamp: Timestamp,
@@ -151,7 +151,7 @@ pub fn after_prepare(
 }
 
 // WRITE, once tests 2 to 14 are passed.
-pub fn after_write(
+pub(super) fn after_write(
     register: Register,
     timestamp: Timestamp,
     card: &[u8],

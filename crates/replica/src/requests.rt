@@ -43,7 +43,12 @@ fn on_write(replica: Replica, message: &[u8], fields: Fields, out: &mut [u8]) ->
 }
 
 // What a replica makes of a message that passed: one function for each kind.
-pub fn on_message(replica: Replica, message: &[u8], fields: Fields, out: &mut [u8]) -> Stepped
+pub(super) fn on_message(
+    replica: Replica,
+    message: &[u8],
+    fields: Fields,
+    out: &mut [u8],
+) -> Stepped
     requires { ⌜ Passes replica (now message) fields × (longest ≤ length (now out)) ⌝ }
     ensures { λ r. ⌜ Answers replica (now (message .entry)) fields (now (out .entry)) r (now (out .exit)) ⌝ }
 {

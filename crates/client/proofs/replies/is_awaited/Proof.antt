@@ -11,7 +11,7 @@ returns-2 : tie.Need-returns-2
 returns-2 c = rw (eq-eqb _ _ (c .before .before .before .if1 .left), ne-eqb _ _ (c .if2 .taken))
 
 returns-3 : tie.Need-returns-3
-returns-3 c = rw (eq-eqb _ _ (c .before .before .before .before .if1 .left), eq-eqb _ _ (c .before .if2 .left), c .has .ensures)
+returns-3 c = rw (eq-eqb _ _ (c .before .before .before .before .if1 .left), eq-eqb _ _ (c .before .if2 .left), c .is-new .ensures)
 
 pub is-awaited-spec : {M : Type 1} → statement M
 is-awaited-spec = tie.close (tie.spec returns returns-2 (λ c κs. search needs) returns-3)
