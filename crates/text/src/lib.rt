@@ -106,3 +106,41 @@ pub fn print_hex(bytes: &[u8]) {
         i += 1;
     }
 }
+
+// Stores bytes from a place on, as far as there is room, and answers the place behind them.
+pub fn put(to: &mut [u8], at: usize, bytes: &[u8]) -> usize {
+    let mut next = at;
+    let mut i = 0;
+    while i < bytes.len() {
+        if to.len() <= next {
+            return next;
+        }
+        to[next] = bytes[i];
+        next += 1;
+        i += 1;
+    }
+    next
+}
+
+// The same of a number's decimal digits.
+pub fn put_number(to: &mut [u8], at: usize, n: u64) -> usize {
+    let mut digits = [0u8; 20];
+    let k = io::decimal(n, &mut digits);
+    put(to, at, &digits[..k])
+}
+
+fn put_pair(to: &mut [u8], at: usize, byte: u8) -> usize {
+    let pair = [capital_digit(byte / 16), capital_digit(byte % 16)];
+    put(to, at, &pair)
+}
+
+// The same of the bytes' hex digits.
+pub fn put_hex(to: &mut [u8], at: usize, bytes: &[u8]) -> usize {
+    let mut next = at;
+    let mut i = 0;
+    while i < bytes.len() {
+        next = put_pair(to, next, bytes[i]);
+        i += 1;
+    }
+    next
+}

@@ -1,9 +1,9 @@
--- `replica_runs::space` meets its contract. Assumes nothing.
+-- `runs::words::space` meets its contract. Assumes nothing.
 use Prim.Native.Nat.{_-_}
-use borrow.Author.Needs.{needs}
 use lib.ListN.{length}
-use Rattle.replica_runs.proofs.space.Statement.{statement}
-use Rattle.replica_runs.proofs.space.Tie as tie
+use borrow.Author.Needs.{needs}
+use Rattle.runs.proofs.words.space.Statement.{statement}
+use Rattle.runs.proofs.words.space.Tie as tie
 
 abbrev Inv-loop : tie.InvT-loop
 Inv-loop line at₀ at = Unit {0}

@@ -1,29 +1,28 @@
--- `client_runs::next_word` meets its contract. Assumes nothing.
+-- `text::put_hex` meets its contract. Assumes nothing.
+use mathlib.Core.Path.{_≡_}
 use Prim.Native.Nat.{_-_}
 use lib.ListN.{length}
 use borrow.Author.Needs.{needs}
-use Rattle.client_runs.proofs.next_word.Statement.{statement}
-use Rattle.client_runs.proofs.next_word.Tie as tie
+use Rattle.text.proofs.put_hex.Statement.{statement}
+use Rattle.text.proofs.put_hex.Tie as tie
 
 abbrev Inv-loop : tie.InvT-loop
-Inv-loop line i₀ i = Unit {0}
+Inv-loop to₀ at bytes next₀ i₀ to next i = length to ≡ length to₀
 
 abbrev μ-loop : tie.MeasureT-loop
-μ-loop line i₀ i = length line - i
+μ-loop to₀ at bytes next₀ i₀ to next i = length bytes - i
 
-pub next-word-spec : {M : Type 1} → statement M
-next-word-spec =
+pub put-hex-spec : {M : Type 1} → statement M
+put-hex-spec =
     tie.close
     (tie.spec
     Inv-loop
     μ-loop
     (λ c. search needs)
     (λ c. search needs)
-    (λ c. search needs)
     (λ c κs. search needs)
     (λ c. search needs)
     (λ c. search needs)
     (λ c. search needs)
     (λ c. search needs)
-    (λ c κs. search needs)
     (λ c. search needs))

@@ -1,25 +1,24 @@
--- `client_runs::number` meets its contract. Assumes nothing.
+-- `text::put` meets its contract. Assumes nothing.
+use mathlib.Core.Path.{_≡_}
 use Prim.Native.Nat.{_-_}
 use lib.ListN.{length}
 use borrow.Author.Needs.{needs}
-use Rattle.client_runs.proofs.number.Statement.{statement}
-use Rattle.client_runs.proofs.number.Tie as tie
+use Rattle.text.proofs.put.Statement.{statement}
+use Rattle.text.proofs.put.Tie as tie
 
 abbrev Inv-loop : tie.InvT-loop
-Inv-loop line n₀ i₀ n i = Unit {0}
+Inv-loop to₀ at bytes next₀ i₀ to next i = length to ≡ length to₀
 
 abbrev μ-loop : tie.MeasureT-loop
-μ-loop line n₀ i₀ n i = length line - i
+μ-loop to₀ at bytes next₀ i₀ to next i = length bytes - i
 
-pub number-spec : {M : Type 1} → statement M
-number-spec =
+pub put-spec : {M : Type 1} → statement M
+put-spec =
     tie.close
     (tie.spec
     Inv-loop
     μ-loop
     (λ c. search needs)
-    (λ c. search needs)
-    (λ c κs. search needs)
     (λ c. search needs)
     (λ c. search needs)
     (λ c. search needs)

@@ -1,15 +1,15 @@
--- `replica_runs::decimal` meets its contract. Assumes nothing.
-use Prim.Native.Nat.{_-_, _≤_}
-use borrow.Author.Needs.{needs}
+-- `runs::words::decimal` meets its contract. Assumes nothing.
+use Prim.Native.Nat.{_-_}
 use lib.ListN.{length}
-use Rattle.replica_runs.proofs.decimal.Statement.{statement}
-use Rattle.replica_runs.proofs.decimal.Tie as tie
+use borrow.Author.Needs.{needs}
+use Rattle.runs.proofs.words.decimal.Statement.{statement}
+use Rattle.runs.proofs.words.decimal.Tie as tie
 
 abbrev Inv-loop : tie.InvT-loop
-Inv-loop part n₀ i₀ n i = n ≤ 999
+Inv-loop word n₀ i₀ n i = Unit {0}
 
 abbrev μ-loop : tie.MeasureT-loop
-μ-loop part n₀ i₀ n i = length part - i
+μ-loop word n₀ i₀ n i = length word - i
 
 pub decimal-spec : {M : Type 1} → statement M
 decimal-spec =
@@ -20,8 +20,7 @@ decimal-spec =
     (λ c. search needs)
     (λ c. search needs)
     (λ c. search needs)
-    (λ c. search needs)
-    (λ c. search needs)
+    (λ c κs. search needs)
     (λ c. search needs)
     (λ c. search needs)
     (λ c. search needs)

@@ -1,0 +1,62 @@
+-- `runs::play_lines` meets its contract. Assumes nothing.
+use Prim.Native.Nat.{_-_}
+use lib.ListN.{length}
+use borrow.Author.Needs.{needs}
+use Rattle.runs.proofs.play_lines.Statement.{statement}
+use Rattle.runs.proofs.play_lines.Tie as tie
+
+abbrev Inv-loop : tie.InvT-loop
+Inv-loop script replicas₀ clients₀ store₀ lengths₀ sent₀ from₀ t21 replicas clients store lengths sent from =
+    Unit {0}
+
+abbrev μ-loop : tie.MeasureT-loop
+μ-loop script replicas₀ clients₀ store₀ lengths₀ sent₀ from₀ t21 replicas clients store lengths sent from =
+    length script - from
+
+pub play-lines-spec : {M : Type 1} → statement M
+play-lines-spec =
+    tie.close
+    (tie.spec
+    Inv-loop
+    μ-loop
+    (λ c κs. search needs)
+    (λ c κs. search needs)
+    (λ c κs. search needs)
+    (λ c. search needs)
+    (λ c κs. search needs)
+    (λ c. search needs)
+    (λ c. search needs)
+    (λ c. search needs)
+    (λ c κs. search needs)
+    (λ c κs. search needs)
+    (λ c. search needs)
+    (λ c κs. search needs)
+    (λ c. search needs)
+    (λ c. search needs)
+    (λ c. search needs)
+    (λ c κs. search needs)
+    (λ c. search needs)
+    (λ c. search needs)
+    (λ c. search needs)
+    (λ c κs. search needs)
+    (λ c. search needs)
+    (λ c κs. search needs)
+    (λ c. search needs)
+    (λ c. search needs)
+    (λ c. search needs)
+    (λ c κs. search needs)
+    (λ c. search needs)
+    (λ c. search needs)
+    (λ c. search needs)
+    (λ c κs. search needs)
+    (λ c. search needs)
+    (λ c κs. search needs)
+    (λ c κs. search needs)
+    (λ c. search needs)
+    (λ c κs. search needs)
+    (λ c. search needs)
+    (λ c κs. search needs)
+    (λ c. search needs)
+    (λ c. search needs)
+    (λ c. search needs)
+    (λ c. search needs))

@@ -1,0 +1,106 @@
+// The words of a line, parted by one space each, and what they write.
+use base::party::within;
+
+// A number, which other text lacks.
+pub enum Number {
+    Value(u64),
+    Nothing,
+}
+
+// A number of one byte.
+pub enum Byte {
+    Value(u8),
+    Nothing,
+}
+
+const LARGEST: u64 = 18_446_744_073_709_551_615;
+
+// So many bytes from the front, or all.
+pub fn front(bytes: &[u8], n: usize) -> &[u8] {
+    if n <= bytes.len() {
+        return &bytes[0..n];
+    }
+    bytes
+}
+
+// The bytes from a place on.
+pub fn behind(bytes: &[u8], at: usize) -> &[u8] {
+    if at <= bytes.len() {
+        return &bytes[at..];
+    }
+    &bytes[0..0]
+}
+
+// Where the first space stands, or the end.
+fn space(line: &[u8]) -> usize {
+    let mut at = 0;
+    while at < line.len() {
+        if line[at] == b' ' {
+            return at;
+        }
+        at += 1;
+    }
+    at
+}
+
+pub fn first(line: &[u8]) -> &[u8] {
+    front(line, space(line))
+}
+
+// What stands behind the first word.
+pub fn rest(line: &[u8]) -> &[u8] {
+    let at = space(line);
+    if at < line.len() {
+        return behind(line, at + 1);
+    }
+    behind(line, at)
+}
+
+pub fn decimal(word: &[u8]) -> Number {
+    if word.len() == 0 {
+        return Number::Nothing;
+    }
+    let mut n: u64 = 0;
+    let mut i = 0;
+    while i < word.len() {
+        let byte = word[i];
+        if !within(b'0', b'9', byte) {
+            return Number::Nothing;
+        }
+        let digit = (byte % 16) as u64;
+        if n > (LARGEST - digit) / 10 {
+            return Number::Nothing;
+        }
+        n = n * 10 + digit;
+        i += 1;
+    }
+    Number::Value(n)
+}
+
+pub fn decimal_byte(word: &[u8]) -> Byte {
+    let Number::Value(n) = decimal(word) else {
+        return Byte::Nothing;
+    };
+    if n > 255 {
+        return Byte::Nothing;
+    }
+    Byte::Value(n as u8)
+}
+
+// Stores the bytes that a word writes in hex, `-` for none, and answers their number: a word that is no hex, or too long for the room, writes nothing.
+pub fn hex(word: &[u8], to: &mut [u8]) -> Number {
+    if check::same(word, b"-") {
+        return Number::Value(0);
+    }
+    if word.len() == 0 {
+        return Number::Nothing;
+    }
+    let n = text::read_hex(word, to);
+    if word.len() / 2 != n {
+        return Number::Nothing;
+    }
+    if word.len() % 2 != 0 {
+        return Number::Nothing;
+    }
+    Number::Value(n as u64)
+}
