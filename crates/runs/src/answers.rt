@@ -1,5 +1,4 @@
 // What lines are answered, and how that is printed.
-use crate::log::Lengths;
 use crate::log::Store;
 use crate::words::behind;
 use crate::words::front;
@@ -122,13 +121,7 @@ fn print(answer: Answer, number: u64, out: &[u8], length: usize) {
 }
 
 // Prints an answer and keeps the message; `sent` came before it. Answers how many were sent with it.
-pub fn report(
-    answer: Answer,
-    out: &[u8],
-    store: &mut Store,
-    lengths: &mut Lengths,
-    sent: usize,
-) -> usize {
+pub fn report(answer: Answer, out: &[u8; OUTPUT], store: &mut Store, sent: usize) -> usize {
     let outcome = answer.outcome;
     let length = sent_length(outcome);
     let number = std::num::wrapping_add_usize(sent, 1);
@@ -136,6 +129,6 @@ pub fn report(
     if length == 0 {
         return sent;
     }
-    crate::log::keep(store, lengths, sent, front(out, length));
+    crate::log::keep(store, sent, front(out, length));
     number
 }

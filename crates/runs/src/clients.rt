@@ -2,14 +2,20 @@
 use crate::answers::Answer;
 use crate::answers::Outcome;
 use crate::answers::plain;
+use crate::answers::report;
+use crate::answers::untouched;
 use crate::log::Lengths;
 use crate::log::Store;
+use crate::log::handed;
 use crate::words::Byte;
-use crate::words::Number;
+use crate::words::Command;
+use crate::words::Numeral;
+use crate::words::call;
 use crate::words::decimal;
 use crate::words::decimal_byte;
 use crate::words::first;
 use crate::words::front;
+use crate::words::lent;
 use crate::words::rest;
 use base::party::ClientId;
 use base::party::Setup;
@@ -17,8 +23,6 @@ use client::Stepped;
 use protocol::client::Client;
 use protocol::client::ClientAnswer;
 use wire::message::Party;
-ghost use Prim.Native.Nat.{_≤_};
-ghost use lib.ListN.{length};
 
 // A server: the client that is set up on it.
 pub struct ClientServer {
@@ -26,12 +30,16 @@ pub struct ClientServer {
     pub client: Client,
 }
 
-pub struct ClientTurn {
-    pub server: ClientServer,
-    pub answer: Answer,
+struct Called {
+    server: ClientServer,
+    answer: Answer,
 }
 
-const SHORT: usize = 1_578;
+// What a line leaves, with the number of messages sent so far.
+pub struct ClientTurn {
+    pub server: ClientServer,
+    pub sent: usize,
+}
 
 // A place for each number, and one for 0, where nobody is ever set up.
 pub fn nobody() -> [ClientServer; 65] {
@@ -43,22 +51,22 @@ pub fn nobody() -> [ClientServer; 65] {
     [server; 65]
 }
 
-fn answered(server: ClientServer, outcome: Outcome) -> ClientTurn {
-    ClientTurn {
+fn answered(server: ClientServer, outcome: Outcome) -> Called {
+    Called {
         server: server,
         answer: plain(outcome),
     }
 }
 
 // `client F ID NONCE`. A refused one leaves what was set up before.
-fn set_up(server: ClientServer, words: &[u8]) -> ClientTurn {
+fn set_up(server: ClientServer, words: &[u8]) -> Called {
     let Byte::Value(f) = decimal_byte(first(words)) else {
         return answered(server, Outcome::Unread);
     };
     let Byte::Value(id) = decimal_byte(first(rest(words))) else {
         return answered(server, Outcome::Unread);
     };
-    let Number::Value(nonce) = decimal(rest(rest(words))) else {
+    let Numeral::Value(nonce) = decimal(rest(rest(words))) else {
         return answered(server, Outcome::Unread);
     };
     let made = client::fresh(f, ClientId(id), nonce);
@@ -86,11 +94,11 @@ fn outcome(answer: ClientAnswer) -> Outcome {
     }
 }
 
-fn after(stepped: Stepped) -> ClientTurn {
+fn after(stepped: Stepped) -> Called {
     let answer = stepped.answer;
     let card = stepped.card;
     let client = stepped.client;
-    ClientTurn {
+    Called {
         server: ClientServer {
             ready: true,
             client: client,
@@ -104,9 +112,9 @@ fn after(stepped: Stepped) -> ClientTurn {
 }
 
 // `CARD`
-fn begin_write(server: ClientServer, word: &[u8], out: &mut [u8]) -> ClientTurn {
+fn begin_write(server: ClientServer, word: &[u8], out: &mut [u8]) -> Called {
     let mut card = [0u8; 64];
-    let Number::Value(n) = crate::words::hex(word, &mut card) else {
+    let Numeral::Value(n) = crate::words::hex(word, &mut card) else {
         return answered(server, Outcome::Unread);
     };
     let client = server.client;
@@ -118,61 +126,67 @@ fn hand_over(
     server: ClientServer,
     words: &[u8],
     store: &Store,
-    lengths: &Lengths,
+    sent: usize,
     out: &mut [u8],
-) -> ClientTurn {
-    let mut message = [0u8; 2048];
-    let Number::Value(n) = crate::log::message(first(words), store, lengths, &mut message) else {
-        return answered(server, Outcome::Unread);
-    };
-    let bytes = front(&message, n as usize);
+) -> Called {
+    let mut bytes = [0u8; 2048];
     let mut verdicts = [1u8; 400];
-    let Number::Value(m) = crate::log::verdicts(rest(words), Party::Client, bytes, &mut verdicts)
+    let Lengths::Both(n, m) = handed(words, Party::Client, store, sent, &mut bytes, &mut verdicts)
     else {
         return answered(server, Outcome::Unread);
     };
     let client = server.client;
-    after(client::step(client, bytes, front(&verdicts, m as usize), out))
+    after(client::step(client, front(&bytes, n), front(&verdicts, m), out))
 }
 
-fn call(
-    server: ClientServer,
-    line: &[u8],
-    store: &Store,
-    lengths: &Lengths,
-    out: &mut [u8],
-) -> ClientTurn {
-    let word = first(line);
-    let words = rest(line);
-    if check::same(word, b"read") {
-        let client = server.client;
-        return after(client::begin_read(client, out));
-    }
-    if check::same(word, b"write") {
-        return begin_write(server, rest(words), out);
-    }
-    hand_over(server, rest(words), store, lengths, out)
+fn begin_read(server: ClientServer, out: &mut [u8]) -> Called {
+    let client = server.client;
+    after(client::begin_read(client, out))
 }
 
-// What a line about the client of this server does.
-pub fn turn(
+fn act(
     server: ClientServer,
-    line: &[u8],
+    command: Command,
+    words: &[u8],
     store: &Store,
-    lengths: &Lengths,
+    sent: usize,
     out: &mut [u8],
-) -> ClientTurn
-    requires { ⌜ 1578 ≤ length (now out) ⌝ }
-{
-    let word = first(line);
-    if check::same(word, b"client") {
-        return set_up(server, rest(line));
+) -> Called {
+    if let Command::SetUp = command {
+        return set_up(server, words);
     }
     if !server.ready {
         return answered(server, Outcome::Unread);
     }
-    if check::same(word, b"short") {
-        return call(server, rest(line), store, lengths, &mut out[0..SHORT]);
+    match command {
+        Command::Read => begin_read(server, out),
+        Command::Write => begin_write(server, rest(words), out),
+        _ => hand_over(server, rest(words), store, sent, out),
     }
-    call(server, line, store, lengths, out)
+}
+
+// What a line about this server's client does; `sent` messages came before it.
+pub fn turn(
+    server: ClientServer,
+    command: Command,
+    line: &[u8],
+    store: &mut Store,
+    sent: usize,
+) -> ClientTurn {
+    let mut out = untouched();
+    let end = lent(line);
+    let called = act(
+        server,
+        command,
+        rest(call(line)),
+        store,
+        sent,
+        &mut out[0..end],
+    );
+    let answer = called.answer;
+    let after = called.server;
+    ClientTurn {
+        server: after,
+        sent: report(answer, &out, store, sent),
+    }
 }

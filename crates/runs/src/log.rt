@@ -1,64 +1,77 @@
 // The messages sent since `new`, and what lines hand over.
-use crate::words::Number;
+use crate::words::Numeral;
 use crate::words::behind;
-use crate::words::decimal;
+use crate::words::first;
 use crate::words::front;
 use crate::words::hex;
+use crate::words::number;
+use crate::words::rest;
 use wire::message::Party;
 use wire::message::Reading;
-ghost use Prim.Native.Nat.{_*_, _≤_};
+ghost use Prim.Native.Nat.{_*_, _≤_, _<_};
 
-// So many messages are kept, the first ones, each with so much room.
+// So many messages are kept, the first ones, each with so much room: its length in two bytes, and its bytes.
 const KEPT: usize = 200;
 
 const ROOM: usize = 1_600;
 
 pub type Store = [u8; 320_000];
 
-// Their lengths, 0 for one that is not there.
-pub type Lengths = [usize; 200];
-
 // A proof's entry: signer and signature.
 const ENTRY: usize = 65;
+
+// The lengths of a message and of its verdicts, where words are such.
+pub enum Lengths {
+    Both(usize, usize),
+    Nothing,
+}
+
+fn wide(byte: u8) -> usize
+    ensures { λ r. ⌜ r ≤ 255 ⌝ }
+{
+    byte as usize
+}
 
 pub fn empty() -> Store {
     [0; 320_000]
 }
 
-// Keeps a message, of which `sent` came before it.
-pub fn keep(store: &mut Store, lengths: &mut Lengths, sent: usize, message: &[u8]) {
+// Keeps a message; `sent` were sent before it.
+pub fn keep(store: &mut Store, sent: usize, message: &[u8]) {
     if sent < KEPT {
-        text::put(store, sent * ROOM, message);
-        lengths[sent] = message.len();
+        let at = sent * ROOM;
+        store[at] = (message.len() / 256 % 256) as u8;
+        store[at + 1] = (message.len() % 256) as u8;
+        text::put(store, at + 2, message);
     }
 }
 
-// Fetches a message by its number, if it was kept.
-fn fetch(number: u64, store: &Store, lengths: &Lengths, to: &mut [u8]) -> Number {
-    if number == 0 {
-        return Number::Nothing;
-    }
-    let at = (number - 1) as usize;
-    if KEPT <= at {
-        return Number::Nothing;
-    }
-    let n = lengths[at];
-    if n == 0 {
-        return Number::Nothing;
-    }
-    text::put(to, 0, front(behind(store, at * ROOM), n));
-    Number::Value(n as u64)
+// The message with a number, which is one of the kept.
+fn fetch(number: usize, store: &Store, to: &mut [u8]) -> Numeral
+    requires { ⌜ number < 200 ⌝ }
+{
+    let at = number * ROOM;
+    let n = wide(store[at]) * 256 + wide(store[at + 1]);
+    text::put(to, 0, front(behind(store, at + 2), n));
+    Numeral::Value(n as u64)
 }
 
 // The message that a word is: `@M` for one that was sent, or hex.
-pub fn message(word: &[u8], store: &Store, lengths: &Lengths, to: &mut [u8]) -> Number {
+fn message(word: &[u8], store: &Store, sent: usize, to: &mut [u8]) -> Numeral {
     if !check::same(front(word, 1), b"@") {
         return hex(word, to);
     }
-    let Number::Value(n) = decimal(behind(word, 1)) else {
-        return Number::Nothing;
-    };
-    fetch(n, store, lengths, to)
+    let n = number(behind(word, 1));
+    if n == 0 {
+        return Numeral::Nothing;
+    }
+    if n > sent as u64 {
+        return Numeral::Nothing;
+    }
+    if n > 200 {
+        return Numeral::Nothing;
+    }
+    fetch((n - 1) as usize, store, to)
 }
 
 // The whole entries that have room between two places: a proof's head is shorter than an entry.
@@ -84,9 +97,27 @@ fn signatures(party: Party, message: &[u8]) -> u64 {
 }
 
 // The verdicts that a word is: `+` for a 1 per signature, which are there already, or hex.
-pub fn verdicts(word: &[u8], party: Party, message: &[u8], ones: &mut [u8]) -> Number {
+fn verdicts(word: &[u8], party: Party, message: &[u8], ones: &mut [u8]) -> Numeral {
     if check::same(word, b"+") {
-        return Number::Value(signatures(party, message));
+        return Numeral::Value(signatures(party, message));
     }
     hex(word, ones)
+}
+
+// Stores the message and the verdicts that words are, and answers how many bytes each has.
+pub fn handed(
+    words: &[u8],
+    party: Party,
+    store: &Store,
+    sent: usize,
+    bytes: &mut [u8],
+    ones: &mut [u8],
+) -> Lengths {
+    let Numeral::Value(n) = message(first(words), store, sent, bytes) else {
+        return Lengths::Nothing;
+    };
+    let Numeral::Value(m) = verdicts(rest(words), party, front(bytes, n as usize), ones) else {
+        return Lengths::Nothing;
+    };
+    Lengths::Both(n as usize, m as usize)
 }

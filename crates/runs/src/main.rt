@@ -14,33 +14,24 @@ mod log;
 mod replicas;
 mod words;
 
-use answers::report;
-use answers::untouched;
 use libc::STDIN_FILENO;
-use words::Number;
-use words::decimal;
+use words::Command;
+use words::call;
 use words::first;
 use words::front;
+use words::number;
 use words::rest;
 ghost use Prim.Native.Nat.{_≤_};
 
-// Whom a line is about, by the party's number.
+// Whom a line is about, by the party's number, and what it asks.
 enum Subject {
     Everyone,
-    Replica(u64),
-    Client(u64),
+    Replica(Command, u64),
+    Client(Command, u64),
     Nobody,
 }
 
 const SCRIPT: usize = 1_048_576;
-
-// The number of a party, which starts at 1; 0 for other text.
-fn party(word: &[u8]) -> u64 {
-    match decimal(word) {
-        Number::Value(n) => n,
-        Number::Nothing => 0,
-    }
-}
 
 // A party's place in its table, 0 for a number that no party has.
 fn place(id: u64, last: u64) -> usize
@@ -56,16 +47,16 @@ fn about_call(line: &[u8]) -> Subject {
     let word = first(line);
     let words = rest(line);
     if check::same(word, b"to-replica") {
-        return Subject::Replica(party(first(words)));
+        return Subject::Replica(Command::HandOver, number(first(words)));
     }
     if check::same(word, b"to-client") {
-        return Subject::Client(party(first(words)));
+        return Subject::Client(Command::HandOver, number(first(words)));
     }
     if check::same(word, b"write") {
-        return Subject::Client(party(first(words)));
+        return Subject::Client(Command::Write, number(first(words)));
     }
     if check::same(word, b"read") {
-        return Subject::Client(party(words));
+        return Subject::Client(Command::Read, number(words));
     }
     Subject::Nobody
 }
@@ -73,25 +64,22 @@ fn about_call(line: &[u8]) -> Subject {
 fn about(line: &[u8]) -> Subject {
     let word = first(line);
     let words = rest(line);
+    if check::same(word, b"replica") {
+        return Subject::Replica(Command::SetUp, number(rest(words)));
+    }
+    if check::same(word, b"client") {
+        return Subject::Client(Command::SetUp, number(first(rest(words))));
+    }
+    if check::same(word, b"keep") {
+        return Subject::Replica(Command::Keep, number(words));
+    }
+    if check::same(word, b"restore") {
+        return Subject::Replica(Command::Restore, number(words));
+    }
     if check::same(line, b"new") {
         return Subject::Everyone;
     }
-    if check::same(word, b"replica") {
-        return Subject::Replica(party(rest(words)));
-    }
-    if check::same(word, b"client") {
-        return Subject::Client(party(first(rest(words))));
-    }
-    if check::same(word, b"keep") {
-        return Subject::Replica(party(words));
-    }
-    if check::same(word, b"restore") {
-        return Subject::Replica(party(words));
-    }
-    if check::same(word, b"short") {
-        return about_call(words);
-    }
-    about_call(line)
+    about_call(call(line))
 }
 
 // A line about nobody is printed if it is a comment.
@@ -108,34 +96,29 @@ fn play_lines(script: &[u8]) {
     let mut replicas = replicas::nobody();
     let mut clients = clients::nobody();
     let mut store = log::empty();
-    let mut lengths: log::Lengths = [0; 200];
     let mut sent = 0;
     let mut from = 0;
     while from < script.len() {
         let end = text::line_end(script, from);
         let line = &script[from..end];
-        let mut out = untouched();
         match about(line) {
-            Subject::Replica(id) => {
+            Subject::Replica(command, id) => {
                 let at = place(id, 16);
-                let turn = replicas::turn(replicas[at], line, &store, &lengths, &mut out);
-                let answer = turn.answer;
+                let turn = replicas::turn(replicas[at], command, line, &mut store, sent);
                 let server = turn.server;
                 replicas[at] = server;
-                sent = report(answer, &out, &mut store, &mut lengths, sent);
+                sent = turn.sent;
             }
-            Subject::Client(id) => {
+            Subject::Client(command, id) => {
                 let at = place(id, 64);
-                let turn = clients::turn(clients[at], line, &store, &lengths, &mut out);
-                let answer = turn.answer;
+                let turn = clients::turn(clients[at], command, line, &mut store, sent);
                 let server = turn.server;
                 clients[at] = server;
-                sent = report(answer, &out, &mut store, &mut lengths, sent);
+                sent = turn.sent;
             }
             Subject::Everyone => {
                 replicas = replicas::nobody();
                 clients = clients::nobody();
-                lengths = [0; 200];
                 sent = 0;
                 text::print(b"new\n");
             }

@@ -2,21 +2,24 @@
 use crate::answers::Answer;
 use crate::answers::Outcome;
 use crate::answers::plain;
+use crate::answers::report;
+use crate::answers::untouched;
 use crate::log::Lengths;
 use crate::log::Store;
+use crate::log::handed;
 use crate::words::Byte;
-use crate::words::Number;
+use crate::words::Command;
+use crate::words::call;
 use crate::words::decimal_byte;
 use crate::words::first;
 use crate::words::front;
+use crate::words::lent;
 use crate::words::rest;
 use base::party::ReplicaId;
 use base::party::Setup;
 use protocol::replica::Replica;
 use protocol::replica::ReplicaAnswer;
 use wire::message::Party;
-ghost use Prim.Native.Nat.{_≤_};
-ghost use lib.ListN.{length};
 
 // A server: the replica that is set up on it, and the record that was kept aside.
 pub struct ReplicaServer {
@@ -26,12 +29,16 @@ pub struct ReplicaServer {
     pub aside: Replica,
 }
 
-pub struct ReplicaTurn {
-    pub server: ReplicaServer,
-    pub answer: Answer,
+struct Called {
+    server: ReplicaServer,
+    answer: Answer,
 }
 
-const SHORT: usize = 1_578;
+// What a line leaves, with the number of messages sent so far.
+pub struct ReplicaTurn {
+    pub server: ReplicaServer,
+    pub sent: usize,
+}
 
 // A place for each number, and one for 0, where nobody is ever set up.
 pub fn nobody() -> [ReplicaServer; 17] {
@@ -45,8 +52,8 @@ pub fn nobody() -> [ReplicaServer; 17] {
     [server; 17]
 }
 
-fn answered(server: ReplicaServer, outcome: Outcome) -> ReplicaTurn {
-    ReplicaTurn {
+fn answered(server: ReplicaServer, outcome: Outcome) -> Called {
+    Called {
         server: server,
         answer: plain(outcome),
     }
@@ -63,7 +70,7 @@ fn with_record(server: ReplicaServer, replica: Replica) -> ReplicaServer {
 }
 
 // `replica F ID`. A refused one leaves what was set up before.
-fn set_up(server: ReplicaServer, words: &[u8]) -> ReplicaTurn {
+fn set_up(server: ReplicaServer, words: &[u8]) -> Called {
     let Byte::Value(f) = decimal_byte(first(words)) else {
         return answered(server, Outcome::Unread);
     };
@@ -79,7 +86,7 @@ fn set_up(server: ReplicaServer, words: &[u8]) -> ReplicaTurn {
     }
 }
 
-fn keep(server: ReplicaServer) -> ReplicaTurn {
+fn keep(server: ReplicaServer) -> Called {
     let replica = server.replica;
     let kept = ReplicaServer {
         ready: true,
@@ -90,7 +97,7 @@ fn keep(server: ReplicaServer) -> ReplicaTurn {
     answered(kept, Outcome::Kept)
 }
 
-fn restore(server: ReplicaServer) -> ReplicaTurn {
+fn restore(server: ReplicaServer) -> Called {
     if !server.kept {
         return answered(server, Outcome::Unread);
     }
@@ -98,26 +105,9 @@ fn restore(server: ReplicaServer) -> ReplicaTurn {
     answered(with_record(server, aside), Outcome::Restored)
 }
 
-// `MESSAGE VERDICTS`
-fn hand_over(
-    server: ReplicaServer,
-    words: &[u8],
-    store: &Store,
-    lengths: &Lengths,
-    out: &mut [u8],
-) -> ReplicaTurn {
-    let mut message = [0u8; 2048];
-    let Number::Value(n) = crate::log::message(first(words), store, lengths, &mut message) else {
-        return answered(server, Outcome::Unread);
-    };
-    let bytes = front(&message, n as usize);
-    let mut verdicts = [1u8; 400];
-    let Number::Value(m) = crate::log::verdicts(rest(words), Party::Replica, bytes, &mut verdicts)
-    else {
-        return answered(server, Outcome::Unread);
-    };
+fn step(server: ReplicaServer, message: &[u8], verdicts: &[u8], out: &mut [u8]) -> Called {
     let replica = server.replica;
-    let stepped = replica::step(replica, bytes, front(&verdicts, m as usize), out);
+    let stepped = replica::step(replica, message, verdicts, out);
     let answer = stepped.answer;
     let after = with_record(server, stepped.replica);
     match answer {
@@ -126,38 +116,72 @@ fn hand_over(
     }
 }
 
-// What a line about the replica of this server does.
-pub fn turn(
+// `MESSAGE VERDICTS`
+fn hand_over(
     server: ReplicaServer,
-    line: &[u8],
+    words: &[u8],
     store: &Store,
-    lengths: &Lengths,
+    sent: usize,
     out: &mut [u8],
-) -> ReplicaTurn
-    requires { ⌜ 1578 ≤ length (now out) ⌝ }
-{
-    let word = first(line);
-    let words = rest(line);
-    if check::same(word, b"replica") {
+) -> Called {
+    let mut bytes = [0u8; 2048];
+    let mut verdicts = [1u8; 400];
+    let Lengths::Both(n, m) = handed(
+        words,
+        Party::Replica,
+        store,
+        sent,
+        &mut bytes,
+        &mut verdicts,
+    ) else {
+        return answered(server, Outcome::Unread);
+    };
+    step(server, front(&bytes, n), front(&verdicts, m), out)
+}
+
+fn act(
+    server: ReplicaServer,
+    command: Command,
+    words: &[u8],
+    store: &Store,
+    sent: usize,
+    out: &mut [u8],
+) -> Called {
+    if let Command::SetUp = command {
         return set_up(server, words);
     }
     if !server.ready {
         return answered(server, Outcome::Unread);
     }
-    if check::same(word, b"keep") {
-        return keep(server);
+    match command {
+        Command::Keep => keep(server),
+        Command::Restore => restore(server),
+        _ => hand_over(server, rest(words), store, sent, out),
     }
-    if check::same(word, b"restore") {
-        return restore(server);
+}
+
+// What a line about this server's replica does; `sent` messages came before it.
+pub fn turn(
+    server: ReplicaServer,
+    command: Command,
+    line: &[u8],
+    store: &mut Store,
+    sent: usize,
+) -> ReplicaTurn {
+    let mut out = untouched();
+    let end = lent(line);
+    let called = act(
+        server,
+        command,
+        rest(call(line)),
+        store,
+        sent,
+        &mut out[0..end],
+    );
+    let answer = called.answer;
+    let after = called.server;
+    ReplicaTurn {
+        server: after,
+        sent: report(answer, &out, store, sent),
     }
-    if check::same(word, b"short") {
-        return hand_over(
-            server,
-            rest(rest(words)),
-            store,
-            lengths,
-            &mut out[0..SHORT],
-        );
-    }
-    hand_over(server, rest(words), store, lengths, out)
 }

@@ -1,8 +1,19 @@
 // The words of a line, parted by one space each, and what they write.
 use base::party::within;
+ghost use Prim.Native.Nat.{_≤_};
+
+// What a line asks of a party.
+pub enum Command {
+    SetUp,
+    Keep,
+    Restore,
+    Write,
+    Read,
+    HandOver,
+}
 
 // A number, which other text lacks.
-pub enum Number {
+pub enum Numeral {
     Value(u64),
     Nothing,
 }
@@ -12,6 +23,11 @@ pub enum Byte {
     Value(u8),
     Nothing,
 }
+
+// The bytes of output that a call is lent, and those behind `short`: one less than the longest message has.
+const OUTPUT: usize = 1_600;
+
+const SHORT: usize = 1_578;
 
 const LARGEST: u64 = 18_446_744_073_709_551_615;
 
@@ -56,29 +72,59 @@ pub fn rest(line: &[u8]) -> &[u8] {
     behind(line, at)
 }
 
-pub fn decimal(word: &[u8]) -> Number {
+fn is_short(line: &[u8]) -> bool {
+    check::same(first(line), b"short")
+}
+
+// The call of a line, behind `short`.
+pub fn call(line: &[u8]) -> &[u8] {
+    if is_short(line) {
+        return rest(line);
+    }
+    line
+}
+
+// How many bytes of output the call is lent.
+pub fn lent(line: &[u8]) -> usize
+    ensures { λ r. ⌜ r ≤ 1600 ⌝ }
+{
+    if is_short(line) {
+        return SHORT;
+    }
+    OUTPUT
+}
+
+pub fn decimal(word: &[u8]) -> Numeral {
     if word.len() == 0 {
-        return Number::Nothing;
+        return Numeral::Nothing;
     }
     let mut n: u64 = 0;
     let mut i = 0;
     while i < word.len() {
         let byte = word[i];
         if !within(b'0', b'9', byte) {
-            return Number::Nothing;
+            return Numeral::Nothing;
         }
         let digit = (byte % 16) as u64;
         if n > (LARGEST - digit) / 10 {
-            return Number::Nothing;
+            return Numeral::Nothing;
         }
         n = n * 10 + digit;
         i += 1;
     }
-    Number::Value(n)
+    Numeral::Value(n)
+}
+
+// The number that a word is, 0 for other text.
+pub fn number(word: &[u8]) -> u64 {
+    match decimal(word) {
+        Numeral::Value(n) => n,
+        Numeral::Nothing => 0,
+    }
 }
 
 pub fn decimal_byte(word: &[u8]) -> Byte {
-    let Number::Value(n) = decimal(word) else {
+    let Numeral::Value(n) = decimal(word) else {
         return Byte::Nothing;
     };
     if n > 255 {
@@ -88,19 +134,19 @@ pub fn decimal_byte(word: &[u8]) -> Byte {
 }
 
 // Stores the bytes that a word writes in hex, `-` for none, and answers their number: a word that is no hex, or too long for the room, writes nothing.
-pub fn hex(word: &[u8], to: &mut [u8]) -> Number {
+pub fn hex(word: &[u8], to: &mut [u8]) -> Numeral {
     if check::same(word, b"-") {
-        return Number::Value(0);
+        return Numeral::Value(0);
     }
     if word.len() == 0 {
-        return Number::Nothing;
+        return Numeral::Nothing;
     }
     let n = text::read_hex(word, to);
     if word.len() / 2 != n {
-        return Number::Nothing;
+        return Numeral::Nothing;
     }
     if word.len() % 2 != 0 {
-        return Number::Nothing;
+        return Numeral::Nothing;
     }
-    Number::Value(n as u64)
+    Numeral::Value(n as u64)
 }

@@ -6,11 +6,11 @@ use Rattle.runs.proofs.play_lines.Statement.{statement}
 use Rattle.runs.proofs.play_lines.Tie as tie
 
 abbrev Inv-loop : tie.InvT-loop
-Inv-loop script replicas₀ clients₀ store₀ lengths₀ sent₀ from₀ t21 replicas clients store lengths sent from =
+Inv-loop script replicas₀ clients₀ store₀ sent₀ from₀ t19 replicas clients store sent from =
     Unit {0}
 
 abbrev μ-loop : tie.MeasureT-loop
-μ-loop script replicas₀ clients₀ store₀ lengths₀ sent₀ from₀ t21 replicas clients store lengths sent from =
+μ-loop script replicas₀ clients₀ store₀ sent₀ from₀ t19 replicas clients store sent from =
     length script - from
 
 pub play-lines-spec : {M : Type 1} → statement M
@@ -28,17 +28,9 @@ play-lines-spec =
     (λ c. search needs)
     (λ c. search needs)
     (λ c κs. search needs)
-    (λ c κs. search needs)
     (λ c. search needs)
     (λ c κs. search needs)
     (λ c. search needs)
-    (λ c. search needs)
-    (λ c. search needs)
-    (λ c κs. search needs)
-    (λ c. search needs)
-    (λ c. search needs)
-    (λ c. search needs)
-    (λ c κs. search needs)
     (λ c. search needs)
     (λ c κs. search needs)
     (λ c. search needs)
@@ -47,8 +39,9 @@ play-lines-spec =
     (λ c κs. search needs)
     (λ c. search needs)
     (λ c. search needs)
-    (λ c. search needs)
     (λ c κs. search needs)
+    (λ c. search needs)
+    (λ c. search needs)
     (λ c. search needs)
     (λ c κs. search needs)
     (λ c κs. search needs)
