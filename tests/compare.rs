@@ -1,0 +1,284 @@
+//! Compares the proved program with the model over scripts of random runs.
+//!
+//! `compare PROGRAM [SEED [CALLS]]`: PROGRAM reads a script and prints a line per line of it. Built by
+//! `rustc -O --edition 2021 tests/compare.rs -o target/compare`.
+mod card;
+mod client;
+mod forge;
+mod generate;
+mod message;
+mod random;
+mod replica;
+mod script;
+mod sha256;
+
+use script::{Output, Player};
+use std::collections::BTreeMap;
+use std::io::{self, Write};
+use std::process::{Command, ExitCode, Stdio};
+use std::time::{SystemTime, UNIX_EPOCH};
+
+const CALLS: usize = 100_000;
+
+/// What the program prints for a script.
+fn run_program(program: &str, lines: &[String]) -> io::Result<Vec<String>> {
+    let mut child = Command::new(program)
+        .stdin(Stdio::piped())
+        .stdout(Stdio::piped())
+        .spawn()?;
+    let mut input = child.stdin.take().expect("a piped input");
+    let text: String = lines
+        .iter()
+        .flat_map(|line| [line.as_str(), "\n"])
+        .collect();
+    // The program may print before it has read all: a thread writes, so that neither waits for the other.
+    let writer = std::thread::spawn(move || input.write_all(text.as_bytes()));
+    let output = child.wait_with_output()?;
+    // A program that stopped reading early is told by its missing lines.
+    let _ = writer.join();
+    let text = String::from_utf8_lossy(&output.stdout);
+    let mut printed: Vec<String> = text.split_terminator('\n').map(String::from).collect();
+    if !output.status.success() {
+        printed.push(format!("({})", output.status));
+    }
+    Ok(printed)
+}
+
+/// The first line at which program and model part.
+struct Difference {
+    at: usize,
+    expected: String,
+    given: String,
+}
+
+fn first_difference(expected: &[Output], given: &[String]) -> Option<Difference> {
+    let missing = || "(no line)".to_string();
+    for at in 0..expected.len().max(given.len()) {
+        let expected = expected.get(at).map_or_else(missing, Output::to_string);
+        let given = given.get(at).cloned().unwrap_or_else(missing);
+        if expected != given {
+            return Some(Difference {
+                at,
+                expected,
+                given,
+            });
+        }
+    }
+    None
+}
+
+/// Plays a shrunk script anew in both. A script with a line of open meaning shows no difference.
+fn difference(program: &str, lines: &[String]) -> Option<Difference> {
+    let mut player = Player::default();
+    let expected: Vec<Output> = lines.iter().map(|line| player.play(line)).collect();
+    if player.unclear {
+        return None;
+    }
+    first_difference(&expected, &run_program(program, lines).ok()?)
+}
+
+/// The lines with all messages in hex, so that removing lines renumbers none.
+fn spelled_out(lines: &[String]) -> Vec<String> {
+    let mut player = Player::default();
+    let mut spelled = Vec::new();
+    for line in lines {
+        spelled.push(player.spelled_out(line));
+        player.play(line);
+    }
+    spelled
+}
+
+/// A script being shrunk, and its first difference.
+struct Failure<'a> {
+    program: &'a str,
+    lines: Vec<String>,
+    difference: Difference,
+}
+
+impl Failure<'_> {
+    /// Takes another script if it differs too.
+    fn try_instead(&mut self, lines: Vec<String>) -> bool {
+        let Some(difference) = difference(self.program, &lines) else {
+            return false;
+        };
+        self.lines = lines;
+        self.difference = difference;
+        true
+    }
+
+    /// A program that dies may lose what it printed: then the lines behind the difference are needed.
+    fn try_up_to_difference(&mut self) {
+        let lines = self.lines.iter().take(self.difference.at + 1);
+        self.try_instead(lines.cloned().collect());
+    }
+
+    fn shrink(&mut self) {
+        self.try_up_to_difference();
+        let last_run = self.lines.iter().rposition(|line| line == "new");
+        self.try_instead(self.lines[last_run.unwrap_or(0)..].to_vec());
+        self.try_instead(spelled_out(&self.lines));
+        let mut size = self.lines.len();
+        while size > 0 {
+            let removed = self.remove_parts(size);
+            self.try_up_to_difference();
+            if !removed || size > 1 {
+                size /= 2;
+            }
+        }
+    }
+
+    /// Tries to do without each part of `size` lines, from the end; answers whether one could go.
+    fn remove_parts(&mut self, size: usize) -> bool {
+        let mut end = self.lines.len();
+        let mut removed = false;
+        while end > 0 {
+            let start = end.saturating_sub(size);
+            let without = [&self.lines[..start], &self.lines[end..]].concat();
+            removed |= self.try_instead(without);
+            end = start;
+        }
+        removed
+    }
+
+    fn print(&self, seed: u64) {
+        println!(
+            "A difference, seed {seed}. The shortest script found, of {} lines:",
+            self.lines.len()
+        );
+        for line in &self.lines {
+            println!("{line}");
+        }
+        println!("Its line {} must print", self.difference.at + 1);
+        println!("{}", self.difference.expected);
+        println!("but {} prints", self.program);
+        println!("{}", self.difference.given);
+    }
+}
+
+/// How often each answer and each refusal occurred.
+#[derive(Default)]
+struct Tally {
+    calls: usize,
+    refused: usize,
+    occurred: BTreeMap<String, usize>,
+}
+
+impl Tally {
+    fn count(&mut self, line: &str, output: &Output) {
+        let name = match output {
+            Output::Refused(refusal) => format!("refused {refusal:2}"),
+            Output::Sent(..) => "sent".to_string(),
+            Output::Done(..) => "done".to_string(),
+            Output::Comment(_) => return,
+            other => other.to_string(),
+        };
+        *self.occurred.entry(name).or_default() += 1;
+        let line = line.strip_prefix("short ").unwrap_or(line);
+        let command = line.split(' ').next().unwrap_or(line);
+        let is_call = ["write", "read", "to-replica", "to-client"].contains(&command);
+        if is_call && *output != Output::Unread {
+            self.calls += 1;
+            self.refused += usize::from(matches!(output, Output::Refused(_)));
+        }
+    }
+
+    fn accepted(&self) -> usize {
+        self.calls - self.refused
+    }
+
+    fn print(&self) {
+        for (name, times) in &self.occurred {
+            println!("{name:12}{times:8}");
+        }
+        println!(
+            "{} calls, {} accepted, {} refused",
+            self.calls,
+            self.accepted(),
+            self.refused
+        );
+    }
+
+    /// What occurred too seldom for the comparison to mean much.
+    fn shortfalls(&self) -> Vec<String> {
+        let answers = ["sent", "counted", "done", "ended", "ready"].map(String::from);
+        let refusals = (1..=18).map(|refusal| format!("refused {refusal:2}"));
+        let mut short = Vec::new();
+        for name in answers.into_iter().chain(refusals) {
+            let seldom = ["ended", "refused 16", "refused 17"].contains(&name.as_str());
+            let least = if seldom { 10 } else { 100 };
+            let times = self.occurred.get(&name).copied().unwrap_or(0);
+            if times < least {
+                short.push(format!(
+                    "{name} occurred {times} times, wanted at least {least}"
+                ));
+            }
+        }
+        if 3 * self.accepted() < self.calls {
+            short.push(format!(
+                "{} of {} calls accepted, wanted a third",
+                self.accepted(),
+                self.calls
+            ));
+        }
+        short
+    }
+}
+
+/// Compares until `calls` calls were made. `Ok(false)` where the comparison failed.
+fn compare(program: &str, seed: u64, calls: usize) -> io::Result<bool> {
+    let mut random = random::Random::new(seed);
+    let mut tally = Tally::default();
+    while tally.calls < calls {
+        let script = generate::script(&mut random);
+        let given = run_program(program, &script.lines)?;
+        if let Some(difference) = first_difference(&script.expected, &given) {
+            let mut failure = Failure {
+                program,
+                lines: script.lines,
+                difference,
+            };
+            failure.shrink();
+            failure.print(seed);
+            return Ok(false);
+        }
+        for (line, output) in script.lines.iter().zip(&script.expected) {
+            tally.count(line, output);
+        }
+    }
+    tally.print();
+    let shortfalls = tally.shortfalls();
+    for shortfall in &shortfalls {
+        println!("too seldom: {shortfall}");
+    }
+    if shortfalls.is_empty() {
+        println!("{} calls compared, seed {seed}: all equal", tally.calls);
+    }
+    Ok(shortfalls.is_empty())
+}
+
+fn main() -> ExitCode {
+    let arguments: Vec<String> = std::env::args().skip(1).collect();
+    let number = |at: usize| {
+        arguments
+            .get(at)
+            .map(|word| word.parse::<u64>().expect("a number"))
+    };
+    let Some(program) = arguments.first() else {
+        eprintln!("compare PROGRAM [SEED [CALLS]]");
+        return ExitCode::from(2);
+    };
+    let now = SystemTime::now()
+        .duration_since(UNIX_EPOCH)
+        .map_or(1, |since| since.as_secs());
+    let seed = number(1).unwrap_or(now);
+    let calls = number(2).map_or(CALLS, |calls| calls as usize);
+    println!("seed {seed}");
+    match compare(program, seed, calls) {
+        Ok(true) => ExitCode::SUCCESS,
+        Ok(false) => ExitCode::FAILURE,
+        Err(error) => {
+            eprintln!("{program}: {error}");
+            ExitCode::from(2)
+        }
+    }
+}

@@ -1,0 +1,400 @@
+//! Cards, and messages with defects: what damage and faulty parties hand over.
+use crate::card::FIELDS;
+use crate::message::*;
+use crate::random::Random;
+use crate::sha256::sha256;
+
+/// A script takes messages up to this length.
+const LONGEST_SCRIPTED: usize = 2000;
+
+/// What a party is handed, and whether its output is too short.
+pub struct Delivery {
+    pub message: Vec<u8>,
+    pub verdicts: Vec<u8>,
+    pub short: bool,
+}
+
+/// A card with these bits: all values in their ranges, except that the field of bit `wrong.0` has the value `wrong.1`.
+fn card_of(random: &mut Random, map: u16, wrong: Option<(usize, u32)>) -> Vec<u8> {
+    let mut card = map.to_be_bytes().to_vec();
+    for (bit, (length, smallest, largest)) in FIELDS.into_iter().enumerate() {
+        if map >> bit & 1 == 0 {
+            continue;
+        }
+        let between = smallest + random.below((largest - smallest) as usize + 1) as u32;
+        let good = random.pick(&[smallest, largest, between, between]);
+        let value = wrong
+            .filter(|wrong| wrong.0 == bit)
+            .map_or(good, |wrong| wrong.1);
+        card.extend(&value.to_be_bytes()[4 - length..]);
+    }
+    card
+}
+
+/// Any bits but 0 and 1, which go together.
+fn good_map(random: &mut Random) -> u16 {
+    u16::from(random.byte() & 0x7c) | random.pick(&[0b00, 0b11])
+}
+
+pub fn good_card(random: &mut Random) -> Vec<u8> {
+    let map = good_map(random);
+    card_of(random, map, None)
+}
+
+/// Most of these break the table, by one value, by their bits or by their length.
+pub fn bad_card(random: &mut Random) -> Vec<u8> {
+    let map = good_map(random);
+    let mut card = card_of(random, map, None);
+    match random.below(8) {
+        0..=3 => {
+            let bit = random.below(6);
+            let with_bit = if bit < 2 { 0b11 } else { 1 << bit };
+            let (_, smallest, largest) = FIELDS[bit];
+            let outside = random.pick(&[smallest.wrapping_sub(1), largest + 1]);
+            card = card_of(random, map | with_bit, Some((bit, outside)));
+        }
+        4 => {
+            let single = random.pick(&[0b01, 0b10]);
+            card = card_of(random, map & !0b11 | single, None);
+        }
+        5 => {
+            let unused = 1 << random.pick(&[7, 8, 9, 12, 15]);
+            card = card_of(random, map | unused, None);
+        }
+        6 => card.truncate(random.below(card.len())),
+        _ => {
+            let more = random.pick(&[1, 1, 2, 16, 41]);
+            card.extend(random.some_bytes(more));
+        }
+    }
+    card
+}
+
+/// `number` replicas in rising order, with signatures of the forger's making.
+pub fn entries(random: &mut Random, number: usize, f: u8) -> Vec<Entry> {
+    let mut ids: Vec<u8> = (1..=replicas(f)).collect();
+    while ids.len() > number {
+        ids.remove(random.below(ids.len()));
+    }
+    ids.into_iter()
+        .map(|replica| Entry {
+            replica,
+            signature: random.bytes(),
+        })
+        .collect()
+}
+
+pub fn prepared_proof(
+    random: &mut Random,
+    timestamp: Timestamp,
+    digest: Digest,
+    f: u8,
+) -> PreparedProof {
+    PreparedProof {
+        timestamp,
+        digest,
+        entries: entries(random, quorum(f), f),
+    }
+}
+
+pub fn written_proof(random: &mut Random, timestamp: Timestamp, f: u8) -> WrittenProof {
+    WrittenProof {
+        timestamp,
+        entries: entries(random, quorum(f), f),
+    }
+}
+
+/// Puts a defect into a field, or answers false where the message has nothing of that sort.
+type Spoiler = fn(&mut Random, &mut Message, u8) -> bool;
+
+/// The ones that need a proof or a card stand twice, as many messages have none.
+const SPOILERS: [Spoiler; 18] = [
+    spoil_kind,
+    drop_field,
+    add_field,
+    spoil_sender,
+    change_sender,
+    spoil_entries,
+    spoil_entries,
+    spoil_timestamp,
+    spoil_timestamp,
+    change_written_client,
+    change_written_client,
+    change_timestamp,
+    raise_to_last_count,
+    spoil_card,
+    spoil_card,
+    change_digest,
+    change_nonce,
+    change_addressed,
+];
+
+fn spoil_kind(random: &mut Random, message: &mut Message, _: u8) -> bool {
+    message.kind = random.pick(&[0, 1, 2, 3, 4, 5, 6, 7, 8, 9, 255]);
+    true
+}
+
+fn drop_field(random: &mut Random, message: &mut Message, _: u8) -> bool {
+    match random.below(7) {
+        0 => message.nonce.take().is_some(),
+        1 => message.timestamp.take().is_some(),
+        2 => message.digest.take().is_some(),
+        3 => message.card.take().is_some(),
+        4 => message.prepared.take().is_some(),
+        5 => message.written.take().is_some(),
+        _ => message.addressed.take().is_some(),
+    }
+}
+
+fn add_field(random: &mut Random, message: &mut Message, f: u8) -> bool {
+    let timestamp = Timestamp {
+        count: 1,
+        client: message.sender,
+    };
+    match random.below(7) {
+        0 => message.nonce = Some(1),
+        1 => message.timestamp = Some(timestamp),
+        2 => message.digest = Some(random.bytes()),
+        3 => message.card = Some(good_card(random)),
+        4 => {
+            let digest = message
+                .card
+                .as_ref()
+                .map_or(random.bytes(), |card| sha256(card));
+            message.prepared = Some(prepared_proof(random, timestamp, digest, f));
+        }
+        5 => message.written = Some(written_proof(random, timestamp, f)),
+        _ => message.addressed = Some(1),
+    }
+    true
+}
+
+fn spoil_sender(random: &mut Random, message: &mut Message, f: u8) -> bool {
+    message.sender = random.pick(&[0, 65, replicas(f) + 1, 255]);
+    true
+}
+
+fn change_sender(random: &mut Random, message: &mut Message, f: u8) -> bool {
+    message.sender = random.pick(&[1, 2, replicas(f), 64]);
+    true
+}
+
+fn spoil_entries(random: &mut Random, message: &mut Message, f: u8) -> bool {
+    let prepared = message.prepared.iter_mut().map(|proof| &mut proof.entries);
+    let mut quorums: Vec<_> = prepared
+        .chain(message.written.iter_mut().map(|proof| &mut proof.entries))
+        .collect();
+    if quorums.is_empty() {
+        return false;
+    }
+    let at = random.below(quorums.len());
+    let entries = &mut quorums[at];
+    if entries.len() < 2 {
+        return false;
+    }
+    let at = random.below(entries.len() - 1);
+    let last = entries.len() - 1;
+    match random.below(8) {
+        0 => drop(entries.remove(at)),
+        1 => **entries = self::entries(random, quorum(f) + 1, f),
+        2 => entries.swap(at, at + 1),
+        3 => entries[at].replica = entries[at + 1].replica,
+        4 => entries[0].replica = 0,
+        5 => entries[last].replica = replicas(f) + 1,
+        6 => entries[last].replica = random.pick(&[17, 255]),
+        _ => entries.clear(),
+    }
+    true
+}
+
+fn spoil_timestamp(random: &mut Random, message: &mut Message, _: u8) -> bool {
+    let prepared = message
+        .prepared
+        .iter_mut()
+        .map(|proof| &mut proof.timestamp);
+    let written = message.written.iter_mut().map(|proof| &mut proof.timestamp);
+    let mut all: Vec<_> = message
+        .timestamp
+        .iter_mut()
+        .chain(prepared)
+        .chain(written)
+        .collect();
+    if all.is_empty() {
+        return false;
+    }
+    let at = random.below(all.len());
+    match random.below(5) {
+        0 => *all[at] = Timestamp::START,
+        1 => all[at].count = 0,
+        2 => all[at].client = 0,
+        3 => all[at].client = 65,
+        _ => all[at].client = 255,
+    }
+    true
+}
+
+fn change_written_client(random: &mut Random, message: &mut Message, _: u8) -> bool {
+    let Some(proof) = &mut message.written else {
+        return false;
+    };
+    proof.timestamp.client = random.pick(&[1, 2, 63, 64]);
+    true
+}
+
+fn change_timestamp(random: &mut Random, message: &mut Message, _: u8) -> bool {
+    let Some(timestamp) = &mut message.timestamp else {
+        return false;
+    };
+    match random.below(4) {
+        0 => timestamp.count = timestamp.count.saturating_add(1),
+        1 => timestamp.count = timestamp.count.saturating_sub(1),
+        2 => timestamp.count ^= 1 << random.below(32),
+        _ => timestamp.client = random.pick(&[1, 2, 63, 64]),
+    }
+    true
+}
+
+fn raise_to_last_count(_: &mut Random, message: &mut Message, _: u8) -> bool {
+    let Some(proof) = &mut message.prepared else {
+        return false;
+    };
+    proof.timestamp.count = u32::MAX;
+    true
+}
+
+/// A bad card with its own digest breaks the table alone, a good one without it the digest alone.
+fn spoil_card(random: &mut Random, message: &mut Message, _: u8) -> bool {
+    if message.card.is_none() {
+        return false;
+    }
+    let bad = random.percent(70);
+    let card = if bad {
+        bad_card(random)
+    } else {
+        good_card(random)
+    };
+    if let (true, Some(proof)) = (bad && random.percent(80), &mut message.prepared) {
+        proof.digest = sha256(&card);
+    }
+    message.card = Some(card);
+    true
+}
+
+fn change_digest(random: &mut Random, message: &mut Message, _: u8) -> bool {
+    let flipped =
+        |random: &mut Random, digest: &mut Digest| digest[random.below(32)] ^= 1 << random.below(8);
+    match (&mut message.digest, &mut message.prepared) {
+        (Some(digest), _) => flipped(random, digest),
+        (None, Some(proof)) => flipped(random, &mut proof.digest),
+        (None, None) => return false,
+    }
+    true
+}
+
+fn change_nonce(random: &mut Random, message: &mut Message, _: u8) -> bool {
+    let Some(nonce) = message.nonce else {
+        return false;
+    };
+    let flipped = nonce ^ 1 << random.below(64);
+    message.nonce = Some(random.pick(&[
+        nonce.wrapping_add(1),
+        nonce.wrapping_sub(1),
+        flipped,
+        0,
+        u64::MAX,
+    ]));
+    true
+}
+
+fn change_addressed(random: &mut Random, message: &mut Message, _: u8) -> bool {
+    if message.addressed.is_none() {
+        return false;
+    }
+    message.addressed = Some(random.pick(&[0, 1, 2, 64, 65, 255]));
+    true
+}
+
+fn spoil_verdicts(random: &mut Random, verdicts: &mut Vec<u8>) {
+    let at = random.below(verdicts.len() + 1);
+    match (random.below(10), verdicts.get_mut(at)) {
+        (0, _) => verdicts.push(1),
+        (1, _) => drop(verdicts.pop()),
+        (2, _) => verdicts.clear(),
+        (3, _) => verdicts.resize(verdicts.len() + random.pick(&[2, 65, 300]), 1),
+        (4, Some(verdict)) => *verdict = random.pick(&[2, 3, 128, 255]),
+        (5, _) => verdicts.iter_mut().take(1).for_each(|own| *own = 0),
+        (_, Some(verdict)) => *verdict = 0,
+        (_, None) => verdicts.push(0),
+    }
+    verdicts.truncate(400);
+}
+
+fn spoil_bytes(random: &mut Random, bytes: &mut Vec<u8>) {
+    let at = random.below(bytes.len() + 1);
+    match (random.below(9), bytes.get_mut(at)) {
+        (0 | 1, Some(byte)) => *byte ^= 1 << random.below(8),
+        (2, _) => bytes.truncate(at),
+        (3, _) => drop(bytes.pop()),
+        (4, _) => bytes.push(random.byte()),
+        (5, _) => bytes.insert(at, random.byte()),
+        (6, _) => bytes
+            .iter_mut()
+            .take(2)
+            .for_each(|byte| *byte ^= 1 << random.below(8)),
+        (7, _) => bytes
+            .iter_mut()
+            .take(1)
+            .for_each(|byte| *byte ^= 2 << random.below(7)),
+        _ => bytes.resize(random.pick(&[0, 1, 2, 67, 68, 1579, 1580]), 0),
+    }
+    bytes.truncate(LONGEST_SCRIPTED);
+}
+
+pub fn whole(message: &Message) -> Delivery {
+    Delivery {
+        message: message.encode(),
+        verdicts: vec![1; message.signatures()],
+        short: false,
+    }
+}
+
+/// The message with one to three defects, so that the order of the tests shows.
+pub fn spoiled(random: &mut Random, mut message: Message, f: u8) -> Delivery {
+    let mut of_sort = [0; 4];
+    for _ in 0..1 + random.weighted(&[60, 30, 10]) {
+        of_sort[random.weighted(&[65, 20, 12, 3])] += 1;
+    }
+    let [fields, verdicts, bytes, short] = of_sort;
+    for _ in 0..fields {
+        while !random.pick(&SPOILERS)(random, &mut message, f) {}
+    }
+    let mut delivery = whole(&message);
+    delivery.short = short > 0;
+    for _ in 0..verdicts {
+        spoil_verdicts(random, &mut delivery.verdicts);
+    }
+    for _ in 0..bytes {
+        spoil_bytes(random, &mut delivery.message);
+    }
+    delivery.message.truncate(LONGEST_SCRIPTED);
+    delivery
+}
+
+/// Bytes that were never a message, some with a bit map that passes test 3.
+pub fn garbage(random: &mut Random) -> Delivery {
+    let any = random.below(200);
+    let length = random.pick(&[
+        0, 1, 2, 3, 66, 67, 68, 69, any, any, any, 1578, 1579, 1580, 2000,
+    ]);
+    let mut message = random.some_bytes(length);
+    if length >= 2 && random.percent(60) {
+        message[0] &= 1;
+        message[1] |= 3;
+    }
+    let verdicts = random.pick(&[vec![], vec![1], vec![0], vec![1, 1]]);
+    Delivery {
+        message,
+        verdicts,
+        short: random.percent(3),
+    }
+}

@@ -1,0 +1,680 @@
+//! Scripts of random runs. The model plays each line as it is made, so that the next one can build on its answer.
+use crate::card::STARTING_CARD;
+use crate::forge::*;
+use crate::message::*;
+use crate::random::Random;
+use crate::script::{all_genuine, hex, Output, Player, KEPT_MESSAGES};
+use crate::sha256::sha256;
+use std::collections::BTreeSet;
+
+/// Below the 1,000,000 bytes that the proved program reads, with room for the longest line.
+const SCRIPT_BYTES: usize = 990_000;
+
+#[derive(Default)]
+pub struct Script {
+    pub lines: Vec<String>,
+    pub expected: Vec<Output>,
+    bytes: usize,
+    player: Player,
+}
+
+impl Script {
+    fn is_full(&self) -> bool {
+        self.bytes > SCRIPT_BYTES
+    }
+
+    fn add(&mut self, line: String) -> &Output {
+        self.expected.push(self.player.play(&line));
+        self.bytes += line.len() + 1;
+        self.lines.push(line);
+        &self.expected[self.expected.len() - 1]
+    }
+}
+
+#[derive(Clone, Copy)]
+enum Party {
+    Replica(u8),
+    Client(u8),
+}
+
+/// A message on its way, signed.
+#[derive(Clone)]
+struct Mail {
+    to: Party,
+    number: usize,
+    message: Message,
+}
+
+/// How a run goes: the weights of its actions, then percentages.
+struct Style {
+    begin: usize,
+    deliver: usize,
+    forge_reply: usize,
+    forge_request: usize,
+    garbage: usize,
+    disk: usize,
+    set_up: usize,
+    stray: usize,
+    defects: usize,
+    losses: usize,
+    repeats: usize,
+}
+
+const LEGAL: Style = Style {
+    begin: 8,
+    deliver: 92,
+    forge_reply: 0,
+    forge_request: 0,
+    garbage: 0,
+    disk: 0,
+    set_up: 0,
+    stray: 0,
+    defects: 0,
+    losses: 4,
+    repeats: 8,
+};
+const DAMAGED: Style = Style {
+    garbage: 5,
+    disk: 1,
+    set_up: 1,
+    stray: 1,
+    defects: 30,
+    forge_request: 3,
+    ..LEGAL
+};
+const BYZANTINE: Style = Style {
+    forge_reply: 40,
+    forge_request: 40,
+    ..DAMAGED
+};
+const FORGED_QUORUMS: Style = Style {
+    begin: 12,
+    deliver: 4,
+    forge_reply: 84,
+    forge_request: 0,
+    defects: 20,
+    ..DAMAGED
+};
+const FAULTY_CLIENTS: Style = Style {
+    begin: 1,
+    deliver: 4,
+    forge_request: 90,
+    disk: 4,
+    defects: 25,
+    ..DAMAGED
+};
+
+/// What the generator knows of a client from its answers.
+struct ClientView {
+    id: u8,
+    busy: bool,
+    /// The kind of reply to the message sent last, and what replies to its operation have to name.
+    awaited: u8,
+    nonce: u64,
+    timestamp: Timestamp,
+    digest: Digest,
+    /// All forged replies of the operation show this timestamp, so that reads without a write-back happen too.
+    shows: Option<Timestamp>,
+}
+
+impl ClientView {
+    fn new(id: u8) -> ClientView {
+        ClientView {
+            id,
+            busy: false,
+            awaited: CARD,
+            nonce: 1,
+            timestamp: Timestamp {
+                count: 1,
+                client: id,
+            },
+            digest: [0; 32],
+            shows: None,
+        }
+    }
+
+    fn note_sent(&mut self, sent: Message) {
+        self.busy = true;
+        self.awaited = sent.kind + 4;
+        self.nonce = sent.nonce.unwrap_or(self.nonce);
+        self.timestamp = sent.timestamp.unwrap_or(self.timestamp);
+        self.digest = sent.digest.unwrap_or(self.digest);
+        if let (WRITE, Some(proof)) = (sent.kind, sent.prepared) {
+            self.timestamp = proof.timestamp;
+        }
+    }
+}
+
+struct Run<'a> {
+    random: &'a mut Random,
+    script: &'a mut Script,
+    f: u8,
+    style: Style,
+    /// Whether last counts are shown, after which little else can happen.
+    extremes: bool,
+    clients: Vec<ClientView>,
+    /// Clients in whose name requests are forged: few, so that their slots meet.
+    senders: Vec<u8>,
+    cards: Vec<Vec<u8>>,
+    /// The cards' digests, and some that differ from the last one in a single bit.
+    digests: Vec<Digest>,
+    /// The smallest count forged at present.
+    lowest_count: u32,
+    mail: Vec<Mail>,
+    proofs: Vec<(PreparedProof, Vec<u8>)>,
+    written: Vec<WrittenProof>,
+    kept: BTreeSet<u8>,
+}
+
+/// A script of runs, one after the other.
+pub fn script(random: &mut Random) -> Script {
+    let mut script = Script::default();
+    while !script.is_full() {
+        Run::new(random, &mut script).play();
+    }
+    assert!(
+        !script.player.unclear,
+        "a generated line has an open meaning"
+    );
+    script
+}
+
+/// The signing box: bytes that hang on all that is signed, which names the sender.
+fn sign(message: &mut Message) {
+    let bytes = message.encode();
+    let mix = |seed: u64, &byte: &u8| (seed ^ u64::from(byte)).wrapping_mul(0x100_0000_01b3);
+    let seed = bytes[..bytes.len() - 64].iter().fold(0, mix);
+    message.signature = Random::new(seed).bytes();
+}
+
+impl<'a> Run<'a> {
+    fn new(random: &'a mut Random, script: &'a mut Script) -> Run<'a> {
+        let f = 1 + random.weighted(&[50, 20, 12, 9, 9]) as u8;
+        let style = [LEGAL, DAMAGED, BYZANTINE, FORGED_QUORUMS, FAULTY_CLIENTS];
+        let style = style
+            .into_iter()
+            .nth(random.weighted(&[10, 20, 25, 25, 20]))
+            .unwrap();
+        let ids = [[1, 2, 64], [3, 5, 4], [63, 64, 1], [7, 62, 33]];
+        let ids = random.pick(&ids)[..1 + random.below(3)].to_vec();
+        let clients = ids.iter().map(|&id| ClientView::new(id)).collect();
+        let mut senders = ids;
+        senders.push(random.pick(&[1, 2, 6, 64]));
+        let cards = vec![STARTING_CARD.to_vec(), good_card(random), good_card(random)];
+        let mut digests: Vec<Digest> = cards.iter().map(|card| sha256(card)).collect();
+        for at in [0, 31, random.below(32)] {
+            let mut near = digests[2];
+            near[at] ^= 1 << random.below(8);
+            digests.push(near);
+        }
+        Run {
+            f,
+            style,
+            extremes: random.percent(25),
+            clients,
+            senders,
+            cards,
+            digests,
+            lowest_count: random.pick(&[1, 1, 1, 1, 1, 254, 65_534, 0x00ff_fffe, 0x7fff_fffe]),
+            mail: Vec::new(),
+            proofs: Vec::new(),
+            written: Vec::new(),
+            kept: BTreeSet::new(),
+            random,
+            script,
+        }
+    }
+
+    fn play(&mut self) {
+        self.script.add("new".to_string());
+        for id in 1..=replicas(self.f) {
+            self.script.add(format!("replica {} {id}", self.f));
+        }
+        for at in 0..self.clients.len() {
+            let nonce = self.first_nonce();
+            self.script
+                .add(format!("client {} {} {nonce}", self.f, self.clients[at].id));
+        }
+        for _ in 0..100 + 80 * usize::from(self.f) {
+            if self.script.is_full() {
+                return;
+            }
+            self.act();
+        }
+    }
+
+    fn first_nonce(&mut self) -> u64 {
+        let any = self.random.number().max(1);
+        self.random.pick(&[
+            1,
+            1,
+            1,
+            1,
+            254,
+            u64::from(u32::MAX),
+            any,
+            any,
+            u64::MAX - 3,
+            u64::MAX - 1,
+            u64::MAX,
+        ])
+    }
+
+    fn act(&mut self) {
+        if self.random.percent(2) {
+            self.lowest_count = self.lowest_count.saturating_add(1);
+        }
+        let style = &self.style;
+        let weights = [
+            style.begin,
+            style.deliver,
+            style.forge_reply,
+            style.forge_request,
+            style.garbage,
+            style.disk,
+            style.set_up,
+            style.stray,
+        ];
+        match self.random.weighted(&weights) {
+            0 => self.begin(),
+            1 => self.deliver(),
+            2 => self.forge_reply(),
+            3 => self.forge_request(),
+            4 => self.hand_garbage(),
+            5 => self.keep_or_restore(),
+            6 => self.set_up(),
+            _ => self.stray_line(),
+        }
+    }
+
+    /// A client begins, most often an idle one.
+    fn begin(&mut self) {
+        let idle = self.clients_that_are(false);
+        let with_defects = self.style.defects > 0;
+        let at = match idle.is_empty() {
+            false => self.random.pick(&idle),
+            true if with_defects && self.random.percent(30) => {
+                self.random.below(self.clients.len())
+            }
+            true => return self.deliver(),
+        };
+        let id = self.clients[at].id;
+        let short = if with_defects && self.random.percent(4) {
+            "short "
+        } else {
+            ""
+        };
+        if self.random.percent(40) {
+            return self.play_line(Party::Client(id), format!("{short}read {id}"), None);
+        }
+        let card = match self.random.below(10) {
+            0 if with_defects => bad_card(self.random),
+            0..=4 => self.random.pick(&self.cards),
+            _ => good_card(self.random),
+        };
+        self.play_line(
+            Party::Client(id),
+            format!("{short}write {id} {}", hex(&card)),
+            None,
+        );
+    }
+
+    /// Plays one of the four calls and takes note of its answer. `asking` is the client that a replica answers.
+    fn play_line(&mut self, party: Party, line: String, asking: Option<u8>) {
+        match (self.script.add(line), party) {
+            (Output::Sent(number, message), _) => {
+                let number = *number;
+                let mut message = Message::decode(message).expect("a party sends whole messages");
+                sign(&mut message);
+                self.post(party, number, message, asking);
+            }
+            (Output::Done(..) | Output::Ended, Party::Client(id)) => self.note_end(id),
+            (Output::Refused(17), Party::Client(id)) => self.renew(id),
+            _ => (),
+        }
+    }
+
+    /// What a client sent goes to all replicas, what a replica sent to the client that asked.
+    fn post(&mut self, from: Party, number: usize, message: Message, asking: Option<u8>) {
+        let receivers: Vec<Party> = match from {
+            Party::Client(_) => (1..=replicas(self.f)).map(Party::Replica).collect(),
+            Party::Replica(_) => asking
+                .and_then(|id| self.client(id))
+                .map(|client| Party::Client(client.id))
+                .into_iter()
+                .collect(),
+        };
+        for to in receivers {
+            self.mail.push(Mail {
+                to,
+                number,
+                message: message.clone(),
+            });
+        }
+        let most = 8 * usize::from(replicas(self.f));
+        self.mail.drain(..self.mail.len().saturating_sub(most));
+        if let Party::Client(id) = from {
+            self.note_sent(id, message);
+        }
+    }
+
+    fn client(&mut self, id: u8) -> Option<&mut ClientView> {
+        self.clients.iter_mut().find(|client| client.id == id)
+    }
+
+    fn clients_that_are(&self, busy: bool) -> Vec<usize> {
+        let all = 0..self.clients.len();
+        all.filter(|&at| self.clients[at].busy == busy).collect()
+    }
+
+    /// An idle client is refused 17 for good: some are set up afresh.
+    fn renew(&mut self, id: u8) {
+        let spent = self.client(id).is_some_and(|client| !client.busy);
+        if spent && self.random.percent(60) {
+            let nonce = self.first_nonce();
+            self.script.add(format!("client {} {id} {nonce}", self.f));
+        }
+    }
+
+    fn note_end(&mut self, id: u8) {
+        if let Some(client) = self.client(id) {
+            client.busy = false;
+        }
+    }
+
+    fn note_sent(&mut self, id: u8, sent: Message) {
+        if let (Some(proof), Some(card)) = (&sent.prepared, &sent.card) {
+            self.proofs.push((proof.clone(), card.clone()));
+        }
+        self.written.extend(sent.written.clone());
+        let begins = sent.nonce.is_some();
+        let shows = self.some_timestamp();
+        let shows = Some(shows).filter(|_| self.random.percent(50));
+        if let Some(client) = self.client(id) {
+            client.shows = if begins { shows } else { client.shows };
+            client.note_sent(sent);
+        }
+    }
+
+    /// Hands over a message; `number` names one that was sent, with zeros for its signature.
+    fn hand(&mut self, party: Party, delivery: Delivery, number: Option<usize>) {
+        let Delivery {
+            message,
+            verdicts,
+            short,
+        } = delivery;
+        let asking = message.get(3).copied();
+        let short = if short { "short " } else { "" };
+        let genuine = verdicts == all_genuine(&message) && self.random.percent(70);
+        let verdicts = if genuine {
+            "+".to_string()
+        } else {
+            hex(&verdicts)
+        };
+        let message = number.map_or(hex(&message), |number| format!("@{number}"));
+        let line = match party {
+            Party::Replica(id) => format!("{short}to-replica {id} {message} {verdicts}"),
+            Party::Client(id) => format!("{short}to-client {id} {message} {verdicts}"),
+        };
+        self.play_line(party, line, asking);
+    }
+
+    /// With defects as often as the style has them.
+    fn hand_message(&mut self, party: Party, message: Message) {
+        let spoils = self.random.percent(self.style.defects);
+        let delivery = if spoils {
+            spoiled(self.random, message, self.f)
+        } else {
+            whole(&message)
+        };
+        self.hand(party, delivery, None);
+    }
+
+    /// Delivers a message, most often a young one; some are lost, some stay to be repeated.
+    fn deliver(&mut self) {
+        if self.mail.is_empty() {
+            return;
+        }
+        let young = self.mail.len().min(2 * usize::from(replicas(self.f)));
+        let old = self.mail.len() - young;
+        let at = if self.random.percent(80) {
+            old + self.random.below(young)
+        } else {
+            self.random.below(old + young)
+        };
+        let repeats = self.random.percent(self.style.repeats);
+        let mail = if repeats {
+            self.mail[at].clone()
+        } else {
+            self.mail.remove(at)
+        };
+        if self.random.percent(self.style.losses) {
+            return;
+        }
+        let misrouted = self.style.defects > 0 && self.random.percent(3);
+        let to = if misrouted { self.any_party() } else { mail.to };
+        if mail.number <= KEPT_MESSAGES && self.random.percent(10) {
+            let unsigned = Message {
+                signature: [0; 64],
+                ..mail.message
+            };
+            return self.hand(to, whole(&unsigned), Some(mail.number));
+        }
+        self.hand_message(to, mail.message);
+    }
+
+    fn any_party(&mut self) -> Party {
+        if self.random.percent(50) {
+            Party::Replica(self.any_replica())
+        } else {
+            Party::Client(self.clients[self.random.below(self.clients.len())].id)
+        }
+    }
+
+    fn any_replica(&mut self) -> u8 {
+        1 + self.random.below(replicas(self.f).into()) as u8
+    }
+
+    /// Most often replica 1, so that one record grows old.
+    fn favoured_replica(&mut self) -> u8 {
+        let any = self.any_replica();
+        self.random.pick(&[1, 1, 1, any, any])
+    }
+
+    /// Few counts and clients, so that timestamps meet; in some runs the last counts too.
+    fn some_timestamp(&mut self) -> Timestamp {
+        let near = self
+            .lowest_count
+            .saturating_add(self.random.pick(&[0, 0, 1, 1, 2]));
+        let count = match self.random.below(40) {
+            0 if self.extremes => u32::MAX,
+            1 if self.extremes => u32::MAX - 1,
+            _ => near,
+        };
+        Timestamp {
+            count,
+            client: self.random.pick(&self.senders),
+        }
+    }
+
+    /// A proof with its card: one that was sent, or a forged one.
+    fn some_proof(&mut self, timestamp: Option<Timestamp>) -> (PreparedProof, Vec<u8>) {
+        if timestamp.is_none() && !self.proofs.is_empty() && self.random.percent(30) {
+            return self.random.pick(&self.proofs);
+        }
+        let timestamp = timestamp.unwrap_or_else(|| self.some_timestamp());
+        let card = self.random.pick(&self.cards);
+        (
+            prepared_proof(self.random, timestamp, sha256(&card), self.f),
+            card,
+        )
+    }
+
+    /// A reply from any replica, most often one that its client awaits.
+    fn forge_reply(&mut self) {
+        let busy = self.clients_that_are(true);
+        if busy.is_empty() && self.random.percent(90) {
+            return self.begin();
+        }
+        let any = self.random.below(self.clients.len());
+        let at = if busy.is_empty() {
+            any
+        } else {
+            self.random.pick(&busy)
+        };
+        let reply = self.reply_to(at);
+        self.hand_message(Party::Client(self.clients[at].id), reply);
+    }
+
+    fn reply_to(&mut self, at: usize) -> Message {
+        let ClientView {
+            id,
+            awaited,
+            nonce,
+            timestamp,
+            digest,
+            shows,
+            ..
+        } = self.clients[at];
+        let any_kind = TIMESTAMP + self.random.below(4) as u8;
+        let misfit = self.style.defects > 0 && self.random.percent(6);
+        let kind = if misfit { any_kind } else { awaited };
+        let mut reply = Message::new(kind, self.any_replica());
+        reply.signature = self.random.bytes();
+        if kind == PREPARED || kind == WRITTEN {
+            reply.timestamp = Some(timestamp);
+            reply.digest = Some(digest).filter(|_| kind == PREPARED);
+        } else {
+            let (proof, card) = self.shown(shows);
+            reply.nonce = Some(nonce);
+            reply.addressed = Some(id);
+            reply.prepared = proof;
+            reply.card = Some(card).filter(|_| kind == CARD);
+        }
+        reply
+    }
+
+    fn shown(&mut self, shows: Option<Timestamp>) -> (Option<PreparedProof>, Vec<u8>) {
+        let as_others = shows.is_some() && self.random.percent(97);
+        if !as_others && self.random.percent(20) {
+            return (None, STARTING_CARD.to_vec());
+        }
+        let (proof, card) = self.some_proof(shows.filter(|_| as_others));
+        (Some(proof), card)
+    }
+
+    /// A request in the name of some client.
+    fn forge_request(&mut self) {
+        let sender = if self.random.percent(92) {
+            self.random.pick(&self.senders)
+        } else {
+            1 + self.random.byte() % 64
+        };
+        let signature = self.random.bytes();
+        let kind = 1 + self.random.weighted(&[12, 46, 27, 15]) as u8;
+        let mut request = Message {
+            signature,
+            ..Message::new(kind, sender)
+        };
+        match kind {
+            PREPARE => self.fill_prepare(&mut request),
+            WRITE => {
+                let (proof, card) = self.some_proof(None);
+                request.card = Some(card);
+                request.prepared = Some(proof);
+            }
+            _ => {
+                let any = self.random.number();
+                request.nonce = Some(self.random.pick(&[0, 1, u64::MAX, any]));
+            }
+        }
+        let replica = self.favoured_replica();
+        self.hand_message(Party::Replica(replica), request);
+    }
+
+    fn fill_prepare(&mut self, request: &mut Message) {
+        let sender = request.sender;
+        if self.random.percent(85) {
+            request.prepared = Some(self.some_proof(None).0);
+        }
+        let successor = request.prepared_timestamp().successor(sender);
+        request.timestamp = Some(successor.unwrap_or(Timestamp {
+            count: u32::MAX,
+            client: sender,
+        }));
+        request.digest = Some(self.random.pick(&self.digests));
+        if self.random.percent(45) {
+            request.written = Some(self.some_written_proof(sender));
+        }
+    }
+
+    /// Mostly with the sender's own timestamp; some are other clients'.
+    fn some_written_proof(&mut self, sender: u8) -> WrittenProof {
+        if !self.written.is_empty() && self.random.percent(10) {
+            return self.random.pick(&self.written);
+        }
+        let timestamp = self.some_timestamp();
+        let client = if self.random.percent(94) {
+            sender
+        } else {
+            timestamp.client
+        };
+        written_proof(
+            self.random,
+            Timestamp {
+                client,
+                ..timestamp
+            },
+            self.f,
+        )
+    }
+
+    fn hand_garbage(&mut self) {
+        let party = self.any_party();
+        let delivery = garbage(self.random);
+        self.hand(party, delivery, None);
+    }
+
+    fn keep_or_restore(&mut self) {
+        let id = self.favoured_replica();
+        let command = if self.kept.contains(&id) && self.random.percent(60) {
+            "restore"
+        } else {
+            "keep"
+        };
+        self.kept.insert(id);
+        self.script.add(format!("{command} {id}"));
+    }
+
+    /// Mostly out of range; else the party starts afresh.
+    fn set_up(&mut self) {
+        let f = self.random.pick(&[0, 1, 2, 3, 4, 5, 6, 255]);
+        if self.random.percent(50) {
+            let n = replicas(f.clamp(1, 5));
+            let id = self.random.pick(&[0, 1, n, n + 1, n + 1, 17, 65, 255]);
+            if *self.script.add(format!("replica {f} {id}")) == Output::Ready {
+                self.kept.remove(&id);
+            }
+        } else {
+            let id = self.random.pick(&[0, 1, 64, 65, 65, 128, 255]);
+            let nonce = self.random.pick(&[0, 0, 1, u64::MAX]);
+            if *self.script.add(format!("client {f} {id} {nonce}")) == Output::Ready {
+                self.note_end(id);
+            }
+        }
+    }
+
+    /// Lines that call nobody: parties that are never set up, and words that are no command.
+    fn stray_line(&mut self) {
+        let lines = [
+            "# a comment",
+            "read 40",
+            "to-replica 17 - -",
+            "to-client 65 - -",
+            "keep 17",
+            "what",
+        ];
+        let line = self.random.pick(&lines);
+        self.script.add(line.to_string());
+    }
+}
