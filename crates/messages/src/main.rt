@@ -1,9 +1,11 @@
 // Reads messages in hex, one a line, behind `h ` where a replica is handed it and `d ` where a client is, and prints what the reader finds.
 // Behind `hF ` or `dF `, F a fault bound, verdicts follow the message, and it prints what tests 2 to 11 make of both.
+// Behind `l ` two messages stand, and it prints the later card.
 use base::timestamp::Timestamp;
 use libc::STDIN_FILENO;
 use libc::STDOUT_FILENO;
 use text::Digit;
+use wire::card_part::later_card;
 use wire::message::Fields;
 use wire::message::Party;
 use wire::message::Reading;
@@ -191,6 +193,23 @@ fn judge(party: Party, f: u8, digits: &[u8]) {
     print_judgement(party, f, &bytes[..n], &verdicts[..k]);
 }
 
+// The later card of two messages, both in hex, a space between them.
+fn print_later(digits: &[u8]) {
+    let end = space(digits);
+    if digits.len() <= end {
+        text::print(b"unread\n");
+        return;
+    }
+    let behind = end + 1;
+    let mut first = [0u8; 2048];
+    let n = text::read_hex(&digits[0..end], &mut first);
+    let mut second = [0u8; 2048];
+    let m = text::read_hex(&digits[behind..], &mut second);
+    text::print(b"later card ");
+    text::print_hex(later_card(&first[..n], &second[..m]));
+    text::print(b"\n");
+}
+
 fn judge_line(line: &[u8]) {
     if line.len() < 3 {
         text::print(b"unread\n");
@@ -223,6 +242,7 @@ fn answer_line(line: &[u8]) {
     match line[0] {
         b'h' => answer(Party::Replica, &line[2..]),
         b'd' => answer(Party::Client, &line[2..]),
+        b'l' => print_later(&line[2..]),
         _ => text::print(b"unread\n"),
     }
 }
