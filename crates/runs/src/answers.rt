@@ -87,21 +87,28 @@ fn put_refused(line: &mut [u8], number: u8) -> usize {
     text::put_number(line, at, number as u64)
 }
 
+// An outcome that is a word.
+fn put_word(line: &mut [u8], outcome: Outcome) -> usize {
+    match outcome {
+        Outcome::Ready => text::put(line, 0, b"ready"),
+        Outcome::Kept => text::put(line, 0, b"kept"),
+        Outcome::Restored => text::put(line, 0, b"restored"),
+        Outcome::Counted => text::put(line, 0, b"counted"),
+        Outcome::Ended => text::put(line, 0, b"ended"),
+        _ => text::put(line, 0, b"unread"),
+    }
+}
+
 fn put_answer(line: &mut [u8], answer: Answer, number: u64, out: &[u8]) -> usize {
     let outcome = answer.outcome;
     let card = answer.card;
     match outcome {
-        Outcome::Unread => text::put(line, 0, b"unread"),
-        Outcome::Ready => text::put(line, 0, b"ready"),
-        Outcome::Kept => text::put(line, 0, b"kept"),
-        Outcome::Restored => text::put(line, 0, b"restored"),
         Outcome::Sent(n) => put_sent(line, number, front(out, n)),
-        Outcome::Counted => text::put(line, 0, b"counted"),
         Outcome::Done(timestamp) => {
             put_done(line, timestamp, front(&card, answer.card_length as usize))
         }
-        Outcome::Ended => text::put(line, 0, b"ended"),
         Outcome::Refused(refusal) => put_refused(line, refusal),
+        _ => put_word(line, outcome),
     }
 }
 

@@ -121,6 +121,11 @@ fn begin_write(server: ClientServer, word: &[u8], out: &mut [u8]) -> Called {
     after(client::begin_write(client, front(&card, n as usize), out))
 }
 
+fn step(server: ClientServer, message: &[u8], verdicts: &[u8], out: &mut [u8]) -> Called {
+    let client = server.client;
+    after(client::step(client, message, verdicts, out))
+}
+
 // `MESSAGE VERDICTS`
 fn hand_over(
     server: ClientServer,
@@ -135,8 +140,7 @@ fn hand_over(
     else {
         return answered(server, Outcome::Unread);
     };
-    let client = server.client;
-    after(client::step(client, front(&bytes, n), front(&verdicts, m), out))
+    step(server, front(&bytes, n), front(&verdicts, m), out)
 }
 
 fn begin_read(server: ClientServer, out: &mut [u8]) -> Called {
