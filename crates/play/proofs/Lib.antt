@@ -1,0 +1,4 @@
+pub mod Adding
+pub mod Leaving
+pub mod Lists
+pub mod Turning

@@ -1,0 +1,19 @@
+-- `play::output::hex_digit` meets its contract. Assumes nothing.
+use mathlib.Core.Path.{refl}
+use borrow.Author.Tests.{lt-ltb, le-ltb}
+use native.Mathlib.Omega.{arith}
+use borrow.Author.Needs.{needs}
+use Rattle.play.specs.Output.{hexDigit}
+use Rattle.play.proofs.output.hex_digit.Statement.{statement}
+use Rattle.play.proofs.output.hex_digit.Tie as tie
+
+returns : tie.Need-returns
+unfolding hexDigit
+returns c = rw (lt-ltb (c .before .args .n) 10 (c .if1 .taken))
+
+returns-2 : tie.Need-returns-2
+unfolding hexDigit
+returns-2 c = rw (le-ltb (c .before .args .n) 10 (omega arith))
+
+pub hex-digit-spec : {M : Type 1} → statement M
+hex-digit-spec = tie.close (tie.spec (λ c. search needs) (λ c. search needs) returns returns-2)

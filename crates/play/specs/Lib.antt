@@ -1,0 +1,6 @@
+pub mod Calls
+pub mod Grammar
+pub mod Log
+pub mod Output
+pub mod Player
+pub mod Worlds

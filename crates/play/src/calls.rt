@@ -1,0 +1,93 @@
+// The calls that a line asks for, each with the store behind the messages sent as its output.
+use crate::grammar::behind;
+use crate::log::Log;
+use crate::log::front;
+use client::Stepped;
+use protocol::client::Client;
+use protocol::replica::Replica;
+use wire::message::Party;
+ghost use mathlib.Core.Path.{_≡_};
+ghost use mathlib.Core.List.{[]};
+ghost use Prim.Native.Nat.{_-_};
+ghost use Rattle.text.specs.Hex.{hexPairs};
+ghost use Rattle.protocol.specs.Client.{beginWriteCall, clientCall};
+ghost use Rattle.protocol.specs.Replica.{replicaCall};
+ghost use Rattle.play.specs.Calls.{verdicts, sentBefore, clientDoes, replicaDoes, ClientLeaves, ReplicaLeaves};
+
+// A call of a client, but for its card.
+pub enum Call {
+    Write,
+    Read,
+    Deliver(usize),
+}
+
+fn begin_write(client: Client, digits: &[u8], out: &mut [u8]) -> Stepped
+    ensures { λ r. ⌜ ClientLeaves (beginWriteCall client (hexPairs 17 (now (digits .entry))) (now (out .entry))) [] r (now (out .exit)) ⌝ }
+{
+    let mut card = [0u8; 17];
+    let n = text::read_hex(digits, &mut card);
+    client::begin_write(client, &card[..n], out)
+}
+
+fn hand_client(client: Client, message: &[u8], out: &mut [u8]) -> Stepped
+    ensures { λ r. ⌜ ClientLeaves (clientCall client (now (message .entry)) (verdicts Party.Client (now (message .entry))) (now (out .entry))) [] r (now (out .exit)) ⌝ }
+{
+    let verdicts = [1u8; 64];
+    let k = crate::signatures::signature_count(Party::Client, message);
+    client::step(client, message, front(&verdicts, k), out)
+}
+
+fn hand_replica(replica: Replica, message: &[u8], out: &mut [u8]) -> replica::Stepped
+    ensures { λ r. ⌜ ReplicaLeaves (replicaCall replica (now (message .entry)) (verdicts Party.Replica (now (message .entry))) (now (out .entry))) [] r (now (out .exit)) ⌝ }
+{
+    let verdicts = [1u8; 64];
+    let k = crate::signatures::signature_count(Party::Replica, message);
+    replica::step(replica, message, front(&verdicts, k), out)
+}
+
+fn before(m: usize) -> usize
+    ensures { λ r. ⌜ r ≡ m - 1 ⌝ }
+{
+    if m == 0 { 0 } else { m - 1 }
+}
+
+// Message m is delivered to a replica.
+pub(super) fn replica_does(
+    replica: Replica,
+    log: Log,
+    m: usize,
+    store: &mut [u8],
+) -> replica::Stepped
+    ensures { λ r. ⌜ ReplicaLeaves (replicaDoes replica log (now (store .entry)) m) (sentBefore log (now (store .entry))) r (now (store .exit)) ⌝ }
+{
+    let mut message = [0u8; 1_579];
+    let n = crate::log::copy_message(log, before(m), store, &mut message);
+    let at = crate::log::start(log.count as usize, store.len());
+    hand_replica(replica, front(&message, n), &mut store[at..])
+}
+
+fn deliver(client: Client, log: Log, m: usize, store: &mut [u8]) -> Stepped
+    ensures { λ r. ⌜ ClientLeaves (clientDoes client log (now (store .entry)) [] (Call.Deliver m)) (sentBefore log (now (store .entry))) r (now (store .exit)) ⌝ }
+{
+    let mut message = [0u8; 1_579];
+    let n = crate::log::copy_message(log, before(m), store, &mut message);
+    let at = crate::log::start(log.count as usize, store.len());
+    hand_client(client, front(&message, n), &mut store[at..])
+}
+
+pub(super) fn client_does(
+    client: Client,
+    log: Log,
+    call: Call,
+    line: &[u8],
+    store: &mut [u8],
+) -> Stepped
+    ensures { λ r. ⌜ ClientLeaves (clientDoes client log (now (store .entry)) (now (line .entry)) call) (sentBefore log (now (store .entry))) r (now (store .exit)) ⌝ }
+{
+    let at = crate::log::start(log.count as usize, store.len());
+    match call {
+        Call::Write => begin_write(client, behind(line, 4), &mut store[at..]),
+        Call::Read => client::begin_read(client, &mut store[at..]),
+        Call::Deliver(m) => deliver(client, log, m, store),
+    }
+}
