@@ -5,9 +5,11 @@ ghost use Rattle.base.specs.Range.{within};
 ghost use Rattle.base.specs.Party.{replicaCount, quorumSize, isFaultBound, isReplica, isClient, replicaSetup, clientSetup, setupOutcome};
 
 // A replica's number (document 01: holder number).
+#[repr(C)]
 pub struct ReplicaId(pub u8);
 
 // A client's number (document 01: desk number).
+#[repr(C)]
 pub struct ClientId(pub u8);
 
 // Whether a party can be set up with the numbers given.

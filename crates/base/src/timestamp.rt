@@ -7,6 +7,7 @@ ghost use Rattle.base.specs.BigEndian.{fromBytes, toBytes};
 ghost use Rattle.base.specs.Timestamp.{number, ofNumber, start, successor, successorOf, isIssued};
 
 // A timestamp (document 01: stamp), written count.client.
+#[repr(C)]
 pub struct Timestamp {
     pub count: u32,
     pub client: ClientId,

@@ -25,7 +25,7 @@ pub client-leaves : (call : ClientCall) (step : Outcome Turn) (stepped : ClientS
 client-leaves call step stepped new e =
     record { answer = e .answer; «card_length» = e .«card_length»; card = e .card; client = e .client; store-is = e .output }
 
-pub replica-leaves : (replica : Replica) (bytes verdicts old : List ℕ) (stepped : ReplicaStepped) (new : List ℕ) → Steps replica bytes verdicts old stepped new
+pub replica-leaves : (replica : Replica) (bytes verdicts old : List ℕ) (stepped : ReplicaStepped) (new : List ℕ) → Steps replica bytes verdicts old (stepped .answer) (stepped .replica) new
     → ReplicaLeaves (replicaCall replica bytes verdicts old) [] stepped new
 replica-leaves replica bytes verdicts old stepped new e = record { answer = e .answer; replica = e .next; store-is = e .output }
 

@@ -3,6 +3,7 @@ use base::party::ReplicaId;
 use base::timestamp::Timestamp;
 
 // One register: what is held, and the prepare list.
+#[repr(C)]
 pub struct Register {
     // A slot for each client (document 01: line), client c's at c - 1: its count, 0 for an unused slot, and its digest's 32 bytes.
     pub counts: [u32; 64],
@@ -18,6 +19,7 @@ pub struct Register {
     pub entries: [u8; 715],
 }
 
+#[repr(C)]
 pub struct Replica {
     pub f: u8,
     pub id: ReplicaId,

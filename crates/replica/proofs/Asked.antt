@@ -276,7 +276,7 @@ module _ (replica : Replica) (bytes verdicts old : List ℕ) (stepped : Stepped)
   answered (accepted reply) = refl
   answered (refused number) = refl
 
-  steps : (new : List ℕ) → Leaves (replicaCall replica bytes verdicts old) stepped new → Steps replica bytes verdicts old stepped new
+  steps : (new : List ℕ) → Leaves (replicaCall replica bytes verdicts old) stepped new → Steps replica bytes verdicts old (stepped .answer) (stepped .replica) new
   unfolding replicaCall
   steps new l =
       record {
@@ -286,11 +286,11 @@ module _ (replica : Replica) (bytes verdicts old : List ℕ) (stepped : Stepped)
         output = l .output;
       }
 
-  pub steps-long : (new : List ℕ) → longest ≤ length old → Leaves (replicaAnswers replica old (replicaStep replica bytes verdicts)) stepped new → Steps replica bytes verdicts old stepped new
+  pub steps-long : (new : List ℕ) → longest ≤ length old → Leaves (replicaAnswers replica old (replicaStep replica bytes verdicts)) stepped new → Steps replica bytes verdicts old (stepped .answer) (stepped .replica) new
   unfolding replicaCall
   steps-long new h l =
       let same : withOutput old (replicaStep replica bytes verdicts) ≡ replicaStep replica bytes verdicts = long-output old (replicaStep replica bytes verdicts) h in
       steps new (subst (λ (o : Outcome Reply). Leaves (replicaAnswers replica old o) stepped new) (sym same) l)
 
-  pub steps-short : length old < longest → (stepped .answer ≡ Refused 1) × (stepped .replica ≡ replica) → Steps replica bytes verdicts old stepped old
+  pub steps-short : length old < longest → (stepped .answer ≡ Refused 1) × (stepped .replica ≡ replica) → Steps replica bytes verdicts old (stepped .answer) (stepped .replica) old
   steps-short h r = steps old (subst (λ (c : ReplicaCall). Leaves c stepped old) (sym (replica-short replica bytes verdicts old h)) (record { answer = r .0; replica = r .1; output = refl }))

@@ -8,6 +8,7 @@ use Rattle.wire.specs.declared.message.Fields.{Fields}
 use Rattle.wire.specs.declared.message.Party.the-variants.{Replica as AtReplica}
 use Rattle.protocol.specs.Replica.{replicaStep, ReplicaCall, answerOutcome, sentLength, replicaAnswers, withOutput, replicaCall}
 use Rattle.protocol.specs.declared.replica.Replica.{Replica}
+use Rattle.protocol.specs.declared.replica.ReplicaAnswer.{ReplicaAnswer}
 use Rattle.replica.specs.declared.Stepped.{Stepped}
 
 -- What a call leaves: its answer and record, and the output.
@@ -26,9 +27,10 @@ pub record Answers (replica : Replica) (bytes : List ℕ) (fields : Fields) (old
   pub leaves : (verdicts : List ℕ) → acceptance AtReplica (replica .f) bytes verdicts ≡ accepted fields
       → Leaves (replicaAnswers replica old (replicaStep replica bytes verdicts)) stepped new
 
--- The contract of a step. `outcome` says the answer by document 01's numbers: the length of the message to send, or the refusal.
-pub record Steps (replica : Replica) (bytes verdicts old : List ℕ) (stepped : Stepped) (new : List ℕ) : Type 0 where
-  pub answer : stepped .answer ≡ replicaCall replica bytes verdicts old .answer
-  pub outcome : answerOutcome (stepped .answer) ≡ sentLength (withOutput old (replicaStep replica bytes verdicts))
-  pub next : stepped .replica ≡ replicaCall replica bytes verdicts old .replica
+-- The contract of a step, by value and on a lent record alike: its answer, and the record and the output afterwards.
+-- `outcome` says the answer by document 01's numbers: the length of the message to send, or the refusal.
+pub record Steps (replica : Replica) (bytes verdicts old : List ℕ) (answered : ReplicaAnswer) (left : Replica) (new : List ℕ) : Type 0 where
+  pub answer : answered ≡ replicaCall replica bytes verdicts old .answer
+  pub outcome : answerOutcome answered ≡ sentLength (withOutput old (replicaStep replica bytes verdicts))
+  pub next : left ≡ replicaCall replica bytes verdicts old .replica
   pub output : new ≡ replicaCall replica bytes verdicts old .output

@@ -1,5 +1,6 @@
 // The replica engine (document 01: a holder): setting up, and the step by value.
 mod bytes;
+pub mod exported;
 mod kinds;
 mod register;
 mod requests;
@@ -81,7 +82,7 @@ const TOO_SHORT: u8 = 1;
 
 // A message is handed to a replica, with a verdict for each signature and an output for the reply.
 pub fn step(replica: Replica, message: &[u8], verdicts: &[u8], out: &mut [u8]) -> Stepped
-    ensures { λ r. ⌜ Steps replica (now (message .entry)) (now (verdicts .entry)) (now (out .entry)) r (now (out .exit)) ⌝ }
+    ensures { λ r. ⌜ Steps replica (now (message .entry)) (now (verdicts .entry)) (now (out .entry)) (r .answer) (r .replica) (now (out .exit)) ⌝ }
 {
     if out.len() < LONGEST {
         return kinds::refuse(replica, TOO_SHORT);
@@ -90,4 +91,19 @@ pub fn step(replica: Replica, message: &[u8], verdicts: &[u8], out: &mut [u8]) -
         Reading::Message(fields) => requests::on_message(replica, message, fields, out),
         Reading::Refused(number) => kinds::refuse(replica, number),
     }
+}
+
+// The same on a record that is lent: the step by value, and its record stored.
+pub fn step_in_place(
+    replica: &mut Replica,
+    message: &[u8],
+    verdicts: &[u8],
+    out: &mut [u8],
+) -> ReplicaAnswer
+    ensures { λ r. ⌜ Steps (now (replica .entry)) (now (message .entry)) (now (verdicts .entry)) (now (out .entry)) r (now (replica .exit)) (now (out .exit)) ⌝ }
+{
+    let before = *replica;
+    let stepped = step(before, message, verdicts, out);
+    *replica = stepped.replica;
+    stepped.answer
 }

@@ -1,0 +1,27 @@
+-- The contracts of the functions for Rust and C.
+use mathlib.Core.Path.{_≡_}
+use mathlib.Core.Bool.{Bool, true, false}
+use mathlib.Core.List.{List}
+use Prim.Native.Nat.{ℕ}
+use Rattle.base.specs.Outcome.{Outcome, accepted, refused}
+use Rattle.protocol.specs.Replica.{replicaCall}
+use Rattle.protocol.specs.declared.replica.Replica.{Replica}
+use Rattle.protocol.specs.declared.replica.ReplicaAnswer.{ReplicaAnswer}
+use Rattle.protocol.specs.declared.replica.ReplicaAnswer.the-variants.{Send, Refused}
+use Rattle.replica.specs.declared.exported.NumberedAnswer.{NumberedAnswer}
+
+-- An answer in numbers: whether a message is sent, with its length or the refusal's number.
+abbrev pub inNumbers : ReplicaAnswer → NumberedAnswer
+inNumbers (Send n) = record { sent = true; number = n }
+inNumbers (Refused number) = record { sent = false; number = number }
+
+-- Whether setting up was not refused.
+abbrev pub isGood : Outcome (Unit {0}) → Bool
+isGood (accepted done) = true
+isGood (refused number) = false
+
+-- The contract of a step: what `Steps` says, with the answer in numbers.
+pub record StepsInNumbers (replica : Replica) (bytes verdicts old : List ℕ) (answered : NumberedAnswer) (left : Replica) (new : List ℕ) : Type 0 where
+  pub answer : answered ≡ inNumbers (replicaCall replica bytes verdicts old .answer)
+  pub next : left ≡ replicaCall replica bytes verdicts old .replica
+  pub output : new ≡ replicaCall replica bytes verdicts old .output
