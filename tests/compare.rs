@@ -2,6 +2,7 @@
 //!
 //! `compare PROGRAM [SEED [CALLS]]`: PROGRAM reads a script and prints a line per line of it. Built by
 //! `rustc -O --edition 2021 tests/compare.rs -o target/compare`.
+mod arguments;
 mod card;
 mod client;
 mod forge;
@@ -16,9 +17,6 @@ use script::{Output, Player};
 use std::collections::BTreeMap;
 use std::io::{self, Write};
 use std::process::{Command, ExitCode, Stdio};
-use std::time::{SystemTime, UNIX_EPOCH};
-
-const CALLS: usize = 100_000;
 
 /// What the program prints for a script.
 fn run_program(program: &str, lines: &[String]) -> io::Result<Vec<String>> {
@@ -257,21 +255,12 @@ fn compare(program: &str, seed: u64, calls: usize) -> io::Result<bool> {
 }
 
 fn main() -> ExitCode {
-    let arguments: Vec<String> = std::env::args().skip(1).collect();
-    let number = |at: usize| {
-        arguments
-            .get(at)
-            .map(|word| word.parse::<u64>().expect("a number"))
-    };
-    let Some(program) = arguments.first() else {
+    let words: Vec<String> = std::env::args().skip(1).collect();
+    let Some((program, words)) = words.split_first() else {
         eprintln!("compare PROGRAM [SEED [CALLS]]");
         return ExitCode::from(2);
     };
-    let now = SystemTime::now()
-        .duration_since(UNIX_EPOCH)
-        .map_or(1, |since| since.as_secs());
-    let seed = number(1).unwrap_or(now);
-    let calls = number(2).map_or(CALLS, |calls| calls as usize);
+    let (seed, calls) = arguments::seed_and_calls(words);
     println!("seed {seed}");
     match compare(program, seed, calls) {
         Ok(true) => ExitCode::SUCCESS,

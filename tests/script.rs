@@ -58,7 +58,7 @@ pub fn hex(bytes: &[u8]) -> String {
         .collect()
 }
 
-fn unhex(word: &str) -> Option<Vec<u8>> {
+pub fn unhex(word: &str) -> Option<Vec<u8>> {
     if word == "-" {
         return Some(Vec::new());
     }

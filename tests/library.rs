@@ -1,0 +1,181 @@
+//! Compares the static library of the crate `replica`, through its Rust wrapper, with the model: whatever scripts of random
+//! runs hand to replicas.
+//!
+//! `library [SEED [CALLS]]`
+mod arguments;
+mod card;
+mod client;
+mod forge;
+mod generate;
+mod message;
+mod random;
+mod replica;
+mod script;
+mod sha256;
+#[path = "../rust/replica.rs"]
+mod wrapper;
+
+use script::{unhex, Output, Player};
+use std::collections::BTreeMap;
+use std::process::ExitCode;
+use wrapper::{Answer, ReplicaId, LONGEST_MESSAGE};
+
+const UNTOUCHED: u8 = 165;
+
+/// What was handed to a replica: message, verdicts, and the length of the output.
+#[derive(Clone)]
+struct Request {
+    message: Vec<u8>,
+    verdicts: Vec<u8>,
+    room: usize,
+}
+
+/// A replica of the library, with all that was handed to it: a record is not copied, so a disk is restored by playing
+/// its requests again.
+struct Server {
+    f: u8,
+    id: u8,
+    replica: wrapper::Replica,
+    requests: Vec<Request>,
+    kept: Option<usize>,
+}
+
+impl Server {
+    fn set_up(f: u8, id: u8) -> Option<Server> {
+        Some(Server {
+            f,
+            id,
+            replica: wrapper::Replica::fresh(f, ReplicaId(id))?,
+            requests: Vec::new(),
+            kept: None,
+        })
+    }
+
+    /// The message sent, or the refusal's number; `None` where the output has another byte than it should.
+    fn hand_over(&mut self, request: Request) -> Option<Result<Vec<u8>, u8>> {
+        let mut out = vec![UNTOUCHED; request.room];
+        let answer = self
+            .replica
+            .step(&request.message, &request.verdicts, &mut out);
+        self.requests.push(request);
+        let length = match answer {
+            Answer::Send(length) => length,
+            Answer::Refused(_) => 0,
+        };
+        let behind = out.get(length..)?;
+        if behind.iter().any(|byte| *byte != UNTOUCHED) {
+            return None;
+        }
+        out.truncate(length);
+        Some(match answer {
+            Answer::Send(_) => Ok(out),
+            Answer::Refused(refusal) => Err(refusal),
+        })
+    }
+
+    fn restore(&mut self) -> Option<()> {
+        let kept = self.kept?;
+        let requests: Vec<Request> = self.requests.drain(..).take(kept).collect();
+        let mut fresh = Server::set_up(self.f, self.id)?;
+        for request in requests {
+            // what it answered then was compared when it was handed over
+            fresh.hand_over(request)?.ok();
+        }
+        fresh.kept = Some(kept);
+        *self = fresh;
+        Some(())
+    }
+}
+
+#[derive(Default)]
+struct Library {
+    servers: BTreeMap<u8, Server>,
+}
+
+impl Library {
+    fn set_up(&mut self, f: u8, id: u8) -> Output {
+        let Some(server) = Server::set_up(f, id) else {
+            return Output::Refused(16);
+        };
+        self.servers.insert(id, server);
+        Output::Ready
+    }
+
+    /// Whether the library does what the model does with a line about a replica, whose messages are spelled out.
+    fn agrees(&mut self, line: &str, expected: &Output) -> Option<bool> {
+        let (call, room) = match line.strip_prefix("short ") {
+            Some(call) => (call, LONGEST_MESSAGE - 1),
+            None => (line, LONGEST_MESSAGE + 21),
+        };
+        let words: Vec<&str> = call.split(' ').collect();
+        match *words {
+            ["new"] => self.servers.clear(),
+            ["replica", f, id] => {
+                return Some(self.set_up(f.parse().ok()?, id.parse().ok()?) == *expected)
+            }
+            ["keep", id] => {
+                let server = self.servers.get_mut(&id.parse().ok()?)?;
+                server.kept = Some(server.requests.len());
+            }
+            ["restore", id] => self.servers.get_mut(&id.parse().ok()?)?.restore()?,
+            ["to-replica", id, message, verdicts] => {
+                let message = unhex(message)?;
+                let verdicts = match verdicts {
+                    "+" => script::all_genuine(&message),
+                    _ => unhex(verdicts)?,
+                };
+                let request = Request {
+                    message,
+                    verdicts,
+                    room,
+                };
+                let given = self.servers.get_mut(&id.parse().ok()?)?.hand_over(request);
+                return Some(match (given, expected) {
+                    (Some(Ok(message)), Output::Sent(_, expected)) => message == *expected,
+                    (Some(Err(refusal)), Output::Refused(expected)) => refusal == *expected,
+                    _ => false,
+                });
+            }
+            _ => {}
+        }
+        Some(true)
+    }
+}
+
+/// The number of calls that were compared, or the first line at which the library and the model part.
+fn compare(seed: u64, calls: usize) -> Result<usize, String> {
+    let mut random = random::Random::new(seed);
+    let mut compared = 0;
+    while compared < calls {
+        let script = generate::script(&mut random);
+        let mut model = Player::default();
+        let mut library = Library::default();
+        for (line, expected) in script.lines.iter().zip(&script.expected) {
+            let spelled = model.spelled_out(line);
+            model.play(line);
+            if *expected == Output::Unread {
+                continue;
+            }
+            if library.agrees(&spelled, expected) != Some(true) {
+                return Err(format!("{spelled}\nmust give {expected}"));
+            }
+            compared += usize::from(line.contains("to-replica"));
+        }
+    }
+    Ok(compared)
+}
+
+fn main() -> ExitCode {
+    let words: Vec<String> = std::env::args().skip(1).collect();
+    let (seed, calls) = arguments::seed_and_calls(&words);
+    match compare(seed, calls) {
+        Ok(calls) => {
+            println!("{calls} calls of the static library compared, seed {seed}: all equal");
+            ExitCode::SUCCESS
+        }
+        Err(difference) => {
+            println!("A difference, seed {seed}:\n{difference}");
+            ExitCode::FAILURE
+        }
+    }
+}
