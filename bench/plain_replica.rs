@@ -1,4 +1,5 @@
 //! A plain Rust replica, to measure the proved one by: slices and fixed arrays, no heap.
+use crate::card::{keeps_table, STARTING_CARD};
 use crate::plain_sha256::unrolled as sha256;
 
 const LONGEST_MESSAGE: usize = 1_579;
@@ -178,39 +179,6 @@ fn is_quorum(entries: &[u8], f: u8) -> bool {
         })
 }
 
-fn is_card(card: &[u8]) -> bool {
-    let Some((map, mut rest)) = card.split_at_checked(2) else {
-        return false;
-    };
-    let map = u16::from_be_bytes([map[0], map[1]]);
-    if map >= 1 << 7 || map & 3 == 1 || map & 3 == 2 {
-        return false;
-    }
-    const FIELDS: [(usize, u32, u32); 7] = [
-        (2, 4_000, 9_000),
-        (2, 4_000, 9_000),
-        (2, 150, 350),
-        (2, 150, 350),
-        (4, 0, 2_000_000),
-        (1, 1, 4),
-        (2, 0, 65_535),
-    ];
-    for (bit, (width, low, high)) in FIELDS.into_iter().enumerate() {
-        if map >> bit & 1 == 0 {
-            continue;
-        }
-        let Some((field, left)) = rest.split_at_checked(width) else {
-            return false;
-        };
-        let value = field.iter().fold(0, |v, &b| v << 8 | u32::from(b));
-        if value < low || value > high {
-            return false;
-        }
-        rest = left;
-    }
-    rest.is_empty()
-}
-
 /// Writes a reply into the front of the output.
 struct Writer<'a> {
     out: &'a mut [u8],
@@ -265,7 +233,7 @@ impl Replica {
             digests: [[0; 32]; 64],
             written: Timestamp::START,
             timestamp: Timestamp::START,
-            card_length: 2,
+            card_length: STARTING_CARD.len() as u8,
             card: [0; 17],
             digest: [0; 32],
             entry_count: 0,
@@ -346,7 +314,7 @@ impl Replica {
     fn write(&mut self, request: &Request, out: &mut [u8]) -> Answer {
         let proof = request.prepared.ok_or(5)?;
         let card = request.card;
-        if !is_card(card) || sha256(card) != proof.digest {
+        if !keeps_table(card) || sha256(card) != proof.digest {
             return Err(14);
         }
         if proof.timestamp > self.timestamp {

@@ -1,5 +1,7 @@
 //! Times the proved replica's step beside a plain Rust one, after comparing them on many messages.
 //! Run by `bench/run`, which links the static library of `replica`.
+#[path = "../tests/card.rs"]
+mod card;
 mod plain_replica;
 mod plain_sha256;
 #[path = "../rust/replica.rs"]
