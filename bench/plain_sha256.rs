@@ -1,4 +1,4 @@
-//! A plain Rust SHA-256 in two shapes, to measure the proved one by.
+//! A plain Rust SHA-256 in two shapes, to measure the proved one by. The model in tests/ uses the faster one.
 
 const K: [u32; 64] = [
     0x428a2f98, 0x71374491, 0xb5c0fbcf, 0xe9b5dba5, 0x3956c25b, 0x59f111f1, 0x923f82a4, 0xab1c5ed5,

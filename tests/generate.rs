@@ -2,9 +2,9 @@
 use crate::card::STARTING_CARD;
 use crate::forge::*;
 use crate::message::*;
+use crate::plain_sha256::unrolled as sha256;
 use crate::random::Random;
 use crate::script::{all_genuine, hex, Output, Player, KEPT_MESSAGES};
-use crate::sha256::sha256;
 use std::collections::BTreeSet;
 
 /// Below the 1,000,000 bytes that the proved program reads, with room for the longest line.

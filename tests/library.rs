@@ -8,10 +8,11 @@ mod client;
 mod forge;
 mod generate;
 mod message;
+#[path = "../bench/plain_sha256.rs"]
+mod plain_sha256;
 mod random;
 mod replica;
 mod script;
-mod sha256;
 #[path = "../rust/replica.rs"]
 mod wrapper;
 
