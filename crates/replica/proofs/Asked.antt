@@ -46,7 +46,7 @@ use Rattle.protocol.specs.declared.replica.ReplicaAnswer.the-variants.{Refused}
 use Rattle.protocol.proofs.Calls.{long-output, replica-short}
 use Rattle.protocol.proofs.Passed.{Passed, checked-passed}
 use Rattle.replica.specs.Kinds.{preparedWith, onReadStamp, onPrepare, onWrite, onRead}
-use Rattle.replica.specs.Stepping.{Leaves, Answers, Steps}
+use Rattle.replica.specs.Stepping.{keeping, Changes, Leaves, Answers, Steps}
 use Rattle.replica.specs.declared.Stepped.{Stepped}
 
 -- What follows tests 2 to 11. A replica takes no other kinds.
@@ -267,30 +267,32 @@ module _ (replica : Replica) (bytes verdicts : List ℕ) (fields : Fields) (e : 
 -- A call whose step is this outcome, whichever verdicts let its message through.
 pub answers : (replica : Replica) (bytes : List ℕ) (fields : Fields) (old : List ℕ) (stepped : Stepped) (new : List ℕ) (outcome : Outcome Reply)
     → ((verdicts : List ℕ) → acceptance AtReplica (replica .f) bytes verdicts ≡ accepted fields → replicaStep replica bytes verdicts ≡ outcome)
-    → Leaves (replicaAnswers replica old outcome) stepped new → Answers replica bytes fields old stepped new
+    → Leaves replica (replicaAnswers replica old outcome) stepped new → Answers replica bytes fields old stepped new
 answers replica bytes fields old stepped new outcome same l =
-    record { leaves = λ verdicts e. subst (λ (o : Outcome Reply). Leaves (replicaAnswers replica old o) stepped new) (sym (same verdicts e)) l }
+    record { leaves = λ verdicts e. subst (λ (o : Outcome Reply). Leaves replica (replicaAnswers replica old o) stepped new) (sym (same verdicts e)) l }
 
 module _ (replica : Replica) (bytes verdicts old : List ℕ) (stepped : Stepped) where
   answered : (outcome : Outcome Reply) → answerOutcome (replicaAnswers replica old outcome .answer) ≡ sentLength outcome
   answered (accepted reply) = refl
   answered (refused number) = refl
 
-  steps : (new : List ℕ) → Leaves (replicaCall replica bytes verdicts old) stepped new → Steps replica bytes verdicts old (stepped .answer) (stepped .replica) new
+  steps : (new : List ℕ) → Leaves replica (replicaCall replica bytes verdicts old) stepped new → Steps replica bytes verdicts old (stepped .answer) (stepped .replica) new × Changes replica stepped
   unfolding replicaCall
-  steps new l =
-      record {
-        answer = l .answer;
-        outcome = ap answerOutcome (l .answer) ∙ answered (withOutput old (replicaStep replica bytes verdicts));
-        next = l .replica;
-        output = l .output;
-      }
+  steps new l = (
+    record {
+      answer = l .answer;
+      outcome = ap answerOutcome (l .answer) ∙ answered (withOutput old (replicaStep replica bytes verdicts));
+      next = l .next;
+      output = l .output;
+    },
+    l .changes,
+  )
 
-  pub steps-long : (new : List ℕ) → longest ≤ length old → Leaves (replicaAnswers replica old (replicaStep replica bytes verdicts)) stepped new → Steps replica bytes verdicts old (stepped .answer) (stepped .replica) new
+  pub steps-long : (new : List ℕ) → longest ≤ length old → Leaves replica (replicaAnswers replica old (replicaStep replica bytes verdicts)) stepped new → Steps replica bytes verdicts old (stepped .answer) (stepped .replica) new × Changes replica stepped
   unfolding replicaCall
   steps-long new h l =
       let same : withOutput old (replicaStep replica bytes verdicts) ≡ replicaStep replica bytes verdicts = long-output old (replicaStep replica bytes verdicts) h in
-      steps new (subst (λ (o : Outcome Reply). Leaves (replicaAnswers replica old o) stepped new) (sym same) l)
+      steps new (subst (λ (o : Outcome Reply). Leaves replica (replicaAnswers replica old o) stepped new) (sym same) l)
 
-  pub steps-short : length old < longest → (stepped .answer ≡ Refused 1) × (stepped .replica ≡ replica) → Steps replica bytes verdicts old (stepped .answer) (stepped .replica) old
-  steps-short h r = steps old (subst (λ (c : ReplicaCall). Leaves c stepped old) (sym (replica-short replica bytes verdicts old h)) (record { answer = r .0; replica = r .1; output = refl }))
+  pub steps-short : length old < longest → stepped ≡ keeping (Refused 1) replica → Steps replica bytes verdicts old (stepped .answer) (stepped .replica) old × Changes replica stepped
+  steps-short h r = steps old (subst (λ (c : ReplicaCall). Leaves replica c stepped old) (sym (replica-short replica bytes verdicts old h)) (rw r (record { answer = refl; next = refl; output = refl; changes = record { only = refl } })))

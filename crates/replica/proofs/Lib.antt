@@ -1,3 +1,4 @@
 pub mod Arrays
 pub mod Asked
 pub mod Replies
+pub mod Slots

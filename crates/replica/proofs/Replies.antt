@@ -5,7 +5,7 @@ use mathlib.Core.List.{List}
 use Prim.Native.Nat.{ℕ, _-_, _≤_, _<_, max}
 use native.Mathlib.Omega.{arith}
 use borrow.Author.Tests.{le-leb}
-use lib.Dec.{eqb, leb}
+use lib.Dec.{eqb, leb, ltb}
 use lib.ListN.{length, getD, take, drop, length-drop}
 use lib.Seq.{take-all, take-take}
 use Rattle.base.specs.BigEndian.{fromBytes}
@@ -29,12 +29,13 @@ use Rattle.wire.specs.declared.card.CardCheck.the-variants.{Good, Refused as Ba
 use Rattle.wire.specs.declared.card.CardDigest.{CardDigest}
 use Rattle.wire.specs.declared.writer.Encoded.{Encoded}
 use Rattle.wire.proofs.card.Digests.{card-short}
-use Rattle.protocol.specs.Replica.{Reply, answerOutcome, answering, isTimestamp, withRegister, afterWrite, replicaAnswers}
+use Rattle.protocol.specs.Replica.{heldTimestamp, Reply, answerOutcome, answering, isTimestamp, slotIs, slotTakes, withWritten, withSlot, withHeld, withRegister, afterWrite, replicaAnswers}
+use Rattle.protocol.specs.declared.replica.Register.{Register}
 use Rattle.protocol.specs.declared.replica.Replica.{Replica}
 use Rattle.protocol.specs.declared.replica.ReplicaAnswer.{ReplicaAnswer}
 use Rattle.protocol.specs.declared.replica.ReplicaAnswer.the-variants.{Send, Refused}
 use Rattle.replica.specs.Kinds.{proofOf, ownOrMissing, preparedWith, preparedOutcome, onPrepare, standsFor, onWrite}
-use Rattle.replica.specs.Stepping.{Leaves}
+use Rattle.replica.specs.Stepping.{keeping, slotsFrom, Changes, Leaves}
 use Rattle.replica.specs.declared.register.Prepared.{Prepared}
 use Rattle.replica.specs.declared.Stepped.{Stepped}
 
@@ -45,20 +46,21 @@ answer-sends (Refused number) n e = let z : _≡_ {A = ℕ} 0 1 = cc in absurd (
 -- A message that was written into an output that is long enough.
 pub sends : (replica : Replica) (old new : List ℕ) (outcome : Outcome Reply) (message : Message) (next : Replica) (encoded : Encoded) (stepped : Stepped)
     → outcome ≡ answering message next → longest ≤ length old → Wrote old (unsigned message) encoded new
-    → answerOutcome (stepped .answer) ≡ encodedOutcome encoded → stepped .replica ≡ next → Leaves (replicaAnswers replica old outcome) stepped new
-sends replica old new outcome message next encoded stepped o enough wrote e same =
+    → answerOutcome (stepped .answer) ≡ encodedOutcome encoded → stepped .replica ≡ next → Changes replica stepped → Leaves replica (replicaAnswers replica old outcome) stepped new
+sends replica old new outcome message next encoded stepped o enough wrote e same changes =
     let roomy = le-leb longest (length old) enough in
     rw o
     (record {
       answer = answer-sends (stepped .answer) (length (unsigned message)) (e ∙ wrote .answered ∙ guard-passes 1 (leb longest (length old)) (accepted (length (unsigned message))) roomy);
-      replica = same;
+      next = same;
       output = wrote .holds ∙ rw roomy;
+      changes = changes;
     })
 
 -- A refusal: its number alone.
 pub refuses : (replica : Replica) (old : List ℕ) (outcome : Outcome Reply) (number : ℕ) (stepped : Stepped)
-    → outcome ≡ refused number → (stepped .answer ≡ Refused number) × (stepped .replica ≡ replica) → Leaves (replicaAnswers replica old outcome) stepped old
-refuses replica old outcome number stepped e s = rw e (record { answer = s .0; replica = s .1; output = refl })
+    → outcome ≡ refused number → stepped ≡ keeping (Refused number) replica → Leaves replica (replicaAnswers replica old outcome) stepped old
+refuses replica old outcome number stepped e s = rw (e, s) (record { answer = refl; next = refl; output = refl; changes = record { only = refl } })
 
 -- What the digest of a card says of test 14.
 module _ (card digest : List ℕ) (made : CardDigest) (e : made ≡ cardDigest card) where
@@ -109,6 +111,26 @@ module _ (replica : Replica) (client : ClientId) (timestamp : ℕ) (digest : Lis
       unfolding onPrepare guard
       is-taken t = rw (own, follows, ← e, t)
 
+-- A PREPARE that is taken changes the slots and the written timestamp alone.
+module _ (replica : Replica) (client : ClientId) (timestamp : ℕ) (digest : List ℕ) (written : ℕ) (prepared : Prepared)
+    (e : preparedOutcome prepared ≡ preparedWith client timestamp digest written (replica .register)) (t : prepared .taken ≡ true) where
+  taken-as : (register : Register) → preparedWith client timestamp digest written (replica .register) ≡ accepted register → prepared .register ≡ register
+  taken-as register f = let g : _≡_ {A = Outcome Register} (accepted (prepared .register)) (accepted register) = rw t at (e ∙ f) in cc
+
+  pub slots-only : withRegister replica (prepared .register) ≡ slotsFrom replica (withRegister replica (prepared .register))
+  unfolding preparedWith guard
+  slots-only = go (slotIs client timestamp digest (replica .register)) refl (slotTakes client timestamp written (replica .register)) refl
+    where
+      go : (is : Bool) → slotIs client timestamp digest (replica .register) ≡ is → (takes : Bool) → slotTakes client timestamp written (replica .register) ≡ takes
+          → withRegister replica (prepared .register) ≡ slotsFrom replica (withRegister replica (prepared .register))
+      go true i takes _ = rw (taken-as (withWritten written (replica .register)) (rw i))
+      go false i true k = rw (taken-as (withWritten written (withSlot client timestamp digest (replica .register))) (rw (i, k)))
+      go false i false k =
+          let f : preparedWith client timestamp digest written (replica .register) ≡ refused 15 = rw (i, k) in
+          let g : _≡_ {A = Outcome Register} (accepted (prepared .register)) (refused 15) = rw t at (e ∙ f) in
+          let z : _≡_ {A = ℕ} 0 1 = cc in
+          absurd (omega arith)
+
 -- WRITE, test by test.
 module _ (replica : Replica) (card : List ℕ) (proof : PreparedProof) where
   pub wrong-card : standsFor card (proof .digest) ≡ false → onWrite replica card proof ≡ refused 14
@@ -119,6 +141,14 @@ module _ (replica : Replica) (card : List ℕ) (proof : PreparedProof) where
       → onWrite replica card proof ≡ answering (WRITTEN (replica .id) (proof .timestamp)) (withRegister replica (afterWrite card proof (replica .register)))
   unfolding onWrite guard
   right-card e = rw e
+
+  pub not-later : ltb (heldTimestamp (replica .register)) (proof .timestamp) ≡ false → withRegister replica (afterWrite card proof (replica .register)) ≡ replica
+  unfolding afterWrite
+  not-later e = rw e
+
+  pub is-later : ltb (heldTimestamp (replica .register)) (proof .timestamp) ≡ true → afterWrite card proof (replica .register) ≡ withHeld card proof (replica .register)
+  unfolding afterWrite
+  is-later e = rw e
 
 pub standing-short : (card digest : List ℕ) → standsFor card digest ≡ true → length card ≤ 17
 standing-short card digest e = card-short card (and-true-both (isCard card) (same (sha256 card) digest) e .0)

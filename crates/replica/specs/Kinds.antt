@@ -2,8 +2,8 @@
 use mathlib.Core.Path.{_≡_}
 use mathlib.Core.Bool.{Bool, _&&_, _||_, cond}
 use mathlib.Core.List.{List}
-use Prim.Native.Nat.{ℕ, _*_, _%_, _≤_, max}
-use lib.Dec.{eqb}
+use Prim.Native.Nat.{ℕ, _+_, _*_, _%_, _≤_, max}
+use lib.Dec.{eqb, leb, ltb}
 use lib.ListN.{length}
 use Rattle.base.specs.Outcome.{Outcome, accepted, refused, guard, _>>=_}
 use Rattle.base.specs.Same.{same}
@@ -18,6 +18,13 @@ use Rattle.protocol.specs.Replica.{heldProof, heldCard, withWritten, withSlot, 
 use Rattle.protocol.specs.declared.replica.Register.{Register}
 use Rattle.protocol.specs.declared.replica.Replica.{Replica}
 use Rattle.replica.specs.declared.register.Prepared.{Prepared}
+
+-- `slotIs` and `slotTakes` of a slot by itself.
+abbrev pub isSlot : ℕ → List ℕ → ClientId → ℕ → List ℕ → Bool
+isSlot count held client timestamp digest = eqb (count * 256 + client .0) timestamp && same held digest
+
+abbrev pub takesSlot : ℕ → ClientId → ℕ → ℕ → Bool
+takesSlot count client timestamp written = eqb count 0 || (leb (count * 256 + client .0) written && ltb (count * 256 + client .0) timestamp)
 
 -- PREPARE on a register, with the written timestamp that the slot is judged by.
 unfoldable pub preparedWith : ClientId → ℕ → List ℕ → ℕ → Register → Outcome Register

@@ -1,21 +1,66 @@
 -- The contracts of a step and of its parts: what a call leaves.
 use mathlib.Core.Path.{_≡_}
+use mathlib.Core.Bool.{Bool, false, cond}
 use mathlib.Core.List.{List}
 use Prim.Native.Nat.{ℕ}
 use Rattle.base.specs.Outcome.{accepted}
 use Rattle.wire.specs.Acceptance.{acceptance}
 use Rattle.wire.specs.declared.message.Fields.{Fields}
 use Rattle.wire.specs.declared.message.Party.the-variants.{Replica as AtReplica}
-use Rattle.protocol.specs.Replica.{replicaStep, ReplicaCall, answerOutcome, sentLength, replicaAnswers, withOutput, replicaCall}
+use Rattle.protocol.specs.Replica.{replicaStep, ReplicaCall, answerOutcome, sentLength, replicaAnswers, withOutput, withRegister, replicaCall}
 use Rattle.protocol.specs.declared.replica.Replica.{Replica}
 use Rattle.protocol.specs.declared.replica.ReplicaAnswer.{ReplicaAnswer}
 use Rattle.replica.specs.declared.Stepped.{Stepped}
 
+-- An answer that leaves the record as it was.
+abbrev pub keeping : ReplicaAnswer → Replica → Stepped
+keeping answer replica = record { answer = answer; holds = false; prepares = false; replica = replica }
+
+-- A record with another's held timestamp, card and proof; and one with another's slots and written timestamp.
+abbrev pub heldFrom : Replica → Replica → Replica
+heldFrom replica other =
+    withRegister replica
+    (record {
+      counts = replica .register .counts;
+      digests = replica .register .digests;
+      written = replica .register .written;
+      timestamp = other .register .timestamp;
+      «card_length» = other .register .«card_length»;
+      card = other .register .card;
+      digest = other .register .digest;
+      «entry_count» = other .register .«entry_count»;
+      entries = other .register .entries;
+    })
+
+abbrev pub slotsFrom : Replica → Replica → Replica
+slotsFrom replica other =
+    withRegister replica
+    (record {
+      counts = other .register .counts;
+      digests = other .register .digests;
+      written = other .register .written;
+      timestamp = replica .register .timestamp;
+      «card_length» = replica .register .«card_length»;
+      card = replica .register .card;
+      digest = replica .register .digest;
+      «entry_count» = replica .register .«entry_count»;
+      entries = replica .register .entries;
+    })
+
+-- What of the record a step says that it changed: what is held, else the slots, else nothing.
+abbrev pub changed : Bool → Bool → Replica → Replica → Replica
+changed holds prepares replica other = cond holds (heldFrom replica other) (cond prepares (slotsFrom replica other) replica)
+
+-- Nothing else has changed.
+pub record Changes (replica : Replica) (stepped : Stepped) : Type 0 where
+  pub only : stepped .replica ≡ changed (stepped .holds) (stepped .prepares) replica (stepped .replica)
+
 -- What a call leaves: its answer and record, and the output.
-pub record Leaves (call : ReplicaCall) (stepped : Stepped) (new : List ℕ) : Type 0 where
+pub record Leaves (replica : Replica) (call : ReplicaCall) (stepped : Stepped) (new : List ℕ) : Type 0 where
   pub answer : stepped .answer ≡ call .answer
-  pub replica : stepped .replica ≡ call .replica
+  pub next : stepped .replica ≡ call .replica
   pub output : new ≡ call .output
+  pub changes : Changes replica stepped
 
 -- A message that tests 2 to 11 let through, with some verdicts.
 pub record Passes (replica : Replica) (bytes : List ℕ) (fields : Fields) : Type 0 where
@@ -25,7 +70,7 @@ pub record Passes (replica : Replica) (bytes : List ℕ) (fields : Fields) : Typ
 -- What a call on such a message leaves, whichever verdicts let it through.
 pub record Answers (replica : Replica) (bytes : List ℕ) (fields : Fields) (old : List ℕ) (stepped : Stepped) (new : List ℕ) : Type 0 where
   pub leaves : (verdicts : List ℕ) → acceptance AtReplica (replica .f) bytes verdicts ≡ accepted fields
-      → Leaves (replicaAnswers replica old (replicaStep replica bytes verdicts)) stepped new
+      → Leaves replica (replicaAnswers replica old (replicaStep replica bytes verdicts)) stepped new
 
 -- The contract of a step, by value and on a lent record alike: its answer, and the record and the output afterwards.
 -- `outcome` says the answer by document 01's numbers: the length of the message to send, or the refusal.

@@ -1,7 +1,7 @@
 // The four requests on plain values, each with its reply in the output.
 use crate::Stepped;
 use crate::register::after_prepare;
-use crate::register::after_write;
+use crate::register::with_held;
 use base::party::ClientId;
 use base::timestamp::Successor;
 use base::timestamp::Timestamp;
@@ -20,7 +20,7 @@ ghost use Rattle.wire.specs.Proof.{preparedFrom};
 ghost use Rattle.wire.specs.Writing.{encodedOutcome};
 ghost use Rattle.protocol.specs.Replica.{answerOutcome, isTimestamp, withRegister, replicaAnswers};
 ghost use Rattle.replica.specs.Kinds.{proofOf, ownOrMissing, standsFor, onReadStamp, onPrepare, onWrite, onRead};
-ghost use Rattle.replica.specs.Stepping.{Leaves};
+ghost use Rattle.replica.specs.Stepping.{keeping, Leaves};
 
 const NOT_OWN: u8 = 12;
 
@@ -32,10 +32,12 @@ const NOT_TAKEN: u8 = 15;
 
 // A refusal, which leaves the record as it was.
 pub(super) fn refuse(replica: Replica, number: u8) -> Stepped
-    ensures { λ r. ⌜ (r .answer ≡ ReplicaAnswer.Refused number) × (r .replica ≡ replica) ⌝ }
+    ensures { λ r. ⌜ r ≡ keeping (ReplicaAnswer.Refused number) replica ⌝ }
 {
     Stepped {
         answer: ReplicaAnswer::Refused(number),
+        holds: false,
+        prepares: false,
         replica: replica,
     }
 }
@@ -60,7 +62,7 @@ fn with_register(replica: Replica, register: Register) -> Replica
 // READ-STAMP
 pub(super) fn read_stamp(replica: Replica, client: ClientId, nonce: u64, out: &mut [u8]) -> Stepped
     requires { ⌜ longest ≤ length (now out) ⌝ }
-    ensures { λ r. ⌜ Leaves (replicaAnswers replica (now (out .entry)) (onReadStamp replica client nonce)) r (now (out .exit)) ⌝ }
+    ensures { λ r. ⌜ Leaves replica (replicaAnswers replica (now (out .entry)) (onReadStamp replica client nonce)) r (now (out .exit)) ⌝ }
 {
     let register = replica.register;
     let digest = register.digest;
@@ -77,6 +79,8 @@ pub(super) fn read_stamp(replica: Replica, client: ClientId, nonce: u64, out: &m
     );
     Stepped {
         answer: answer_of(encoded),
+        holds: false,
+        prepares: false,
         replica: replica,
     }
 }
@@ -84,7 +88,7 @@ pub(super) fn read_stamp(replica: Replica, client: ClientId, nonce: u64, out: &m
 // READ
 pub(super) fn read(replica: Replica, client: ClientId, nonce: u64, out: &mut [u8]) -> Stepped
     requires { ⌜ longest ≤ length (now out) ⌝ }
-    ensures { λ r. ⌜ Leaves (replicaAnswers replica (now (out .entry)) (onRead replica client nonce)) r (now (out .exit)) ⌝ }
+    ensures { λ r. ⌜ Leaves replica (replicaAnswers replica (now (out .entry)) (onRead replica client nonce)) r (now (out .exit)) ⌝ }
 {
     let held = replica.register;
     let card = held.card;
@@ -104,6 +108,8 @@ pub(super) fn read(replica: Replica, client: ClientId, nonce: u64, out: &mut [u8
     );
     Stepped {
         answer: answer_of(encoded),
+        holds: false,
+        prepares: false,
         replica: replica,
     }
 }
@@ -139,7 +145,7 @@ pub(super) fn prepare(
     out: &mut [u8],
 ) -> Stepped
     requires { ⌜ ((1 ≤ client .0) × (client .0 ≤ 64)) × (longest ≤ length (now out)) ⌝ }
-    ensures { λ r. ⌜ Leaves (replicaAnswers replica (now (out .entry)) (onPrepare replica client (number timestamp) (now (digest .entry)) (number shown) (number last))) r (now (out .exit)) ⌝ }
+    ensures { λ r. ⌜ Leaves replica (replicaAnswers replica (now (out .entry)) (onPrepare replica client (number timestamp) (now (digest .entry)) (number shown) (number last))) r (now (out .exit)) ⌝ }
 {
     if !is_own(client, last) {
         return refuse(replica, NOT_OWN);
@@ -155,6 +161,8 @@ pub(super) fn prepare(
     let encoded = wire::writer::write_prepared(out, replica.id, timestamp, digest);
     Stepped {
         answer: answer_of(encoded),
+        holds: false,
+        prepares: true,
         replica: with_register(replica, prepared.register),
     }
 }
@@ -183,16 +191,27 @@ fn write_parts(
     out: &mut [u8],
 ) -> Stepped
     requires { ⌜ (length (now digest) ≡ 32) × («entry_count» ≤ 11) × (length (now entries) ≡ 65 * «entry_count») × (longest ≤ length (now out)) ⌝ }
-    ensures { λ r. ⌜ Leaves (replicaAnswers replica (now (out .entry)) (onWrite replica (now (card .entry)) (proofOf timestamp (now (digest .entry)) «entry_count» (now (entries .entry))))) r (now (out .exit)) ⌝ }
+    ensures { λ r. ⌜ Leaves replica (replicaAnswers replica (now (out .entry)) (onWrite replica (now (card .entry)) (proofOf timestamp (now (digest .entry)) «entry_count» (now (entries .entry))))) r (now (out .exit)) ⌝ }
 {
     if !stands_for(card, digest) {
         return refuse(replica, WRONG_CARD);
     }
-    let register = replica.register;
-    let held = after_write(register, timestamp, card, digest, entry_count, entries);
     let encoded = wire::writer::write_written(out, replica.id, timestamp);
+    let answer = answer_of(encoded);
+    let register = replica.register;
+    if !register.timestamp.is_before(timestamp) {
+        return Stepped {
+            answer: answer,
+            holds: false,
+            prepares: false,
+            replica: replica,
+        };
+    }
+    let held = with_held(register, timestamp, card, digest, entry_count, entries);
     Stepped {
-        answer: answer_of(encoded),
+        answer: answer,
+        holds: true,
+        prepares: false,
         replica: with_register(replica, held),
     }
 }
@@ -200,7 +219,7 @@ fn write_parts(
 // WRITE
 pub(super) fn write(replica: Replica, card: &[u8], proof: &[u8], out: &mut [u8]) -> Stepped
     requires { ⌜ (extent preparedRule (now proof) ≡ length (now proof)) × (getD (now proof) 37 0 ≤ 11) × (longest ≤ length (now out)) ⌝ }
-    ensures { λ r. ⌜ Leaves (replicaAnswers replica (now (out .entry)) (onWrite replica (now (card .entry)) (preparedFrom (now (proof .entry))))) r (now (out .exit)) ⌝ }
+    ensures { λ r. ⌜ Leaves replica (replicaAnswers replica (now (out .entry)) (onWrite replica (now (card .entry)) (preparedFrom (now (proof .entry))))) r (now (out .exit)) ⌝ }
 {
     let timestamp = wire::numbers::timestamp_in(proof, 0, 5);
     let entry_count = proof[37];

@@ -18,7 +18,7 @@ use wire::message::Reading;
 ghost use mathlib.Core.Path.{_≡_};
 ghost use Rattle.base.specs.Party.{replicaSetup, setupOutcome};
 ghost use Rattle.protocol.specs.Replica.{freshRegister, freshReplica, madeReplica};
-ghost use Rattle.replica.specs.Stepping.{Steps};
+ghost use Rattle.replica.specs.Stepping.{Steps, Changes};
 
 // A replica as it is set up. Where that is refused its record is a fresh one of replica 0, for f = 0.
 pub struct NewReplica {
@@ -26,9 +26,11 @@ pub struct NewReplica {
     pub replica: Replica,
 }
 
-// What a step leaves.
+// What a step leaves. Of the record it changes what is held only if `holds`, and the slots only if `prepares`.
 pub struct Stepped {
     pub answer: ReplicaAnswer,
+    pub holds: bool,
+    pub prepares: bool,
     pub replica: Replica,
 }
 
@@ -82,7 +84,7 @@ const TOO_SHORT: u8 = 1;
 
 // A message is handed to a replica, with a verdict for each signature and an output for the reply.
 pub fn step(replica: Replica, message: &[u8], verdicts: &[u8], out: &mut [u8]) -> Stepped
-    ensures { λ r. ⌜ Steps replica (now (message .entry)) (now (verdicts .entry)) (now (out .entry)) (r .answer) (r .replica) (now (out .exit)) ⌝ }
+    ensures { λ r. ⌜ Steps replica (now (message .entry)) (now (verdicts .entry)) (now (out .entry)) (r .answer) (r .replica) (now (out .exit)) × Changes replica r ⌝ }
 {
     if out.len() < LONGEST {
         return kinds::refuse(replica, TOO_SHORT);
@@ -93,7 +95,7 @@ pub fn step(replica: Replica, message: &[u8], verdicts: &[u8], out: &mut [u8]) -
     }
 }
 
-// The same on a record that is lent: the step by value, and its record stored.
+// The same on a record that is lent: the step by value, and what it changed stored.
 pub fn step_in_place(
     replica: &mut Replica,
     message: &[u8],
@@ -104,6 +106,19 @@ pub fn step_in_place(
 {
     let before = *replica;
     let stepped = step(before, message, verdicts, out);
-    *replica = stepped.replica;
+    if stepped.holds {
+        replica.register.timestamp.count = stepped.replica.register.timestamp.count;
+        replica.register.timestamp.client.0 = stepped.replica.register.timestamp.client.0;
+        replica.register.card_length = stepped.replica.register.card_length;
+        replica.register.card = stepped.replica.register.card;
+        replica.register.digest = stepped.replica.register.digest;
+        replica.register.entry_count = stepped.replica.register.entry_count;
+        replica.register.entries = stepped.replica.register.entries;
+    } else if stepped.prepares {
+        replica.register.counts = stepped.replica.register.counts;
+        replica.register.digests = stepped.replica.register.digests;
+        replica.register.written.count = stepped.replica.register.written.count;
+        replica.register.written.client.0 = stepped.replica.register.written.client.0;
+    }
     stepped.answer
 }

@@ -4,10 +4,11 @@ use base::party::ClientId;
 use base::timestamp::Timestamp;
 use protocol::replica::Register;
 ghost use mathlib.Core.Path.{_≡_};
+ghost use mathlib.Core.Bool.{_||_};
 ghost use Prim.Native.Nat.{_≤_, max};
 ghost use Rattle.base.specs.Timestamp.{number};
-ghost use Rattle.protocol.specs.Replica.{withWritten, withSlot, withHeld, slotIs, slotTakes, afterWrite};
-ghost use Rattle.replica.specs.Kinds.{preparedWith, preparedOutcome, proofOf, Fitting};
+ghost use Rattle.protocol.specs.Replica.{withWritten, withSlot, withHeld, slotCount, slotDigest};
+ghost use Rattle.replica.specs.Kinds.{isSlot, takesSlot, preparedWith, preparedOutcome, proofOf, Fitting};
 
 // A PREPARE was taken, with the register afterwards; or was not, with the register as it was.
 pub struct Prepared {
@@ -15,40 +16,46 @@ pub struct Prepared {
     pub register: Register,
 }
 
-// Whether the client's slot has this timestamp and digest.
-fn slot_is(register: Register, client: ClientId, timestamp: Timestamp, digest: &[u8; 32]) -> bool
+// A client's slot.
+pub struct Slot {
+    pub count: u32,
+    pub digest: [u8; 32],
+}
+
+// Copied out of the register once, so that all else that a PREPARE asks is asked of a small value.
+fn slot_of(register: Register, client: ClientId) -> Slot
     requires { ⌜ (1 ≤ client .0) × (client .0 ≤ 64) ⌝ }
-    ensures { λ r. ⌜ r ≡ slotIs client (number timestamp) (now (digest .entry)) register ⌝ }
+    ensures { λ r. ⌜ (r .count ≡ slotCount register client) × (r .digest ≡ slotDigest register client) ⌝ }
 {
     let at = client.0 as usize - 1;
     let counts = register.counts;
     let count = counts[at];
-    let slot = Timestamp {
-        count: count,
-        client: client,
-    };
-    if !slot.is(timestamp) {
-        return false;
-    }
     let digests = register.digests;
     let from = 32 * at;
     let to = from + 32;
-    bytes::same(&digests[from..to], digest)
+    let digest = bytes::digest_array(&digests[from..to]);
+    Slot { count, digest }
 }
 
-// Whether the client's slot takes a new timestamp.
-fn slot_takes(
-    register: Register,
-    client: ClientId,
-    timestamp: Timestamp,
-    written: Timestamp,
-) -> bool
-    requires { ⌜ (1 ≤ client .0) × (client .0 ≤ 64) ⌝ }
-    ensures { λ r. ⌜ r ≡ slotTakes client (number timestamp) (number written) register ⌝ }
+// Whether a client's slot has this timestamp and digest.
+fn slot_is(slot: Slot, client: ClientId, timestamp: Timestamp, digest: &[u8; 32]) -> bool
+    ensures { λ r. ⌜ r ≡ isSlot (slot .count) (slot .digest) client (number timestamp) (now (digest .entry)) ⌝ }
 {
-    let at = client.0 as usize - 1;
-    let counts = register.counts;
-    let count = counts[at];
+    let held = Timestamp {
+        count: slot.count,
+        client: client,
+    };
+    if !held.is(timestamp) {
+        return false;
+    }
+    let bytes = slot.digest;
+    bytes::same(&bytes, digest)
+}
+
+// Whether a client's slot with this count takes a new timestamp.
+fn slot_takes(count: u32, client: ClientId, timestamp: Timestamp, written: Timestamp) -> bool
+    ensures { λ r. ⌜ r ≡ takesSlot count client (number timestamp) (number written) ⌝ }
+{
     if count == 0 {
         return true;
     }
@@ -60,6 +67,22 @@ fn slot_takes(
         return false;
     }
     slot.is_before(timestamp)
+}
+
+// Whether a PREPARE is taken: the slot has its timestamp and digest, or takes them.
+fn slot_admits(
+    slot: Slot,
+    client: ClientId,
+    timestamp: Timestamp,
+    digest: &[u8; 32],
+    written: Timestamp,
+) -> bool
+    ensures { λ r. ⌜ r ≡ (isSlot (slot .count) (slot .digest) client (number timestamp) (now (digest .entry)) || takesSlot (slot .count) client (number timestamp) (number written)) ⌝ }
+{
+    if slot_is(slot, client, timestamp, digest) {
+        return true;
+    }
+    slot_takes(slot.count, client, timestamp, written)
 }
 
 fn later(a: Timestamp, b: Timestamp) -> Timestamp
@@ -94,7 +117,8 @@ fn with_slot(
     next
 }
 
-fn with_held(
+// WRITE, once tests 2 to 14 are passed, if its timestamp is larger.
+pub(super) fn with_held(
     register: Register,
     timestamp: Timestamp,
     card: &[u8],
@@ -130,40 +154,18 @@ pub(super) fn after_prepare(
     ensures { λ r. ⌜ preparedOutcome r ≡ preparedWith client (number timestamp) (now (digest .entry)) (max (number (register .written)) (number last)) register ⌝ }
 {
     let written = later(register.written, last);
-    if slot_is(register, client, timestamp, digest) {
+    let slot = slot_of(register, client);
+    if !slot_admits(slot, client, timestamp, digest, written) {
+        // A refused PREPARE leaves the written timestamp too as it was.
         return Prepared {
-            taken: true,
-            register: with_written(register, written),
+            taken: false,
+            register: register,
         };
     }
-    if slot_takes(register, client, timestamp, written) {
-        let slotted = with_slot(register, client, timestamp, digest);
-        return Prepared {
-            taken: true,
-            register: with_written(slotted, written),
-        };
-    }
-    // A refused PREPARE leaves the written timestamp too as it was.
+    // A slot that has the timestamp and digest stays as it is.
+    let slotted = with_slot(register, client, timestamp, digest);
     Prepared {
-        taken: false,
-        register: register,
+        taken: true,
+        register: with_written(slotted, written),
     }
-}
-
-// WRITE, once tests 2 to 14 are passed.
-pub(super) fn after_write(
-    register: Register,
-    timestamp: Timestamp,
-    card: &[u8],
-    digest: &[u8],
-    entry_count: u8,
-    entries: &[u8],
-) -> Register
-    requires { ⌜ Fitting (now card) (now digest) «entry_count» (now entries) ⌝ }
-    ensures { λ r. ⌜ r ≡ afterWrite (now (card .entry)) (proofOf timestamp (now (digest .entry)) «entry_count» (now (entries .entry))) register ⌝ }
-{
-    if register.timestamp.is_before(timestamp) {
-        return with_held(register, timestamp, card, digest, entry_count, entries);
-    }
-    register
 }

@@ -83,6 +83,14 @@ pub(super) fn put_timestamp(out: &mut [u8], at: usize, timestamp: Timestamp) -> 
     put_bytes(out, at, &bytes, 5)
 }
 
+// By value: what is the function's own cannot overlap the output, so the compiler copies it whole and not byte by byte.
+fn put_digest(out: &mut [u8], at: usize, digest: [u8; 32]) -> usize
+    requires { ⌜ at + 32 ≤ length (now out) ⌝ }
+    ensures { λ r. ⌜ Put (now (out .entry)) at digest 32 r (now (out .exit)) ⌝ }
+{
+    put_bytes(out, at, &digest, 32)
+}
+
 pub(super) fn put_timestamp_and_digest(
     out: &mut [u8],
     at: usize,
@@ -93,7 +101,7 @@ pub(super) fn put_timestamp_and_digest(
     ensures { λ r. ⌜ Put (now (out .entry)) at (toBytes 5 (number timestamp) ++ now (digest .entry)) 37 r (now (out .exit)) ⌝ }
 {
     let behind = put_timestamp(out, at, timestamp);
-    put_bytes(out, behind, digest, 32)
+    put_digest(out, behind, *digest)
 }
 
 // The sender's own signature: zeros, for the signing box to fill.

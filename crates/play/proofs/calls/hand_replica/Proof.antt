@@ -11,7 +11,7 @@ returns c =
     let s = c .before .before in
     let f = s .before .before in
     let k = f .before .before in
-    rw (← ones _ (k .signature-count .result) AtReplica (k .before .before .before .args .message .now) (f .front .ensures) (k .signature-count .ensures .0) (k .signature-count .ensures .1)) (replica-leaves _ _ _ _ _ _ (s .step .ensures))
+    rw (← ones _ (k .signature-count .result) AtReplica (k .before .before .before .args .message .now) (f .front .ensures) (k .signature-count .ensures .0) (k .signature-count .ensures .1)) (replica-leaves _ _ _ _ _ _ (s .step .ensures .0))
 
 pub hand-replica-spec : {M : Type 1} → statement M
 hand-replica-spec = tie.close (tie.spec (λ c κs. search needs) (λ c. search needs) (λ c κs. search needs) (λ c κs. search needs) (λ c. search needs) returns)

@@ -1,12 +1,13 @@
 -- `replica::kinds::prepare` meets its contract. Assumes nothing.
 use mathlib.Core.Path.{_≡_, sym, _∙_}
 use mathlib.Core.Bool.{true}
+use Prim.Native.Nat.{max}
 use borrow.Author.Tests.{not-true, not-false}
 use borrow.Author.Needs.{needs}
 use Rattle.base.specs.Timestamp.{number, ofNumber, successor}
 use Rattle.protocol.specs.Replica.{isTimestamp}
 use Rattle.replica.specs.Kinds.{ownOrMissing}
-use Rattle.replica.proofs.Replies.{sends, refuses, not-own, not-successor, not-taken, is-taken}
+use Rattle.replica.proofs.Replies.{sends, refuses, not-own, not-successor, not-taken, is-taken, slots-only}
 use Rattle.replica.proofs.kinds.prepare.Statement.{statement}
 use Rattle.replica.proofs.kinds.prepare.Tie as tie
 
@@ -50,6 +51,7 @@ returns-4 c =
     sends (a .replica) (a .out .now) _ _ _ _ _ _
     (is-taken (a .replica) (a .client) (number (a .timestamp)) (a .digest .now) (number (a .shown)) (number (a .last)) (own (x .before .before .before .before)) (follows (x .before .before)) (x .after-prepare .result) (x .after-prepare .ensures) (not-false _ (w .before .before .if3 .left)))
     (s .pre .1) (w .write-prepared .ensures) (c .before .answer-of .ensures) (c .with-register .ensures)
+    (record { only = rw (c .with-register .ensures) (slots-only (a .replica) (a .client) (number (a .timestamp)) (a .digest .now) (max (number (a .replica .register .written)) (number (a .last))) (x .after-prepare .result) (x .after-prepare .ensures) (not-false _ (w .before .before .if3 .left))) })
 
 pub prepare-spec : {M : Type 1} → statement M
 prepare-spec =

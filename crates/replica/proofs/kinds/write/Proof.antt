@@ -14,7 +14,7 @@ returns c =
     let a = c .before .before .before .before .before .before .before .before .before .before .before .args in
     let w = c .before .before in
     let t = w .before .before .before .before .before in
-    subst (λ (p : PreparedProof). Leaves (replicaAnswers (a .replica) (a .out .now) (onWrite (a .replica) (a .card .now) p)) (w .write-parts .result) (w .write-parts .last .1 .1 .1 .1 .1 .1 .0))
+    subst (λ (p : PreparedProof). Leaves (a .replica) (replicaAnswers (a .replica) (a .out .now) (onWrite (a .replica) (a .card .now) p)) (w .write-parts .result) (w .write-parts .last .1 .1 .1 .1 .1 .1 .0))
     (proof-parts (a .proof .now) (t .timestamp-in .result) (t .timestamp-in .ensures)) (w .write-parts .ensures)
 
 pub write-spec : {M : Type 1} → statement M

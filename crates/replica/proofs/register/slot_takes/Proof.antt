@@ -15,15 +15,4 @@ returns-3 : tie.Need-returns-3
 returns-3 c = rw (ne-eqb _ _ (c .before .before .before .if1 .left), le-leb _ _ (ltb-false _ _ (sym (c .before .before .is-before .ensures) ∙ c .before .if2 .left))) (c .is-before2 .ensures)
 
 pub slot-takes-spec : {M : Type 1} → statement M
-slot-takes-spec =
-    tie.close
-    (tie.spec
-    (λ c. search needs)
-    (λ c. search needs)
-    (λ c. search needs)
-    (λ c. search needs)
-    returns
-    (λ c κs. search needs)
-    returns-2
-    (λ c κs. search needs)
-    returns-3)
+slot-takes-spec = tie.close (tie.spec returns (λ c κs. search needs) returns-2 (λ c κs. search needs) returns-3)
