@@ -21,9 +21,10 @@ use Rattle.wire.specs.Checks.{entriesOf, all, oneEach, checked}
 use Rattle.wire.specs.Message.{Message, PREPARE, WRITE, PREPARED, WRITTEN}
 use Rattle.wire.specs.Proof.{PreparedProof, WrittenProof}
 use Rattle.protocol.specs.Parts.{timestampOf, cardStands}
-use Rattle.protocol.specs.Replica.{Reply, heldTimestamp, slotCount, slotDigest, slotTimestamp, withWritten, withSlot, raised, slotIs, slotTakes, afterPrepare, afterWrite, isOwn, isTimestamp, withRegister, answering, onMessage}
-use Rattle.protocol.specs.declared.replica.Register.{Register}
+use Rattle.protocol.specs.Replica.{Reply, heldTimestamp, slotCount, slotDigest, slotTimestamp, withWritten, withSlot, raised, slotIs, slotTakes, afterPrepare, afterWrite, isOwn, isTimestamp, withSlots, withHeld, answering, onMessage}
+use Rattle.protocol.specs.declared.replica.Held.{Held}
 use Rattle.protocol.specs.declared.replica.Replica.{Replica}
+use Rattle.protocol.specs.declared.replica.Slots.{Slots}
 use Rattle.base.proofs.Same.{same-itself, same-differ}
 use Rattle.protocol.proofs.Fit.{ReplicaFits}
 use Rattle.protocol.proofs.Passed.{Passed, passed-checked}
@@ -46,15 +47,15 @@ abbrev pub 2·2 : ℕ
 2·2 = number (stamp 2 2)
 
 -- Client 2's slot has timestamp 1.2 and that digest; it is open above the written timestamp, else closed.
-pub record SlotHolds (register : Register) (digest : List ℕ) : Type 0 where
-  pub timestamp : slotTimestamp register two ≡ 1·2
-  pub digest-is : slotDigest register two ≡ digest
+pub record SlotHolds (slots : Slots) (digest : List ℕ) : Type 0 where
+  pub timestamp : slotTimestamp slots two ≡ 1·2
+  pub digest-is : slotDigest slots two ≡ digest
 
-abbrev pub Open : Register → Type 0
-Open register = number (register .written) < slotTimestamp register two
+abbrev pub Open : Slots → Type 0
+Open slots = number (slots .written) < slotTimestamp slots two
 
-abbrev pub Closed : Register → Type 0
-Closed register = slotTimestamp register two ≤ number (register .written)
+abbrev pub Closed : Slots → Type 0
+Closed slots = slotTimestamp slots two ≤ number (slots .written)
 
 -- The PREPARE of 1.2 with a digest, which follows 0.0 and shows no proof, and its one verdict.
 abbrev pub first : List ℕ → Message
@@ -81,47 +82,47 @@ pub record Examples : Type 0 where
   -- "`00 20 04` good, `00 20 05` bad."
   pub H : (isCard (0x00 ∷ 0x20 ∷ 0x04 ∷ []) ≡ true) × (isCard (0x00 ∷ 0x20 ∷ 0x05 ∷ []) ≡ false)
   -- "line 1.2 open with digest a: 1.2 a PREPARED, 1.2 b refused 15."
-  pub I : (replica : Replica) (a b : List ℕ) → (a ≡ b → ⊥) → ReplicaFits replica → SlotHolds (replica .register) a → Open (replica .register)
+  pub I : (replica : Replica) (a b : List ℕ) → (a ≡ b → ⊥) → ReplicaFits replica → SlotHolds (replica .register .slots) a → Open (replica .register .slots)
       → (onMessage replica genuine (first a) ≡ answering (PREPARED (replica .id) 1·2 a) replica) × (onMessage replica genuine (first b) ≡ refused 15)
   -- "the same line closed: 2.2 taken, 1.2 b still 15." 2.2 comes with a prepared proof of a timestamp of count 1, which passed 7 to 12.
-  pub J : (replica : Replica) (a b : List ℕ) → (a ≡ b → ⊥) → SlotHolds (replica .register) a → Closed (replica .register)
+  pub J : (replica : Replica) (a b : List ℕ) → (a ≡ b → ⊥) → SlotHolds (replica .register .slots) a → Closed (replica .register .slots)
       → ((digest : List ℕ) (proof : PreparedProof) (last : Option WrittenProof) (verdicts : List ℕ) → proof .timestamp / 256 ≡ 1
       → Passed (replica .f) (PREPARE two 2·2 digest (some proof) last) verdicts → isOwn two last ≡ true
       → onMessage replica verdicts (PREPARE two 2·2 digest (some proof) last)
-      ≡ answering (PREPARED (replica .id) 2·2 digest) (withRegister replica (withWritten (raised last (replica .register)) (withSlot two 2·2 digest (replica .register)))))
+      ≡ answering (PREPARED (replica .id) 2·2 digest) (withSlots replica (withWritten (raised last (replica .register .slots)) (withSlot two 2·2 digest (replica .register .slots)))))
       × (onMessage replica genuine (first b) ≡ refused 15)
   -- "WRITE of the held stamp: WRITTEN, record kept." From any client, with a proof and a card that passed 7 to 11 and 14.
   pub K : (replica : Replica) (client : ClientId) (card : List ℕ) (proof : PreparedProof) (verdicts : List ℕ) → isClient client ≡ true
-      → Passed (replica .f) (WRITE client card proof) verdicts → cardStands card (some proof) ≡ true → proof .timestamp ≡ heldTimestamp (replica .register)
+      → Passed (replica .f) (WRITE client card proof) verdicts → cardStands card (some proof) ≡ true → proof .timestamp ≡ heldTimestamp (replica .register .held)
       → onMessage replica verdicts (WRITE client card proof) ≡ answering (WRITTEN (replica .id) (proof .timestamp)) replica
 
 -- ---- A PREPARE and a WRITE that passed their tests
 
-module _ (client : ClientId) (timestamp : ℕ) (digest : List ℕ) (last : Option WrittenProof) (register : Register) where
-  prepare-again : slotIs client timestamp digest register ≡ true → afterPrepare client timestamp digest last register ≡ accepted (withWritten (raised last register) register)
+module _ (client : ClientId) (timestamp : ℕ) (digest : List ℕ) (last : Option WrittenProof) (slots : Slots) where
+  prepare-again : slotIs client timestamp digest slots ≡ true → afterPrepare client timestamp digest last slots ≡ accepted (withWritten (raised last slots) slots)
   unfolding afterPrepare
   prepare-again e = rw e refl
 
-  prepare-new : slotIs client timestamp digest register ≡ false → slotTakes client timestamp (raised last register) register ≡ true
-      → afterPrepare client timestamp digest last register ≡ accepted (withWritten (raised last register) (withSlot client timestamp digest register))
+  prepare-new : slotIs client timestamp digest slots ≡ false → slotTakes client timestamp (raised last slots) slots ≡ true
+      → afterPrepare client timestamp digest last slots ≡ accepted (withWritten (raised last slots) (withSlot client timestamp digest slots))
   unfolding afterPrepare guard
   prepare-new e t = rw (e, t) refl
 
-  prepare-refused : slotIs client timestamp digest register ≡ false → slotTakes client timestamp (raised last register) register ≡ false
-      → afterPrepare client timestamp digest last register ≡ refused 15
+  prepare-refused : slotIs client timestamp digest slots ≡ false → slotTakes client timestamp (raised last slots) slots ≡ false
+      → afterPrepare client timestamp digest last slots ≡ refused 15
   unfolding afterPrepare guard
   prepare-refused e t = rw (e, t) refl
 
 prepare-tested : (replica : Replica) (verdicts : List ℕ) (client : ClientId) (timestamp : ℕ) (digest : List ℕ) (proof : Option PreparedProof) (last : Option WrittenProof)
-    (after : Outcome Register) → isClient client ≡ true → Passed (replica .f) (PREPARE client timestamp digest proof last) verdicts → isOwn client last ≡ true
-    → isTimestamp timestamp (successor (ofNumber (timestampOf proof)) client) ≡ true → afterPrepare client timestamp digest last (replica .register) ≡ after
+    (after : Outcome Slots) → isClient client ≡ true → Passed (replica .f) (PREPARE client timestamp digest proof last) verdicts → isOwn client last ≡ true
+    → isTimestamp timestamp (successor (ofNumber (timestampOf proof)) client) ≡ true → afterPrepare client timestamp digest last (replica .register .slots) ≡ after
     → onMessage replica verdicts (PREPARE client timestamp digest proof last)
-    ≡ (after >>= λ register. answering (PREPARED (replica .id) timestamp digest) (withRegister replica register))
+    ≡ (after >>= λ slots. answering (PREPARED (replica .id) timestamp digest) (withSlots replica slots))
 unfolding onMessage
 prepare-tested replica verdicts client timestamp digest proof last after from-client passed own next e =
     let request = PREPARE client timestamp digest proof last in
-    let replied : Outcome Register → Outcome Reply = λ outcome. outcome >>= λ register. answering (PREPARED (replica .id) timestamp digest) (withRegister replica register) in
-    let decided = afterPrepare client timestamp digest last (replica .register) in
+    let replied : Outcome Slots → Outcome Reply = λ outcome. outcome >>= λ slots. answering (PREPARED (replica .id) timestamp digest) (withSlots replica slots) in
+    let decided = afterPrepare client timestamp digest last (replica .register .slots) in
     let made = replied decided in
     guard-passes 6 (isClient client) (checked (replica .f) request verdicts (guard 12 (isOwn client last) (guard 13 is-next made))) from-client
     ∙ passed-checked (replica .f) request verdicts (guard 12 (isOwn client last) (guard 13 is-next made)) passed
@@ -134,10 +135,10 @@ prepare-tested replica verdicts client timestamp digest proof last after from-cl
 
 write-tested : (replica : Replica) (verdicts : List ℕ) (client : ClientId) (card : List ℕ) (proof : PreparedProof) → isClient client ≡ true
     → Passed (replica .f) (WRITE client card proof) verdicts → cardStands card (some proof) ≡ true
-    → onMessage replica verdicts (WRITE client card proof) ≡ answering (WRITTEN (replica .id) (proof .timestamp)) (withRegister replica (afterWrite card proof (replica .register)))
+    → onMessage replica verdicts (WRITE client card proof) ≡ answering (WRITTEN (replica .id) (proof .timestamp)) (withHeld replica (afterWrite card proof (replica .register .held)))
 unfolding onMessage
 write-tested replica verdicts client card proof from-client passed stands =
-    let made = answering (WRITTEN (replica .id) (proof .timestamp)) (withRegister replica (afterWrite card proof (replica .register))) in
+    let made = answering (WRITTEN (replica .id) (proof .timestamp)) (withHeld replica (afterWrite card proof (replica .register .held))) in
     guard-passes 6 (isClient client) (checked (replica .f) (WRITE client card proof) verdicts (guard 14 (cardStands card (some proof)) made)) from-client
     ∙ passed-checked (replica .f) (WRITE client card proof) verdicts (guard 14 (cardStands card (some proof)) made) passed
     ∙ guard-passes 14 (cardStands card (some proof)) made stands
@@ -158,50 +159,39 @@ first-passed f digest =
       written-issued = refl;
     }
 
-first-answered : (replica : Replica) (digest : List ℕ) (after : Outcome Register) → afterPrepare two 1·2 digest none (replica .register) ≡ after
-    → onMessage replica genuine (first digest) ≡ (after >>= λ register. answering (PREPARED (replica .id) 1·2 digest) (withRegister replica register))
+first-answered : (replica : Replica) (digest : List ℕ) (after : Outcome Slots) → afterPrepare two 1·2 digest none (replica .register .slots) ≡ after
+    → onMessage replica genuine (first digest) ≡ (after >>= λ slots. answering (PREPARED (replica .id) 1·2 digest) (withSlots replica slots))
 unfolding within
 first-answered replica digest after e = prepare-tested replica genuine two 1·2 digest none none after refl (first-passed (replica .f) digest) refl refl e
 
-module _ (replica : Replica) (a : List ℕ) (holds : SlotHolds (replica .register) a) where
+module _ (replica : Replica) (a : List ℕ) (holds : SlotHolds (replica .register .slots) a) where
   again : ReplicaFits replica → onMessage replica genuine (first a) ≡ answering (PREPARED (replica .id) 1·2 a) replica
   again fits =
-      let old = replica .register in
+      let old = replica .register .slots in
       let is : slotIs two 1·2 a old ≡ true = rw (eq-eqb (slotTimestamp old two) 1·2 (holds .timestamp), holds .digest-is) (same-itself a) in
       first-answered replica a (accepted (withWritten (number (old .written)) old)) (prepare-again two 1·2 a none old is)
-      ∙ ap (λ (written : Timestamp). answering (PREPARED (replica .id) 1·2 a) (withRegister replica (written-at written)))
-      (ofNumber-number (old .written) (fits .register-fits .written-fits .1))
+      ∙ ap (λ (written : Timestamp). answering (PREPARED (replica .id) 1·2 a) (withSlots replica (written-at written)))
+      (ofNumber-number (old .written) (fits .slots-fit .written-fits .1))
     where
-      written-at : Timestamp → Register
-      written-at written =
-          record {
-            counts = replica .register .counts;
-            digests = replica .register .digests;
-            written = written;
-            timestamp = replica .register .timestamp;
-            «card_length» = replica .register .«card_length»;
-            card = replica .register .card;
-            digest = replica .register .digest;
-            «entry_count» = replica .register .«entry_count»;
-            entries = replica .register .entries;
-          }
+      written-at : Timestamp → Slots
+      written-at written = record { counts = replica .register .slots .counts; digests = replica .register .slots .digests; written = written }
 
   other-refused : (b : List ℕ) → (a ≡ b → ⊥) → onMessage replica genuine (first b) ≡ refused 15
   other-refused b apart =
-      let old = replica .register in
+      let old = replica .register .slots in
       let stands = holds .timestamp in
       let is : slotIs two 1·2 b old ≡ false = rw (eq-eqb (slotTimestamp old two) 1·2 stands, holds .digest-is) (same-differ a b apart) in
       let takes : slotTakes two 1·2 (number (old .written)) old ≡ false =
       rw (ne-eqb (slotCount old two) 0 (omega arith), le-ltb (slotTimestamp old two) 1·2 (omega arith)) (and-false (leb (slotTimestamp old two) (number (old .written)))) in
       first-answered replica b (refused 15) (prepare-refused two 1·2 b none old is takes)
 
-  next-taken : Closed (replica .register) → (digest : List ℕ) (proof : PreparedProof) (last : Option WrittenProof) (verdicts : List ℕ) → proof .timestamp / 256 ≡ 1
+  next-taken : Closed (replica .register .slots) → (digest : List ℕ) (proof : PreparedProof) (last : Option WrittenProof) (verdicts : List ℕ) → proof .timestamp / 256 ≡ 1
       → Passed (replica .f) (PREPARE two 2·2 digest (some proof) last) verdicts → isOwn two last ≡ true
       → onMessage replica verdicts (PREPARE two 2·2 digest (some proof) last)
-      ≡ answering (PREPARED (replica .id) 2·2 digest) (withRegister replica (withWritten (raised last (replica .register)) (withSlot two 2·2 digest (replica .register))))
+      ≡ answering (PREPARED (replica .id) 2·2 digest) (withSlots replica (withWritten (raised last (replica .register .slots)) (withSlot two 2·2 digest (replica .register .slots))))
   unfolding within
   next-taken closed digest proof last verdicts count passed own =
-      let old = replica .register in
+      let old = replica .register .slots in
       let written = raised last old in
       let stands = holds .timestamp in
       let rises = raised-rises last old in
@@ -211,9 +201,9 @@ module _ (replica : Replica) (a : List ℕ) (holds : SlotHolds (replica .registe
       prepare-tested replica verdicts two 2·2 digest (some proof) last (accepted (withWritten written (withSlot two 2·2 digest old))) refl passed own (rw count refl)
       (prepare-new two 2·2 digest last old is takes)
 
-held-kept : (card : List ℕ) (proof : PreparedProof) (register : Register) → proof .timestamp ≡ heldTimestamp register → afterWrite card proof register ≡ register
+held-kept : (card : List ℕ) (proof : PreparedProof) (held : Held) → proof .timestamp ≡ heldTimestamp held → afterWrite card proof held ≡ held
 unfolding afterWrite
-held-kept card proof register e = rw (le-ltb (heldTimestamp register) (proof .timestamp) (omega arith)) refl
+held-kept card proof held e = rw (le-ltb (heldTimestamp held) (proof .timestamp) (omega arith)) refl
 
 pub examples : Examples
 unfolding readCard readFields table goodMap fromBytes within
@@ -231,5 +221,5 @@ examples =
       J = λ replica a b apart holds closed. (next-taken replica a holds closed, other-refused replica a holds b apart);
       K = λ replica client card proof verdicts from-client passed stands held.
           write-tested replica verdicts client card proof from-client passed stands
-          ∙ ap (λ (register : Register). answering (WRITTEN (replica .id) (proof .timestamp)) (withRegister replica register)) (held-kept card proof (replica .register) held);
+          ∙ ap (λ (held : Held). answering (WRITTEN (replica .id) (proof .timestamp)) (withHeld replica held)) (held-kept card proof (replica .register .held) held);
     }

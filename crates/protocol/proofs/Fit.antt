@@ -7,8 +7,9 @@ use Rattle.base.specs.BigEndian.{Bytes}
 use Rattle.base.specs.declared.timestamp.Timestamp.{Timestamp}
 use Rattle.wire.specs.Message.{IsDigest}
 use Rattle.protocol.specs.declared.client.Client.{Client}
-use Rattle.protocol.specs.declared.replica.Register.{Register}
+use Rattle.protocol.specs.declared.replica.Held.{Held}
 use Rattle.protocol.specs.declared.replica.Replica.{Replica}
+use Rattle.protocol.specs.declared.replica.Slots.{Slots}
 
 abbrev pub TimestampFits : Timestamp → Type 0
 TimestampFits t = (t .count < 2 ^ 32) × (t .client .0 < 256)
@@ -17,19 +18,22 @@ TimestampFits t = (t .count < 2 ^ 32) × (t .client .0 < 256)
 abbrev pub Array : ℕ → List ℕ → Type 0
 Array width bytes = (length bytes ≡ width) × Bytes bytes
 
-pub record RegisterFits (register : Register) : Type 0 where
-  pub counts-long : length (register .counts) ≡ 64
-  pub counts-fit : (i : ℕ) → getD (register .counts) i 0 < 2 ^ 32
-  pub digests-fit : Array 2048 (register .digests)
-  pub written-fits : TimestampFits (register .written)
-  pub timestamp-fits : TimestampFits (register .timestamp)
-  pub card-fits : Array 17 (register .card)
-  pub digest-fits : IsDigest (register .digest)
-  pub entries-fit : Array 715 (register .entries)
+pub record SlotsFit (slots : Slots) : Type 0 where
+  pub counts-long : length (slots .counts) ≡ 64
+  pub counts-fit : (i : ℕ) → getD (slots .counts) i 0 < 2 ^ 32
+  pub digests-fit : Array 2048 (slots .digests)
+  pub written-fits : TimestampFits (slots .written)
+
+pub record HeldFits (held : Held) : Type 0 where
+  pub timestamp-fits : TimestampFits (held .timestamp)
+  pub card-fits : Array 17 (held .card)
+  pub digest-fits : IsDigest (held .digest)
+  pub entries-fit : Array 715 (held .entries)
 
 pub record ReplicaFits (replica : Replica) : Type 0 where
   pub id-fits : replica .id .0 < 256
-  pub register-fits : RegisterFits (replica .register)
+  pub slots-fit : SlotsFit (replica .register .slots)
+  pub held-fits : HeldFits (replica .register .held)
 
 pub record ClientFits (client : Client) : Type 0 where
   pub id-fits : client .id .0 < 256

@@ -25,11 +25,12 @@ use Rattle.wire.specs.Message.{Message, READ-STAMP, PREPARE, WRITE, READ, STAMP
 use Rattle.wire.specs.Checks.{writtenOf, checked}
 use Rattle.wire.specs.Proof.{PreparedProof, WrittenProof}
 use Rattle.protocol.specs.Parts.{entriesIn, timestampOf, cardStands}
-use Rattle.protocol.specs.Replica.{Reply, heldTimestamp, heldProof, heldCard, slotCount, slotDigest, slotTimestamp, raised, withWritten, withSlot, withHeld, withRegister, slotIs, slotTakes, isOwn, isTimestamp, afterPrepare, afterWrite, answering, fromClient, onMessage}
-use Rattle.protocol.specs.declared.replica.Register.{Register}
+use Rattle.protocol.specs.Replica.{Reply, heldTimestamp, heldProof, heldCard, slotCount, slotDigest, slotTimestamp, raised, withWritten, withSlot, holding, withSlots, withHeld, slotIs, slotTakes, isOwn, isTimestamp, afterPrepare, afterWrite, answering, fromClient, onMessage}
+use Rattle.protocol.specs.declared.replica.Held.{Held}
 use Rattle.protocol.specs.declared.replica.Replica.{Replica}
+use Rattle.protocol.specs.declared.replica.Slots.{Slots}
 use Rattle.protocol.proofs.ArrayLaws.{replaced-length, replaced-bytes, replaced-here, replaced-before, replaced-behind, filled-fits, card-in-bytes, card-in-short, entries-in-length, entries-in-fit, entries-filled, issued-there, issued-timestamp, issued-size}
-use Rattle.protocol.proofs.Fit.{RegisterFits, ReplicaFits}
+use Rattle.protocol.proofs.Fit.{SlotsFit, HeldFits, ReplicaFits}
 use Rattle.protocol.proofs.Passed.{Passed, checked-passed}
 
 -- The client of a timestamp's number.
@@ -37,12 +38,12 @@ abbrev pub clientOf : ℕ → ClientId
 clientOf timestamp = ofNumber timestamp .client
 
 -- A slot is kept, or moves up.
-abbrev pub SlotRises : Register → Register → ClientId → Type 0
+abbrev pub SlotRises : Slots → Slots → ClientId → Type 0
 SlotRises before after client =
     ((slotCount after client ≡ slotCount before client) × (slotDigest after client ≡ slotDigest before client)) ⊎ (slotCount before client < slotCount after client)
 
 -- A slot that changed was unused or at most the written timestamp, and its new timestamp is the successor of the shown proof's or 1.client.
-abbrev pub SlotChange : Register → Register → Message → ClientId → Type 0
+abbrev pub SlotChange : Slots → Slots → Message → ClientId → Type 0
 SlotChange before after message client =
     (slotCount after client ≡ slotCount before client)
     ⊎ (((slotCount before client ≡ 0) ⊎ (slotTimestamp before client ≤ number (after .written)))
@@ -54,61 +55,61 @@ pub record ReplicaFacts (before : Replica) (verdicts : List ℕ) (message : Mess
   pub fits : ReplicaFits (reply .next)
   pub legal : Legal (reply .message)
   pub passed : Passed (before .f) message verdicts
-  pub held-rises : heldTimestamp (before .register) ≤ heldTimestamp (reply .next .register)
-  pub slots-rise : (client : ClientId) → 1 ≤ client .0 → client .0 ≤ 64 → SlotRises (before .register) (reply .next .register) client
+  pub held-rises : heldTimestamp (before .register .held) ≤ heldTimestamp (reply .next .register .held)
+  pub slots-rise : (client : ClientId) → 1 ≤ client .0 → client .0 ≤ 64 → SlotRises (before .register .slots) (reply .next .register .slots) client
   pub prepared-sent : (id : ReplicaId) (timestamp : ℕ) (digest : List ℕ) → reply .message ≡ PREPARED id timestamp digest
-      → (id ≡ before .id) × (isClient (clientOf timestamp) ≡ true) × (slotCount (reply .next .register) (clientOf timestamp) ≡ timestamp / 256)
-      × (slotDigest (reply .next .register) (clientOf timestamp) ≡ digest)
-  pub written-sent : (id : ReplicaId) (timestamp : ℕ) → reply .message ≡ WRITTEN id timestamp → (id ≡ before .id) × (timestamp ≤ heldTimestamp (reply .next .register))
+      → (id ≡ before .id) × (isClient (clientOf timestamp) ≡ true) × (slotCount (reply .next .register .slots) (clientOf timestamp) ≡ timestamp / 256)
+      × (slotDigest (reply .next .register .slots) (clientOf timestamp) ≡ digest)
+  pub written-sent : (id : ReplicaId) (timestamp : ℕ) → reply .message ≡ WRITTEN id timestamp → (id ≡ before .id) × (timestamp ≤ heldTimestamp (reply .next .register .held))
   pub stamp-sent : (id : ReplicaId) (nonce : ℕ) (proof : Option PreparedProof) (client : ClientId) → reply .message ≡ STAMP id nonce proof client
-      → (id ≡ before .id) × (proof ≡ heldProof (before .register)) × (message ≡ READ-STAMP client nonce)
+      → (id ≡ before .id) × (proof ≡ heldProof (before .register .held)) × (message ≡ READ-STAMP client nonce)
   pub card-sent : (id : ReplicaId) (nonce : ℕ) (card : List ℕ) (proof : Option PreparedProof) (client : ClientId) → reply .message ≡ CARD id nonce card proof client
-      → (id ≡ before .id) × (proof ≡ heldProof (before .register)) × (message ≡ READ client nonce)
+      → (id ≡ before .id) × (proof ≡ heldProof (before .register .held)) × (message ≡ READ client nonce)
   -- for #107 and #108
-  pub written-rises : number (before .register .written) ≤ number (reply .next .register .written)
-  pub written-shown : (number (reply .next .register .written) ≡ number (before .register .written))
-      ⊎ ((last : WrittenProof) × (writtenOf message ≡ some last) × (number (reply .next .register .written) ≡ last .timestamp))
-  pub slot-change : (client : ClientId) → 1 ≤ client .0 → client .0 ≤ 64 → SlotChange (before .register) (reply .next .register) message client
+  pub written-rises : number (before .register .slots .written) ≤ number (reply .next .register .slots .written)
+  pub written-shown : (number (reply .next .register .slots .written) ≡ number (before .register .slots .written))
+      ⊎ ((last : WrittenProof) × (writtenOf message ≡ some last) × (number (reply .next .register .slots .written) ≡ last .timestamp))
+  pub slot-change : (client : ClientId) → 1 ≤ client .0 → client .0 ≤ 64 → SlotChange (before .register .slots) (reply .next .register .slots) message client
 
 -- ---- What a register shows
 
-heldRecord : Register → PreparedProof
-heldRecord register = record { timestamp = heldTimestamp register; digest = register .digest; entries = entriesIn (register .entries) (register .«entry_count») }
+heldRecord : Held → PreparedProof
+heldRecord held = record { timestamp = heldTimestamp held; digest = held .digest; entries = entriesIn (held .entries) (held .«entry_count») }
 
 -- The timestamp that a register shows is the one it holds.
-pub held-shown : (register : Register) → timestampOf (heldProof register) ≡ heldTimestamp register
+pub held-shown : (held : Held) → timestampOf (heldProof held) ≡ heldTimestamp held
 unfolding heldRecord
-held-shown register = issued-timestamp (heldTimestamp register) (heldRecord register) refl
+held-shown held = issued-timestamp (heldTimestamp held) (heldRecord held) refl
 
-module _ (register : Register) (fits : RegisterFits register) where
-  held-fits : IfThere PreparedFits (heldProof register)
+module _ (held : Held) (fits : HeldFits held) where
+  held-fits : IfThere PreparedFits (heldProof held)
   unfolding heldRecord
   held-fits =
-      issued-there (heldTimestamp register) (heldRecord register) PreparedFits
-      (omega arith, fits .digest-fits, entries-in-fit (register .entries) (register .«entry_count») (fits .entries-fit))
+      issued-there (heldTimestamp held) (heldRecord held) PreparedFits
+      (omega arith, fits .digest-fits, entries-in-fit (held .entries) (held .«entry_count») (fits .entries-fit))
 
-  held-size : preparedSize (heldProof register) ≤ 753
+  held-size : preparedSize (heldProof held) ≤ 753
   unfolding heldRecord
-  held-size = omega (arith, issued-size (heldTimestamp register) (heldRecord register), entries-in-length (register .entries) (register .«entry_count»))
+  held-size = omega (arith, issued-size (heldTimestamp held) (heldRecord held), entries-in-length (held .entries) (held .«entry_count»))
 
-  held-card-fits : CardFits (heldCard register)
-  held-card-fits = (omega (arith, card-in-short (register .card) (register .«card_length»)), card-in-bytes (register .card) (register .«card_length») (fits .card-fits .1))
+  held-card-fits : CardFits (heldCard held)
+  held-card-fits = (omega (arith, card-in-short (held .card) (held .«card_length»)), card-in-bytes (held .card) (held .«card_length») (fits .card-fits .1))
 
 -- ---- Replies are legal
 
 module _ (replica : Replica) (fits : ReplicaFits replica) (nonce : ℕ) (client : ClientId) (nonce-fits : nonce < 2 ^ 64) (client-fits : client .0 < 256) where
-  stamp-legal : Legal (STAMP (replica .id) nonce (heldProof (replica .register)) client)
+  stamp-legal : Legal (STAMP (replica .id) nonce (heldProof (replica .register .held)) client)
   unfolding Fits size
   stamp-legal =
-      record { fits = (fits .id-fits, nonce-fits, held-fits (replica .register) (fits .register-fits), client-fits); short = omega (arith, held-size (replica .register) (fits .register-fits)) }
+      record { fits = (fits .id-fits, nonce-fits, held-fits (replica .register .held) (fits .held-fits), client-fits); short = omega (arith, held-size (replica .register .held) (fits .held-fits)) }
 
-  card-legal : Legal (CARD (replica .id) nonce (heldCard (replica .register)) (heldProof (replica .register)) client)
+  card-legal : Legal (CARD (replica .id) nonce (heldCard (replica .register .held)) (heldProof (replica .register .held)) client)
   unfolding Fits size
   card-legal =
       record {
-        fits = (fits .id-fits, nonce-fits, held-card-fits (replica .register) (fits .register-fits), held-fits (replica .register) (fits .register-fits), client-fits);
+        fits = (fits .id-fits, nonce-fits, held-card-fits (replica .register .held) (fits .held-fits), held-fits (replica .register .held) (fits .held-fits), client-fits);
         short =
-            omega (arith, held-size (replica .register) (fits .register-fits), card-in-short (replica .register .card) (replica .register .«card_length»));
+            omega (arith, held-size (replica .register .held) (fits .held-fits), card-in-short (replica .register .held .card) (replica .register .held .«card_length»));
       }
 
 prepared-legal : (id : ReplicaId) (timestamp : ℕ) (digest : List ℕ) → id .0 < 256 → timestamp < 2 ^ 40 → IsDigest digest → Legal (PREPARED id timestamp digest)
@@ -123,7 +124,7 @@ written-legal id timestamp hi ht = record { fits = (hi, ht); short = omega arith
 
 stamp-facts : (before : Replica) (verdicts : List ℕ) (client : ClientId) (nonce : ℕ) → ReplicaFits before → Fits (READ-STAMP client nonce)
     → Passed (before .f) (READ-STAMP client nonce) verdicts
-    → ReplicaFacts before verdicts (READ-STAMP client nonce) (record { message = STAMP (before .id) nonce (heldProof (before .register)) client; next = before })
+    → ReplicaFacts before verdicts (READ-STAMP client nonce) (record { message = STAMP (before .id) nonce (heldProof (before .register .held)) client; next = before })
 unfolding Fits
 stamp-facts before verdicts client nonce fits message-fits passed =
     record {
@@ -144,7 +145,7 @@ stamp-facts before verdicts client nonce fits message-fits passed =
     }
 
 card-facts : (before : Replica) (verdicts : List ℕ) (client : ClientId) (nonce : ℕ) → ReplicaFits before → Fits (READ client nonce) → Passed (before .f) (READ client nonce) verdicts
-    → ReplicaFacts before verdicts (READ client nonce) (record { message = CARD (before .id) nonce (heldCard (before .register)) (heldProof (before .register)) client; next = before })
+    → ReplicaFacts before verdicts (READ client nonce) (record { message = CARD (before .id) nonce (heldCard (before .register .held)) (heldProof (before .register .held)) client; next = before })
 unfolding Fits
 card-facts before verdicts client nonce fits message-fits passed =
     record {
@@ -168,148 +169,134 @@ card-facts before verdicts client nonce fits message-fits passed =
 
 module _ (before : Replica) (verdicts : List ℕ) (client : ClientId) (card : List ℕ) (proof : PreparedProof) (fits : ReplicaFits before)
     (message-fits : Fits (WRITE client card proof)) (passed : Passed (before .f) (WRITE client card proof) verdicts) where
-  -- WRITTEN, with slots and written timestamp as they were.
-  wrote : (after : Register) → RegisterFits after → after .counts ≡ before .register .counts → after .digests ≡ before .register .digests → after .written ≡ before .register .written
-      → heldTimestamp (before .register) ≤ heldTimestamp after → proof .timestamp ≤ heldTimestamp after
-      → ReplicaFacts before verdicts (WRITE client card proof) (record { message = WRITTEN (before .id) (proof .timestamp); next = withRegister before after })
+  -- WRITTEN, with what is held afterwards; the slots are as they were.
+  wrote : (after : Held) → HeldFits after → heldTimestamp (before .register .held) ≤ heldTimestamp after → proof .timestamp ≤ heldTimestamp after
+      → ReplicaFacts before verdicts (WRITE client card proof) (record { message = WRITTEN (before .id) (proof .timestamp); next = withHeld before after })
   unfolding Fits
-  wrote after after-fits counts digests written rises holds =
+  wrote after after-fits rises holds =
       record {
         same-f = refl;
         same-id = refl;
-        fits = record { id-fits = fits .id-fits; register-fits = after-fits };
+        fits = record { id-fits = fits .id-fits; slots-fit = fits .slots-fit; held-fits = after-fits };
         legal = written-legal (before .id) (proof .timestamp) (fits .id-fits) (message-fits .2 .0);
         passed = passed;
         held-rises = rises;
-        slots-rise = λ c low high. inl (cc, cc);
+        slots-rise = λ c low high. inl (refl, refl);
         prepared-sent = λ id timestamp digest e. let z : _≡_ {A = ℕ} 0 1 = cc in absurd (omega arith);
         written-sent = λ id timestamp e. (cc, let z : proof .timestamp ≡ timestamp = cc in omega arith);
         stamp-sent = λ id asked proof c e. let z : _≡_ {A = ℕ} 0 1 = cc in absurd (omega arith);
         card-sent = λ id asked card proof c e. let z : _≡_ {A = ℕ} 0 1 = cc in absurd (omega arith);
-        written-rises = let same : number (after .written) ≡ number (before .register .written) = cc in omega arith;
-        written-shown = inl (cc);
-        slot-change = λ c low high. inl (cc);
+        written-rises = omega arith;
+        written-shown = inl refl;
+        slot-change = λ c low high. inl refl;
       }
 
-  held-new-fits : RegisterFits (withHeld card proof (before .register))
+  holding-fits : HeldFits (holding card proof)
   unfolding Fits
-  held-new-fits =
-      let old = fits .register-fits in
+  holding-fits =
       record {
-        counts-long = old .counts-long;
-        counts-fit = old .counts-fit;
-        digests-fit = old .digests-fit;
-        written-fits = old .written-fits;
         timestamp-fits = let small = message-fits .2 .0 in omega arith;
         card-fits = filled-fits 17 card (message-fits .1 .1);
         digest-fits = message-fits .2 .1;
         entries-fit = entries-filled (proof .entries) (message-fits .2 .2 .1);
       }
 
-  write-facts : ReplicaFacts before verdicts (WRITE client card proof) (record { message = WRITTEN (before .id) (proof .timestamp); next = withRegister before (afterWrite card proof (before .register)) })
+  write-facts : ReplicaFacts before verdicts (WRITE client card proof) (record { message = WRITTEN (before .id) (proof .timestamp); next = withHeld before (afterWrite card proof (before .register .held)) })
   unfolding afterWrite
-  write-facts = go (ltb (heldTimestamp (before .register)) (proof .timestamp)) refl
+  write-facts = go (ltb (heldTimestamp (before .register .held)) (proof .timestamp)) refl
     where
-      go : (b : Bool) → ltb (heldTimestamp (before .register)) (proof .timestamp) ≡ b
-          → ReplicaFacts before verdicts (WRITE client card proof) (record { message = WRITTEN (before .id) (proof .timestamp); next = withRegister before (cond b (withHeld card proof (before .register)) (before .register)) })
+      go : (b : Bool) → ltb (heldTimestamp (before .register .held)) (proof .timestamp) ≡ b
+          → ReplicaFacts before verdicts (WRITE client card proof) (record { message = WRITTEN (before .id) (proof .timestamp); next = withHeld before (cond b (holding card proof) (before .register .held)) })
       go true larger =
-          let l = ltb-true (heldTimestamp (before .register)) (proof .timestamp) larger in
-          wrote (withHeld card proof (before .register)) held-new-fits refl refl refl (omega arith) (omega arith)
+          let l = ltb-true (heldTimestamp (before .register .held)) (proof .timestamp) larger in
+          wrote (holding card proof) holding-fits (omega arith) (omega arith)
       go false larger =
-          let l = ltb-false (heldTimestamp (before .register)) (proof .timestamp) larger in
-          wrote (before .register) (fits .register-fits) refl refl refl (omega arith) l
+          let l = ltb-false (heldTimestamp (before .register .held)) (proof .timestamp) larger in
+          wrote (before .register .held) (fits .held-fits) (omega arith) l
 
 -- ---- PREPARE
 
 -- The written timestamp with a proof shown: the larger one.
-module _ (last : Option WrittenProof) (register : Register) where
-  pub raised-rises : number (register .written) ≤ raised last register
+module _ (last : Option WrittenProof) (slots : Slots) where
+  pub raised-rises : number (slots .written) ≤ raised last slots
   raised-rises = go last
     where
-      go : (last : Option WrittenProof) → number (register .written) ≤ raised last register
+      go : (last : Option WrittenProof) → number (slots .written) ≤ raised last slots
       go none = omega arith
       go (some proof) = omega arith
 
-  raised-fits : RegisterFits register → IfThere WrittenFits last → raised last register < 2 ^ 40
+  raised-fits : SlotsFit slots → IfThere WrittenFits last → raised last slots < 2 ^ 40
   raised-fits fits h = go last h
     where
-      go : (last : Option WrittenProof) → IfThere WrittenFits last → raised last register < 2 ^ 40
+      go : (last : Option WrittenProof) → IfThere WrittenFits last → raised last slots < 2 ^ 40
       go none h = let old = fits .written-fits in omega arith
       go (some proof) h = let old = fits .written-fits in omega arith
 
-  raised-shown : (raised last register ≡ number (register .written)) ⊎ ((shown : WrittenProof) × (last ≡ some shown) × (raised last register ≡ shown .timestamp))
+  raised-shown : (raised last slots ≡ number (slots .written)) ⊎ ((shown : WrittenProof) × (last ≡ some shown) × (raised last slots ≡ shown .timestamp))
   raised-shown = go last
     where
-      go : (last : Option WrittenProof) → (raised last register ≡ number (register .written)) ⊎ ((shown : WrittenProof) × (last ≡ some shown) × (raised last register ≡ shown .timestamp))
+      go : (last : Option WrittenProof) → (raised last slots ≡ number (slots .written)) ⊎ ((shown : WrittenProof) × (last ≡ some shown) × (raised last slots ≡ shown .timestamp))
       go none = inl refl
-      go (some proof) = larger (ltb (number (register .written)) (proof .timestamp)) refl
+      go (some proof) = larger (ltb (number (slots .written)) (proof .timestamp)) refl
         where
-          larger : (b : Bool) → ltb (number (register .written)) (proof .timestamp) ≡ b
-              → (raised (some proof) register ≡ number (register .written)) ⊎ ((shown : WrittenProof) × (some proof ≡ some shown) × (raised (some proof) register ≡ shown .timestamp))
-          larger true e = let l = ltb-true (number (register .written)) (proof .timestamp) e in inr (proof, refl, omega arith)
-          larger false e = let l = ltb-false (number (register .written)) (proof .timestamp) e in inl (omega arith)
+          larger : (b : Bool) → ltb (number (slots .written)) (proof .timestamp) ≡ b
+              → (raised (some proof) slots ≡ number (slots .written)) ⊎ ((shown : WrittenProof) × (some proof ≡ some shown) × (raised (some proof) slots ≡ shown .timestamp))
+          larger true e = let l = ltb-true (number (slots .written)) (proof .timestamp) e in inr (proof, refl, omega arith)
+          larger false e = let l = ltb-false (number (slots .written)) (proof .timestamp) e in inl (omega arith)
 
-written-new-fits : (written : ℕ) (register : Register) → RegisterFits register → written < 2 ^ 40 → RegisterFits (withWritten written register)
-written-new-fits written register fits h =
+written-new-fits : (written : ℕ) (slots : Slots) → SlotsFit slots → written < 2 ^ 40 → SlotsFit (withWritten written slots)
+written-new-fits written slots fits h =
     record {
       counts-long = fits .counts-long;
       counts-fit = fits .counts-fit;
       digests-fit = fits .digests-fit;
       written-fits = omega arith;
-      timestamp-fits = fits .timestamp-fits;
-      card-fits = fits .card-fits;
-      digest-fits = fits .digest-fits;
-      entries-fit = fits .entries-fit;
     }
 
 -- A slot that was put has its timestamp's count and its digest; the others are as they were.
-module _ (register : Register) (fits : RegisterFits register) (client : ClientId) (timestamp : ℕ) (digest : List ℕ) (low : 1 ≤ client .0) (high : client .0 ≤ 64) (is-digest : IsDigest digest) where
-  put-count : slotCount (withSlot client timestamp digest register) client ≡ timestamp / 256
-  put-count = getD-set-same (register .counts) (client .0 - 1) (timestamp / 256) 0 (omega (arith, fits .counts-long))
+module _ (slots : Slots) (fits : SlotsFit slots) (client : ClientId) (timestamp : ℕ) (digest : List ℕ) (low : 1 ≤ client .0) (high : client .0 ≤ 64) (is-digest : IsDigest digest) where
+  put-count : slotCount (withSlot client timestamp digest slots) client ≡ timestamp / 256
+  put-count = getD-set-same (slots .counts) (client .0 - 1) (timestamp / 256) 0 (omega (arith, fits .counts-long))
 
-  put-digest : slotDigest (withSlot client timestamp digest register) client ≡ digest
+  put-digest : slotDigest (withSlot client timestamp digest slots) client ≡ digest
   put-digest =
       let long = fits .digests-fit .0 in
-      replaced-here (32 * (client .0 - 1)) (32 * client .0) digest (register .digests) (omega arith) (omega arith) 32 (is-digest .0)
+      replaced-here (32 * (client .0 - 1)) (32 * client .0) digest (slots .digests) (omega arith) (omega arith) 32 (is-digest .0)
 
   put-other : (c : ClientId) → 1 ≤ c .0 → (c .0 ≡ client .0 → ⊥)
-      → (slotCount (withSlot client timestamp digest register) c ≡ slotCount register c) × (slotDigest (withSlot client timestamp digest register) c ≡ slotDigest register c)
+      → (slotCount (withSlot client timestamp digest slots) c ≡ slotCount slots c) × (slotDigest (withSlot client timestamp digest slots) c ≡ slotDigest slots c)
   put-other c c-low apart =
-      (getD-set-other (register .counts) (client .0 - 1) (c .0 - 1) (timestamp / 256) 0 (omega arith), go (ltb (c .0) (client .0)) refl)
+      (getD-set-other (slots .counts) (client .0 - 1) (c .0 - 1) (timestamp / 256) 0 (omega arith), go (ltb (c .0) (client .0)) refl)
     where
-      go : (b : Bool) → ltb (c .0) (client .0) ≡ b → slotDigest (withSlot client timestamp digest register) c ≡ slotDigest register c
+      go : (b : Bool) → ltb (c .0) (client .0) ≡ b → slotDigest (withSlot client timestamp digest slots) c ≡ slotDigest slots c
       go true e =
           let l = ltb-true (c .0) (client .0) e in
           let long = fits .digests-fit .0 in
-          replaced-before (32 * (client .0 - 1)) (32 * client .0) digest (register .digests) (omega arith) (omega arith) 32 (32 * (c .0 - 1)) (omega arith)
+          replaced-before (32 * (client .0 - 1)) (32 * client .0) digest (slots .digests) (omega arith) (omega arith) 32 (32 * (c .0 - 1)) (omega arith)
       go false e =
           let l = ltb-false (c .0) (client .0) e in
           let long = fits .digests-fit .0 in
-          replaced-behind (32 * (client .0 - 1)) (32 * client .0) digest (register .digests) (omega arith) (omega arith) 32 (32 * (c .0 - 1)) (omega arith)
+          replaced-behind (32 * (client .0 - 1)) (32 * client .0) digest (slots .digests) (omega arith) (omega arith) 32 (32 * (c .0 - 1)) (omega arith)
 
-  put-counts-fit : timestamp < 2 ^ 40 → (i : ℕ) → getD (set (register .counts) (client .0 - 1) (timestamp / 256)) i 0 < 2 ^ 32
+  put-counts-fit : timestamp < 2 ^ 40 → (i : ℕ) → getD (set (slots .counts) (client .0 - 1) (timestamp / 256)) i 0 < 2 ^ 32
   put-counts-fit small i = go (eqb i (client .0 - 1)) refl
     where
-      go : (b : Bool) → eqb i (client .0 - 1) ≡ b → getD (set (register .counts) (client .0 - 1) (timestamp / 256)) i 0 < 2 ^ 32
+      go : (b : Bool) → eqb i (client .0 - 1) ≡ b → getD (set (slots .counts) (client .0 - 1) (timestamp / 256)) i 0 < 2 ^ 32
       go true e = let here = eqb-true i (client .0 - 1) e in rw (here, put-count) (omega arith)
-      go false e = rw (getD-set-other (register .counts) (client .0 - 1) i (timestamp / 256) 0 (eqb-false i (client .0 - 1) e)) (fits .counts-fit i)
+      go false e = rw (getD-set-other (slots .counts) (client .0 - 1) i (timestamp / 256) 0 (eqb-false i (client .0 - 1) e)) (fits .counts-fit i)
 
-  put-fits : timestamp < 2 ^ 40 → RegisterFits (withSlot client timestamp digest register)
+  put-fits : timestamp < 2 ^ 40 → SlotsFit (withSlot client timestamp digest slots)
   put-fits small =
       let long = fits .digests-fit .0 in
       let wide = is-digest .0 in
       record {
-        counts-long = length-set (register .counts) (client .0 - 1) (timestamp / 256) ∙ fits .counts-long;
+        counts-long = length-set (slots .counts) (client .0 - 1) (timestamp / 256) ∙ fits .counts-long;
         counts-fit = put-counts-fit small;
         digests-fit = (
-          replaced-length (32 * (client .0 - 1)) (32 * client .0) digest (register .digests) (omega arith) (omega arith) ∙ long,
-          replaced-bytes (32 * (client .0 - 1)) (32 * client .0) digest (register .digests) (omega arith) (omega arith) (is-digest .1) (fits .digests-fit .1),
+          replaced-length (32 * (client .0 - 1)) (32 * client .0) digest (slots .digests) (omega arith) (omega arith) ∙ long,
+          replaced-bytes (32 * (client .0 - 1)) (32 * client .0) digest (slots .digests) (omega arith) (omega arith) (is-digest .1) (fits .digests-fit .1),
         );
         written-fits = fits .written-fits;
-        timestamp-fits = fits .timestamp-fits;
-        card-fits = fits .card-fits;
-        digest-fits = fits .digest-fits;
-        entries-fit = fits .entries-fit;
       }
 
 -- What 13 lets through: a successor's number.
@@ -325,17 +312,17 @@ or-cases true b e = inl refl
 or-cases false b e = inr e
 
 -- An unused slot, or one that the written timestamp closed, below the new timestamp.
-takes-cases : (client : ClientId) (timestamp written : ℕ) (register : Register) → slotTakes client timestamp written register ≡ true
-    → (slotCount register client ≡ 0) ⊎ ((slotTimestamp register client ≤ written) × (slotTimestamp register client < timestamp))
-takes-cases client timestamp written register e =
-    ⊎-elim (λ unused. inl (eqb-true (slotCount register client) 0 unused)) (λ closed. inr (both closed))
-    (or-cases (eqb (slotCount register client) 0) (leb (slotTimestamp register client) written && ltb (slotTimestamp register client) timestamp) e)
+takes-cases : (client : ClientId) (timestamp written : ℕ) (slots : Slots) → slotTakes client timestamp written slots ≡ true
+    → (slotCount slots client ≡ 0) ⊎ ((slotTimestamp slots client ≤ written) × (slotTimestamp slots client < timestamp))
+takes-cases client timestamp written slots e =
+    ⊎-elim (λ unused. inl (eqb-true (slotCount slots client) 0 unused)) (λ closed. inr (both closed))
+    (or-cases (eqb (slotCount slots client) 0) (leb (slotTimestamp slots client) written && ltb (slotTimestamp slots client) timestamp) e)
   where
-    both : (leb (slotTimestamp register client) written && ltb (slotTimestamp register client) timestamp) ≡ true
-        → (slotTimestamp register client ≤ written) × (slotTimestamp register client < timestamp)
+    both : (leb (slotTimestamp slots client) written && ltb (slotTimestamp slots client) timestamp) ≡ true
+        → (slotTimestamp slots client ≤ written) × (slotTimestamp slots client < timestamp)
     both k =
-        let b = and-true-both (leb (slotTimestamp register client) written) (ltb (slotTimestamp register client) timestamp) k in
-        (leb-true (slotTimestamp register client) written (b .0), ltb-true (slotTimestamp register client) timestamp (b .1))
+        let b = and-true-both (leb (slotTimestamp slots client) written) (ltb (slotTimestamp slots client) timestamp) k in
+        (leb-true (slotTimestamp slots client) written (b .0), ltb-true (slotTimestamp slots client) timestamp (b .1))
 
 -- A client is this one, or has another number.
 for-each : (P : ClientId → Type 0) (client c : ClientId) → P client → ((c .0 ≡ client .0 → ⊥) → P c) → P c
@@ -360,21 +347,21 @@ module _ (before : Replica) (verdicts : List ℕ) (client : ClientId) (timestamp
   own-count : 1 ≤ timestamp / 256
   own-count = omega (arith, next-number timestamp (ofNumber (timestampOf proof)) client is-next)
 
-  -- PREPARED, with the slot's timestamp and digest, and what is held as it was.
-  prepared : (after : Register) → RegisterFits after → after .timestamp ≡ before .register .timestamp → number (after .written) ≡ raised last (before .register)
-      → ((c : ClientId) → 1 ≤ c .0 → c .0 ≤ 64 → SlotRises (before .register) after c)
+  -- PREPARED, with the slots afterwards; what is held is as it was.
+  prepared : (after : Slots) → SlotsFit after → number (after .written) ≡ raised last (before .register .slots)
+      → ((c : ClientId) → 1 ≤ c .0 → c .0 ≤ 64 → SlotRises (before .register .slots) after c)
       → slotCount after client ≡ timestamp / 256 → slotDigest after client ≡ digest
-      → ((c : ClientId) → 1 ≤ c .0 → c .0 ≤ 64 → SlotChange (before .register) after (PREPARE client timestamp digest proof last) c)
-      → ReplicaFacts before verdicts (PREPARE client timestamp digest proof last) (record { message = PREPARED (before .id) timestamp digest; next = withRegister before after })
+      → ((c : ClientId) → 1 ≤ c .0 → c .0 ≤ 64 → SlotChange (before .register .slots) after (PREPARE client timestamp digest proof last) c)
+      → ReplicaFacts before verdicts (PREPARE client timestamp digest proof last) (record { message = PREPARED (before .id) timestamp digest; next = withSlots before after })
   unfolding Fits
-  prepared after after-fits held written rise count-is digest-is change =
+  prepared after after-fits written rise count-is digest-is change =
       record {
         same-f = refl;
         same-id = refl;
-        fits = record { id-fits = fits .id-fits; register-fits = after-fits };
+        fits = record { id-fits = fits .id-fits; slots-fit = after-fits; held-fits = fits .held-fits };
         legal = prepared-legal (before .id) timestamp digest (fits .id-fits) (message-fits .1) (message-fits .2);
         passed = passed;
-        held-rises = let same : heldTimestamp after ≡ heldTimestamp (before .register) = cc in omega arith;
+        held-rises = omega arith;
         slots-rise = rise;
         prepared-sent = λ id t d e.
             let same-t : t ≡ timestamp = cc in
@@ -384,100 +371,100 @@ module _ (before : Replica) (verdicts : List ℕ) (client : ClientId) (timestamp
         written-sent = λ id t e. let z : _≡_ {A = ℕ} 0 1 = cc in absurd (omega arith);
         stamp-sent = λ id asked shown c e. let z : _≡_ {A = ℕ} 0 1 = cc in absurd (omega arith);
         card-sent = λ id asked card shown c e. let z : _≡_ {A = ℕ} 0 1 = cc in absurd (omega arith);
-        written-rises = omega (arith, raised-rises last (before .register));
-        written-shown = rw written (raised-shown last (before .register));
+        written-rises = omega (arith, raised-rises last (before .register .slots));
+        written-shown = rw written (raised-shown last (before .register .slots));
         slot-change = change;
       }
 
-  written-fits : raised last (before .register) < 2 ^ 40
+  written-fits : raised last (before .register .slots) < 2 ^ 40
   unfolding Fits
-  written-fits = raised-fits last (before .register) (fits .register-fits) (message-fits .4)
+  written-fits = raised-fits last (before .register .slots) (fits .slots-fit) (message-fits .4)
 
   -- The slot has timestamp and digest already.
-  prepared-again : slotIs client timestamp digest (before .register) ≡ true
+  prepared-again : slotIs client timestamp digest (before .register .slots) ≡ true
       → ReplicaFacts before verdicts (PREPARE client timestamp digest proof last)
-      (record { message = PREPARED (before .id) timestamp digest; next = withRegister before (withWritten (raised last (before .register)) (before .register)) })
+      (record { message = PREPARED (before .id) timestamp digest; next = withSlots before (withWritten (raised last (before .register .slots)) (before .register .slots)) })
   prepared-again e =
-      let both = and-true-both (eqb (slotTimestamp (before .register) client) timestamp) (same (slotDigest (before .register) client) digest) e in
-      let stands = eqb-true (slotTimestamp (before .register) client) timestamp (both .0) in
+      let both = and-true-both (eqb (slotTimestamp (before .register .slots) client) timestamp) (same (slotDigest (before .register .slots) client) digest) e in
+      let stands = eqb-true (slotTimestamp (before .register .slots) client) timestamp (both .0) in
       let high = sender-high in
-      prepared (withWritten (raised last (before .register)) (before .register))
-      (written-new-fits (raised last (before .register)) (before .register) (fits .register-fits) written-fits)
-      refl (omega arith) (λ c l h. inl (refl, refl)) (omega arith) (same-equal (slotDigest (before .register) client) digest (both .1)) (λ c l h. inl refl)
+      prepared (withWritten (raised last (before .register .slots)) (before .register .slots))
+      (written-new-fits (raised last (before .register .slots)) (before .register .slots) (fits .slots-fit) written-fits)
+      (omega arith) (λ c l h. inl (refl, refl)) (omega arith) (same-equal (slotDigest (before .register .slots) client) digest (both .1)) (λ c l h. inl refl)
 
   -- The slot takes them.
-  module _ (takes : slotTakes client timestamp (raised last (before .register)) (before .register) ≡ true) where
-    after-put : Register
-    after-put = withWritten (raised last (before .register)) (withSlot client timestamp digest (before .register))
+  module _ (takes : slotTakes client timestamp (raised last (before .register .slots)) (before .register .slots) ≡ true) where
+    after-put : Slots
+    after-put = withWritten (raised last (before .register .slots)) (withSlot client timestamp digest (before .register .slots))
 
     is-digest : IsDigest digest
     unfolding Fits
     is-digest = message-fits .2
 
-    cases : (slotCount (before .register) client ≡ 0)
-        ⊎ ((slotTimestamp (before .register) client ≤ raised last (before .register)) × (slotTimestamp (before .register) client < timestamp))
-    cases = takes-cases client timestamp (raised last (before .register)) (before .register) takes
+    cases : (slotCount (before .register .slots) client ≡ 0)
+        ⊎ ((slotTimestamp (before .register .slots) client ≤ raised last (before .register .slots)) × (slotTimestamp (before .register .slots) client < timestamp))
+    cases = takes-cases client timestamp (raised last (before .register .slots)) (before .register .slots) takes
 
     count-put : slotCount after-put client ≡ timestamp / 256
     unfolding after-put
-    count-put = put-count (before .register) (fits .register-fits) client timestamp digest sender-low sender-high is-digest
+    count-put = put-count (before .register .slots) (fits .slots-fit) client timestamp digest sender-low sender-high is-digest
 
     digest-put : slotDigest after-put client ≡ digest
     unfolding after-put
-    digest-put = put-digest (before .register) (fits .register-fits) client timestamp digest sender-low sender-high is-digest
+    digest-put = put-digest (before .register .slots) (fits .slots-fit) client timestamp digest sender-low sender-high is-digest
 
     others-kept : (c : ClientId) → 1 ≤ c .0 → (c .0 ≡ client .0 → ⊥)
-        → (slotCount after-put c ≡ slotCount (before .register) c) × (slotDigest after-put c ≡ slotDigest (before .register) c)
+        → (slotCount after-put c ≡ slotCount (before .register .slots) c) × (slotDigest after-put c ≡ slotDigest (before .register .slots) c)
     unfolding after-put
-    others-kept = put-other (before .register) (fits .register-fits) client timestamp digest sender-low sender-high is-digest
+    others-kept = put-other (before .register .slots) (fits .slots-fit) client timestamp digest sender-low sender-high is-digest
 
-    count-rises : slotCount (before .register) client < slotCount after-put client
+    count-rises : slotCount (before .register .slots) client < slotCount after-put client
     count-rises =
         rw count-put
-        (⊎-elim {C = slotCount (before .register) client < timestamp / 256} (λ unused. omega (arith, own-count))
+        (⊎-elim {C = slotCount (before .register .slots) client < timestamp / 256} (λ unused. omega (arith, own-count))
         (λ closed. omega (arith, own-client, sender-high)) cases)
 
-    sender-change : SlotChange (before .register) after-put (PREPARE client timestamp digest proof last) client
+    sender-change : SlotChange (before .register .slots) after-put (PREPARE client timestamp digest proof last) client
     unfolding after-put
     sender-change =
         let own = own-client in
         let put : slotTimestamp after-put client ≡ timestamp = omega (arith, count-put) in
         inr (⊎-elim (λ unused. inl unused) (λ closed. inr (omega arith)) cases, (digest, proof, last, rw put refl))
 
-    prepared-new : ReplicaFacts before verdicts (PREPARE client timestamp digest proof last) (record { message = PREPARED (before .id) timestamp digest; next = withRegister before after-put })
+    prepared-new : ReplicaFacts before verdicts (PREPARE client timestamp digest proof last) (record { message = PREPARED (before .id) timestamp digest; next = withSlots before after-put })
     unfolding Fits after-put
     prepared-new =
         prepared after-put
-        (written-new-fits (raised last (before .register)) (withSlot client timestamp digest (before .register))
-        (put-fits (before .register) (fits .register-fits) client timestamp digest sender-low sender-high is-digest (message-fits .1)) written-fits)
-        refl (omega arith)
-        (λ c low high. for-each (λ c. SlotRises (before .register) after-put c) client c (inr count-rises) (λ other. inl (others-kept c low other)))
+        (written-new-fits (raised last (before .register .slots)) (withSlot client timestamp digest (before .register .slots))
+        (put-fits (before .register .slots) (fits .slots-fit) client timestamp digest sender-low sender-high is-digest (message-fits .1)) written-fits)
+        (omega arith)
+        (λ c low high. for-each (λ c. SlotRises (before .register .slots) after-put c) client c (inr count-rises) (λ other. inl (others-kept c low other)))
         count-put digest-put
-        (λ c low high. for-each (λ c. SlotChange (before .register) after-put (PREPARE client timestamp digest proof last) c) client c sender-change (λ other. inl (others-kept c low other .0)))
+        (λ c low high. for-each (λ c. SlotChange (before .register .slots) after-put (PREPARE client timestamp digest proof last) c) client c sender-change (λ other. inl (others-kept c low other .0)))
 
-  prepare-facts : (after : Register) → afterPrepare client timestamp digest last (before .register) ≡ accepted after
-      → ReplicaFacts before verdicts (PREPARE client timestamp digest proof last) (record { message = PREPARED (before .id) timestamp digest; next = withRegister before after })
+  prepare-facts : (after : Slots) → afterPrepare client timestamp digest last (before .register .slots) ≡ accepted after
+      → ReplicaFacts before verdicts (PREPARE client timestamp digest proof last) (record { message = PREPARED (before .id) timestamp digest; next = withSlots before after })
   unfolding afterPrepare after-put
-  prepare-facts after e = go (slotIs client timestamp digest (before .register)) refl e
+  prepare-facts after e = go (slotIs client timestamp digest (before .register .slots)) refl e
     where
-      Facts : Register → Type 0
-      Facts register =
-          ReplicaFacts before verdicts (PREPARE client timestamp digest proof last) (record { message = PREPARED (before .id) timestamp digest; next = withRegister before register })
+      Facts : Slots → Type 0
+      Facts slots =
+          ReplicaFacts before verdicts (PREPARE client timestamp digest proof last) (record { message = PREPARED (before .id) timestamp digest; next = withSlots before slots })
 
       written : ℕ
-      written = raised last (before .register)
+      written = raised last (before .register .slots)
 
-      again : Register
-      again = withWritten written (before .register)
+      again : Slots
+      again = withWritten written (before .register .slots)
 
-      put : Register
-      put = withWritten written (withSlot client timestamp digest (before .register))
+      put : Slots
+      put = withWritten written (withSlot client timestamp digest (before .register .slots))
 
-      go : (b : Bool) → slotIs client timestamp digest (before .register) ≡ b
-          → cond b (accepted again) (guard 15 (slotTakes client timestamp written (before .register)) (accepted put)) ≡ accepted after → Facts after
+      go : (b : Bool) → slotIs client timestamp digest (before .register .slots) ≡ b
+          → cond b (accepted again) (guard 15 (slotTakes client timestamp written (before .register .slots)) (accepted put)) ≡ accepted after → Facts after
       go true stands k = let same : again ≡ after = cc in subst Facts same (prepared-again stands)
       go false stands k =
-          let taken = guard-accepted 15 (slotTakes client timestamp written (before .register)) (accepted put) after k in
+          let taken = guard-accepted 15 (slotTakes client timestamp written (before .register .slots)) (accepted put) after k in
           let taken-as = taken .1 in
           let same : put ≡ after = cc in
           subst Facts same (prepared-new (taken .0))
@@ -498,9 +485,9 @@ through replica verdicts client message next reply e =
     record { from-client = sixth .0; passed = others .0; answers = others .1 }
 
 -- What is answered after an outcome.
-answered : (replica : Replica) (message : Message) (outcome : Outcome Register) (reply : Reply)
-    → (outcome >>= λ register. answering message (withRegister replica register)) ≡ accepted reply
-    → (after : Register) × (outcome ≡ accepted after) × (_≡_ {A = Reply} (record { message = message; next = withRegister replica after }) reply)
+answered : (replica : Replica) (message : Message) (outcome : Outcome Slots) (reply : Reply)
+    → (outcome >>= λ slots. answering message (withSlots replica slots)) ≡ accepted reply
+    → (after : Slots) × (outcome ≡ accepted after) × (_≡_ {A = Reply} (record { message = message; next = withSlots replica after }) reply)
 answered replica message (accepted after) reply e = (after, refl, (cc))
 answered replica message (refused number) reply e = let z : _≡_ {A = ℕ} 0 1 = cc in absurd (omega arith)
 
@@ -508,15 +495,15 @@ pub replica-facts : (before : Replica) (verdicts : List ℕ) (message : Message)
     → onMessage before verdicts message ≡ accepted reply → ReplicaFacts before verdicts message reply
 unfolding onMessage
 replica-facts before verdicts (READ-STAMP client nonce) reply fits message-fits e =
-    let made : Reply = record { message = STAMP (before .id) nonce (heldProof (before .register)) client; next = before } in
+    let made : Reply = record { message = STAMP (before .id) nonce (heldProof (before .register .held)) client; next = before } in
     let t = through before verdicts client (READ-STAMP client nonce) (accepted made) reply e in
     let answers = t .answers in
     let same : made ≡ reply = cc in
     subst (ReplicaFacts before verdicts (READ-STAMP client nonce)) same (stamp-facts before verdicts client nonce fits message-fits (t .passed))
 replica-facts before verdicts (PREPARE client timestamp digest proof last) reply fits message-fits e =
     let request = PREPARE client timestamp digest proof last in
-    let prepared = afterPrepare client timestamp digest last (before .register) in
-    let made : Outcome Reply = prepared >>= λ register. answering (PREPARED (before .id) timestamp digest) (withRegister before register) in
+    let prepared = afterPrepare client timestamp digest last (before .register .slots) in
+    let made : Outcome Reply = prepared >>= λ slots. answering (PREPARED (before .id) timestamp digest) (withSlots before slots) in
     let own = isOwn client last in
     let is-next = isTimestamp timestamp (successor (ofNumber (timestampOf proof)) client) in
     let t = through before verdicts client request (guard 12 own (guard 13 is-next made)) reply e in
@@ -526,14 +513,14 @@ replica-facts before verdicts (PREPARE client timestamp digest proof last) reply
     subst (ReplicaFacts before verdicts request) (a .2)
     (prepare-facts before verdicts client timestamp digest proof last fits message-fits (t .passed) (t .from-client) (thirteenth .0) (a .0) (a .1))
 replica-facts before verdicts (WRITE client card proof) reply fits message-fits e =
-    let made : Reply = record { message = WRITTEN (before .id) (proof .timestamp); next = withRegister before (afterWrite card proof (before .register)) } in
+    let made : Reply = record { message = WRITTEN (before .id) (proof .timestamp); next = withHeld before (afterWrite card proof (before .register .held)) } in
     let t = through before verdicts client (WRITE client card proof) (guard 14 (cardStands card (some proof)) (accepted made)) reply e in
     let fourteenth = guard-accepted 14 (cardStands card (some proof)) (accepted made) reply (t .answers) in
     let answers = fourteenth .1 in
     let same : made ≡ reply = cc in
     subst (ReplicaFacts before verdicts (WRITE client card proof)) same (write-facts before verdicts client card proof fits message-fits (t .passed))
 replica-facts before verdicts (READ client nonce) reply fits message-fits e =
-    let made : Reply = record { message = CARD (before .id) nonce (heldCard (before .register)) (heldProof (before .register)) client; next = before } in
+    let made : Reply = record { message = CARD (before .id) nonce (heldCard (before .register .held)) (heldProof (before .register .held)) client; next = before } in
     let t = through before verdicts client (READ client nonce) (accepted made) reply e in
     let answers = t .answers in
     let same : made ≡ reply = cc in

@@ -19,48 +19,50 @@ use Rattle.wire.specs.Proof.{PreparedProof, WrittenProof, entriesBytes}
 use Rattle.wire.specs.Writing.{unsigned, roomy, inFront}
 use Rattle.wire.specs.declared.message.Party.the-variants.{Replica as AtReplica}
 use Rattle.protocol.specs.Parts.{filled, cardIn, entriesIn, ifIssued, timestampOf, cardStands}
+use Rattle.protocol.specs.declared.replica.Held.{Held}
 use Rattle.protocol.specs.declared.replica.Register.{Register}
 use Rattle.protocol.specs.declared.replica.Replica.{Replica}
 use Rattle.protocol.specs.declared.replica.ReplicaAnswer.{ReplicaAnswer}
 use Rattle.protocol.specs.declared.replica.ReplicaAnswer.the-variants.{Send, Refused}
+use Rattle.protocol.specs.declared.replica.Slots.{Slots}
 
 -- ---- What a register holds
 
-abbrev pub heldTimestamp : Register → ℕ
-heldTimestamp register = number (register .timestamp)
+abbrev pub heldTimestamp : Held → ℕ
+heldTimestamp held = number (held .timestamp)
 
-abbrev pub heldCard : Register → List ℕ
-heldCard register = cardIn (register .card) (register .«card_length»)
+abbrev pub heldCard : Held → List ℕ
+heldCard held = cardIn (held .card) (held .«card_length»)
 
-abbrev pub heldProof : Register → Option PreparedProof
-heldProof register =
-    ifIssued (heldTimestamp register)
-    (record { timestamp = heldTimestamp register; digest = register .digest; entries = entriesIn (register .entries) (register .«entry_count») })
+abbrev pub heldProof : Held → Option PreparedProof
+heldProof held =
+    ifIssued (heldTimestamp held) (record { timestamp = heldTimestamp held; digest = held .digest; entries = entriesIn (held .entries) (held .«entry_count») })
 
 -- "64 lines, one per desk, each a count and a digest, count 0 for an unused line": the slot of a client.
-abbrev pub slotCount : Register → ClientId → ℕ
-slotCount register client = getD (register .counts) (client .0 - 1) 0
+abbrev pub slotCount : Slots → ClientId → ℕ
+slotCount slots client = getD (slots .counts) (client .0 - 1) 0
 
-abbrev pub slotDigest : Register → ClientId → List ℕ
-slotDigest register client = take 32 (drop (32 * (client .0 - 1)) (register .digests))
+abbrev pub slotDigest : Slots → ClientId → List ℕ
+slotDigest slots client = take 32 (drop (32 * (client .0 - 1)) (slots .digests))
 
 -- A slot's timestamp: its count and its client.
-abbrev pub slotTimestamp : Register → ClientId → ℕ
-slotTimestamp register client = slotCount register client * 256 + client .0
+abbrev pub slotTimestamp : Slots → ClientId → ℕ
+slotTimestamp slots client = slotCount slots client * 256 + client .0
 
 -- "Its record has a stamp, card and prepared proof (starting at 0.0), a written stamp (0.0), and 64 lines"
 unfoldable pub freshRegister : Register
 freshRegister =
     record {
-      counts = replicate 64 0;
-      digests = replicate 2048 0;
-      written = start;
-      timestamp = start;
-      «card_length» = 2;
-      card = replicate 17 0;
-      digest = replicate 32 0;
-      «entry_count» = 0;
-      entries = replicate 715 0;
+      slots = record { counts = replicate 64 0; digests = replicate 2048 0; written = start };
+      held =
+          record {
+            timestamp = start;
+            «card_length» = 2;
+            card = replicate 17 0;
+            digest = replicate 32 0;
+            «entry_count» = 0;
+            entries = replicate 715 0;
+          };
     }
 
 abbrev pub freshReplica : ℕ → ReplicaId → Replica
@@ -80,41 +82,43 @@ madeReplica f id = ifSetUp (replicaSetup f id) (freshReplica f id)
 
 -- ---- What a register does
 
-abbrev pub withWritten : ℕ → Register → Register
-withWritten written register =
-    record {
-      counts = register .counts;
-      digests = register .digests;
-      written = ofNumber written;
-      timestamp = register .timestamp;
-      «card_length» = register .«card_length»;
-      card = register .card;
-      digest = register .digest;
-      «entry_count» = register .«entry_count»;
-      entries = register .entries;
-    }
-
 -- A timestamp and digest put into a client's slot.
-abbrev pub withSlot : ClientId → ℕ → List ℕ → Register → Register
-withSlot client timestamp digest register =
+abbrev pub withSlot : ClientId → ℕ → List ℕ → Slots → Slots
+withSlot client timestamp digest slots =
     record {
-      counts = set (register .counts) (client .0 - 1) (timestamp / 256);
-      digests = take (32 * (client .0 - 1)) (register .digests) ++ (digest ++ drop (32 * client .0) (register .digests));
-      written = register .written;
-      timestamp = register .timestamp;
-      «card_length» = register .«card_length»;
-      card = register .card;
-      digest = register .digest;
-      «entry_count» = register .«entry_count»;
-      entries = register .entries;
+      counts = set (slots .counts) (client .0 - 1) (timestamp / 256);
+      digests = take (32 * (client .0 - 1)) (slots .digests) ++ (digest ++ drop (32 * client .0) (slots .digests));
+      written = slots .written;
     }
 
-abbrev pub withHeld : List ℕ → PreparedProof → Register → Register
-withHeld card proof register =
+abbrev pub withWritten : ℕ → Slots → Slots
+withWritten written slots = record { counts = slots .counts; digests = slots .digests; written = ofNumber written }
+
+-- "take the written proof's stamp as the written stamp if larger"
+abbrev pub raised : Option WrittenProof → Slots → ℕ
+raised none slots = number (slots .written)
+raised (some last) slots = max (number (slots .written)) (last .timestamp)
+
+-- "If the line equals the stamp and digest"
+abbrev pub slotIs : ClientId → ℕ → List ℕ → Slots → Bool
+slotIs client timestamp digest slots = eqb (slotTimestamp slots client) timestamp && same (slotDigest slots client) digest
+
+-- "If the line is unused, or its stamp is at most the written stamp and below the new one"
+abbrev pub slotTakes : ClientId → ℕ → ℕ → Slots → Bool
+slotTakes client timestamp written slots =
+    eqb (slotCount slots client) 0 || (leb (slotTimestamp slots client) written && ltb (slotTimestamp slots client) timestamp)
+
+-- PREPARE: the slots afterwards, or 15: "No PREPARE rule above takes the stamp and digest."
+unfoldable pub afterPrepare : ClientId → ℕ → List ℕ → Option WrittenProof → Slots → Outcome Slots
+afterPrepare client timestamp digest last slots =
+    let written = raised last slots in
+    cond (slotIs client timestamp digest slots) (accepted (withWritten written slots))
+    (guard 15 (slotTakes client timestamp written slots) (accepted (withWritten written (withSlot client timestamp digest slots))))
+
+-- A card and its prepared proof, as they are held.
+abbrev pub holding : List ℕ → PreparedProof → Held
+holding card proof =
     record {
-      counts = register .counts;
-      digests = register .digests;
-      written = register .written;
       timestamp = ofNumber (proof .timestamp);
       «card_length» = length card;
       card = filled 17 card;
@@ -123,30 +127,9 @@ withHeld card proof register =
       entries = filled 715 (entriesBytes (proof .entries));
     }
 
--- "take the written proof's stamp as the written stamp if larger"
-abbrev pub raised : Option WrittenProof → Register → ℕ
-raised none register = number (register .written)
-raised (some last) register = max (number (register .written)) (last .timestamp)
-
--- "If the line equals the stamp and digest"
-abbrev pub slotIs : ClientId → ℕ → List ℕ → Register → Bool
-slotIs client timestamp digest register = eqb (slotTimestamp register client) timestamp && same (slotDigest register client) digest
-
--- "If the line is unused, or its stamp is at most the written stamp and below the new one"
-abbrev pub slotTakes : ClientId → ℕ → ℕ → Register → Bool
-slotTakes client timestamp written register =
-    eqb (slotCount register client) 0 || (leb (slotTimestamp register client) written && ltb (slotTimestamp register client) timestamp)
-
--- PREPARE: the register afterwards, or 15: "No PREPARE rule above takes the stamp and digest."
-unfoldable pub afterPrepare : ClientId → ℕ → List ℕ → Option WrittenProof → Register → Outcome Register
-afterPrepare client timestamp digest last register =
-    let written = raised last register in
-    cond (slotIs client timestamp digest register) (accepted (withWritten written register))
-    (guard 15 (slotTakes client timestamp written register) (accepted (withWritten written (withSlot client timestamp digest register))))
-
 -- WRITE: "if the proof's stamp is larger than the held one, hold its card, stamp and proof"
-unfoldable pub afterWrite : List ℕ → PreparedProof → Register → Register
-afterWrite card proof register = cond (ltb (heldTimestamp register) (proof .timestamp)) (withHeld card proof register) register
+unfoldable pub afterWrite : List ℕ → PreparedProof → Held → Held
+afterWrite card proof held = cond (ltb (heldTimestamp held) (proof .timestamp)) (holding card proof) held
 
 -- ---- What a replica does
 
@@ -165,8 +148,11 @@ pub record Reply : Type 0 where
   pub message : Message
   pub next : Replica
 
-abbrev pub withRegister : Replica → Register → Replica
-withRegister replica register = record { f = replica .f; id = replica .id; register = register }
+abbrev pub withSlots : Replica → Slots → Replica
+withSlots replica slots = record { f = replica .f; id = replica .id; register = record { slots = slots; held = replica .register .held } }
+
+abbrev pub withHeld : Replica → Held → Replica
+withHeld replica held = record { f = replica .f; id = replica .id; register = record { slots = replica .register .slots; held = held } }
 
 abbrev pub answering : Message → Replica → Outcome Reply
 answering message next = accepted (record { message = message; next = next })
@@ -180,23 +166,23 @@ unfoldable pub onMessage : Replica → List ℕ → Message → Outcome Reply
 onMessage replica verdicts (READ-STAMP client nonce) =
     fromClient client
     (checked (replica .f) (READ-STAMP client nonce) verdicts
-    (answering (STAMP (replica .id) nonce (heldProof (replica .register)) client) replica))
+    (answering (STAMP (replica .id) nonce (heldProof (replica .register .held)) client) replica))
 onMessage replica verdicts (PREPARE client timestamp digest proof last) =
     fromClient client
     (checked (replica .f) (PREPARE client timestamp digest proof last) verdicts
     (guard 12 (isOwn client last)
     (guard 13 (isTimestamp timestamp (successor (ofNumber (timestampOf proof)) client))
-    (afterPrepare client timestamp digest last (replica .register) >>= λ register.
-    answering (PREPARED (replica .id) timestamp digest) (withRegister replica register)))))
+    (afterPrepare client timestamp digest last (replica .register .slots) >>= λ slots.
+    answering (PREPARED (replica .id) timestamp digest) (withSlots replica slots)))))
 onMessage replica verdicts (WRITE client card proof) =
     fromClient client
     (checked (replica .f) (WRITE client card proof) verdicts
     (guard 14 (cardStands card (some proof))
-    (answering (WRITTEN (replica .id) (proof .timestamp)) (withRegister replica (afterWrite card proof (replica .register))))))
+    (answering (WRITTEN (replica .id) (proof .timestamp)) (withHeld replica (afterWrite card proof (replica .register .held))))))
 onMessage replica verdicts (READ client nonce) =
     fromClient client
     (checked (replica .f) (READ client nonce) verdicts
-    (answering (CARD (replica .id) nonce (heldCard (replica .register)) (heldProof (replica .register)) client) replica))
+    (answering (CARD (replica .id) nonce (heldCard (replica .register .held)) (heldProof (replica .register .held)) client) replica))
 onMessage replica verdicts (STAMP sender nonce proof client) = refused 5
 onMessage replica verdicts (PREPARED sender timestamp digest) = refused 5
 onMessage replica verdicts (WRITTEN sender timestamp) = refused 5

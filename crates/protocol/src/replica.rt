@@ -2,21 +2,31 @@
 use base::party::ReplicaId;
 use base::timestamp::Timestamp;
 
-// One register: what is held, and the prepare list.
+// The prepare list: a slot for each client (document 01: line), client c's at c - 1, with its count, 0 for an unused slot, and
+// its digest's 32 bytes; and the written timestamp (document 01: written stamp), which closes slots.
 #[repr(C)]
-pub struct Register {
-    // A slot for each client (document 01: line), client c's at c - 1: its count, 0 for an unused slot, and its digest's 32 bytes.
+pub struct Slots {
     pub counts: [u32; 64],
     pub digests: [u8; 2048],
-    // The written timestamp (document 01: written stamp).
     pub written: Timestamp,
-    // What is held: timestamp, card, and the prepared proof's digest and entries; 0.0 has no proof.
+}
+
+// What is held: timestamp, card, and the prepared proof's digest and entries; 0.0 has no proof.
+#[repr(C)]
+pub struct Held {
     pub timestamp: Timestamp,
     pub card_length: u8,
     pub card: [u8; 17],
     pub digest: [u8; 32],
     pub entry_count: u8,
     pub entries: [u8; 715],
+}
+
+// One register, in the two parts that requests change: a PREPARE the slots, a WRITE what is held.
+#[repr(C)]
+pub struct Register {
+    pub slots: Slots,
+    pub held: Held,
 }
 
 #[repr(C)]

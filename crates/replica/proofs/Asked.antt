@@ -39,7 +39,7 @@ use Rattle.wire.proofs.Parsed.{Parsed, parsed, messageOf, preparedAt, writtenAt
 use Rattle.wire.proofs.Rows.{Taken, read-stamp, prepare, write, read}
 use Rattle.wire.proofs.Windows.{behind-first}
 use Rattle.protocol.specs.Parts.{timestampOf}
-use Rattle.protocol.specs.Replica.{afterPrepare, isOwn, isTimestamp, Reply, answering, withRegister, onMessage, replicaStep, ReplicaCall, answerOutcome, sentLength, replicaAnswers, withOutput, replicaCall}
+use Rattle.protocol.specs.Replica.{afterPrepare, isOwn, isTimestamp, Reply, answering, withSlots, onMessage, replicaStep, ReplicaCall, answerOutcome, sentLength, replicaAnswers, withOutput, replicaCall}
 use Rattle.protocol.specs.declared.replica.Replica.{Replica}
 use Rattle.protocol.proofs.ArrayLaws.{entries-read-length}
 use Rattle.protocol.specs.declared.replica.ReplicaAnswer.the-variants.{Refused}
@@ -55,8 +55,8 @@ stepOf replica (READ-STAMP client nonce) = onReadStamp replica client nonce
 stepOf replica (PREPARE client timestamp digest proof last) =
     guard 12 (isOwn client last)
     (guard 13 (isTimestamp timestamp (successor (ofNumber (timestampOf proof)) client))
-    (afterPrepare client timestamp digest last (replica .register) >>= λ register.
-    answering (PREPARED (replica .id) timestamp digest) (withRegister replica register)))
+    (afterPrepare client timestamp digest last (replica .register .slots) >>= λ slots.
+    answering (PREPARED (replica .id) timestamp digest) (withSlots replica slots)))
 stepOf replica (WRITE client card proof) = onWrite replica card proof
 stepOf replica (READ client nonce) = onRead replica client nonce
 stepOf replica (STAMP sender nonce proof client) = refused 5
@@ -83,7 +83,7 @@ plain : (replica : Replica) (client : ClientId) (timestamp : ℕ) (digest : List
     → stepOf replica (PREPARE client timestamp digest proof last) ≡ onPrepare replica client timestamp digest shown written
 unfolding onPrepare afterPrepare preparedWith
 plain replica client timestamp digest proof none shown written s w i =
-    let same : max (number (replica .register .written)) 0 ≡ number (replica .register .written) = omega arith in
+    let same : max (number (replica .register .slots .written)) 0 ≡ number (replica .register .slots .written) = omega arith in
     rw (← s, ← w, same)
 plain replica client timestamp digest proof (some last) shown written s w i =
     rw (← s, ← w, ne-eqb (last .timestamp) 0 (not-zero (last .timestamp) i))

@@ -1,4 +1,5 @@
 pub mod Arrays
 pub mod Asked
+pub mod RawPart
 pub mod Replies
 pub mod Slots

@@ -1,6 +1,6 @@
 -- Replies and refusals as a call leaves them. Assumes nothing.
 use mathlib.Core.Path.{_≡_, refl, sym, ap, _∙_}
-use mathlib.Core.Bool.{Bool, true, false}
+use mathlib.Core.Bool.{Bool, true, false, _||_}
 use mathlib.Core.List.{List}
 use Prim.Native.Nat.{ℕ, _-_, _≤_, _<_, max}
 use native.Mathlib.Omega.{arith}
@@ -29,15 +29,14 @@ use Rattle.wire.specs.declared.card.CardCheck.the-variants.{Good, Refused as Ba
 use Rattle.wire.specs.declared.card.CardDigest.{CardDigest}
 use Rattle.wire.specs.declared.writer.Encoded.{Encoded}
 use Rattle.wire.proofs.card.Digests.{card-short}
-use Rattle.protocol.specs.Replica.{heldTimestamp, Reply, answerOutcome, answering, isTimestamp, slotIs, slotTakes, withWritten, withSlot, withHeld, withRegister, afterWrite, replicaAnswers}
-use Rattle.protocol.specs.declared.replica.Register.{Register}
+use Rattle.protocol.specs.Replica.{heldTimestamp, Reply, answerOutcome, answering, isTimestamp, slotIs, slotTakes, withWritten, withSlot, withSlots, holding, withHeld, afterWrite, replicaAnswers}
 use Rattle.protocol.specs.declared.replica.Replica.{Replica}
 use Rattle.protocol.specs.declared.replica.ReplicaAnswer.{ReplicaAnswer}
 use Rattle.protocol.specs.declared.replica.ReplicaAnswer.the-variants.{Send, Refused}
-use Rattle.replica.specs.Kinds.{proofOf, ownOrMissing, preparedWith, preparedOutcome, onPrepare, standsFor, onWrite}
-use Rattle.replica.specs.Stepping.{keeping, slotsFrom, Changes, Leaves}
-use Rattle.replica.specs.declared.register.Prepared.{Prepared}
+use Rattle.replica.specs.Kinds.{proofOf, ownOrMissing, onPrepare, standsFor, onWrite}
+use Rattle.replica.specs.Stepping.{keeping, Changes, Leaves}
 use Rattle.replica.specs.declared.Stepped.{Stepped}
+use Rattle.replica.proofs.Slots.{admitted, not-admitted}
 
 answer-sends : (answer : ReplicaAnswer) (n : ℕ) → answerOutcome answer ≡ accepted n → answer ≡ Send n
 answer-sends (Send m) n e = cc
@@ -100,36 +99,21 @@ module _ (replica : Replica) (client : ClientId) (timestamp : ℕ) (digest : Lis
     unfolding onPrepare guard
     not-successor e = rw (own, e)
 
-    module _ (follows : isTimestamp timestamp (successor (ofNumber shown) client) ≡ true) (prepared : Prepared)
-        (e : preparedOutcome prepared ≡ preparedWith client timestamp digest (max (number (replica .register .written)) last) (replica .register)) where
-      pub not-taken : prepared .taken ≡ false → onPrepare replica client timestamp digest shown last ≡ refused 15
+    module _ (follows : isTimestamp timestamp (successor (ofNumber shown) client) ≡ true) (first : 1 ≤ client .0) (small : client .0 < 256)
+        (admits : Bool)
+        (e : admits ≡ (slotIs client timestamp digest (replica .register .slots) || slotTakes client timestamp (max (number (replica .register .slots .written)) last) (replica .register .slots))) where
+      abbrev written : ℕ
+      written = max (number (replica .register .slots .written)) last
+
+      pub not-taken : admits ≡ false → onPrepare replica client timestamp digest shown last ≡ refused 15
       unfolding onPrepare guard
-      not-taken t = rw (own, follows, ← e, t)
+      not-taken t = rw (own, follows, not-admitted client timestamp digest (replica .register .slots) first small written (sym e ∙ t))
 
-      pub is-taken : prepared .taken ≡ true
-          → onPrepare replica client timestamp digest shown last ≡ answering (PREPARED (replica .id) timestamp digest) (withRegister replica (prepared .register))
+      pub is-taken : admits ≡ true
+          → onPrepare replica client timestamp digest shown last
+          ≡ answering (PREPARED (replica .id) timestamp digest) (withSlots replica (withWritten written (withSlot client timestamp digest (replica .register .slots))))
       unfolding onPrepare guard
-      is-taken t = rw (own, follows, ← e, t)
-
--- A PREPARE that is taken changes the slots and the written timestamp alone.
-module _ (replica : Replica) (client : ClientId) (timestamp : ℕ) (digest : List ℕ) (written : ℕ) (prepared : Prepared)
-    (e : preparedOutcome prepared ≡ preparedWith client timestamp digest written (replica .register)) (t : prepared .taken ≡ true) where
-  taken-as : (register : Register) → preparedWith client timestamp digest written (replica .register) ≡ accepted register → prepared .register ≡ register
-  taken-as register f = let g : _≡_ {A = Outcome Register} (accepted (prepared .register)) (accepted register) = rw t at (e ∙ f) in cc
-
-  pub slots-only : withRegister replica (prepared .register) ≡ slotsFrom replica (withRegister replica (prepared .register))
-  unfolding preparedWith guard
-  slots-only = go (slotIs client timestamp digest (replica .register)) refl (slotTakes client timestamp written (replica .register)) refl
-    where
-      go : (is : Bool) → slotIs client timestamp digest (replica .register) ≡ is → (takes : Bool) → slotTakes client timestamp written (replica .register) ≡ takes
-          → withRegister replica (prepared .register) ≡ slotsFrom replica (withRegister replica (prepared .register))
-      go true i takes _ = rw (taken-as (withWritten written (replica .register)) (rw i))
-      go false i true k = rw (taken-as (withWritten written (withSlot client timestamp digest (replica .register))) (rw (i, k)))
-      go false i false k =
-          let f : preparedWith client timestamp digest written (replica .register) ≡ refused 15 = rw (i, k) in
-          let g : _≡_ {A = Outcome Register} (accepted (prepared .register)) (refused 15) = rw t at (e ∙ f) in
-          let z : _≡_ {A = ℕ} 0 1 = cc in
-          absurd (omega arith)
+      is-taken t = rw (own, follows, admitted client timestamp digest (replica .register .slots) first small written (sym e ∙ t))
 
 -- WRITE, test by test.
 module _ (replica : Replica) (card : List ℕ) (proof : PreparedProof) where
@@ -138,15 +122,15 @@ module _ (replica : Replica) (card : List ℕ) (proof : PreparedProof) where
   wrong-card e = rw e
 
   pub right-card : standsFor card (proof .digest) ≡ true
-      → onWrite replica card proof ≡ answering (WRITTEN (replica .id) (proof .timestamp)) (withRegister replica (afterWrite card proof (replica .register)))
+      → onWrite replica card proof ≡ answering (WRITTEN (replica .id) (proof .timestamp)) (withHeld replica (afterWrite card proof (replica .register .held)))
   unfolding onWrite guard
   right-card e = rw e
 
-  pub not-later : ltb (heldTimestamp (replica .register)) (proof .timestamp) ≡ false → withRegister replica (afterWrite card proof (replica .register)) ≡ replica
+  pub not-later : ltb (heldTimestamp (replica .register .held)) (proof .timestamp) ≡ false → withHeld replica (afterWrite card proof (replica .register .held)) ≡ replica
   unfolding afterWrite
   not-later e = rw e
 
-  pub is-later : ltb (heldTimestamp (replica .register)) (proof .timestamp) ≡ true → afterWrite card proof (replica .register) ≡ withHeld card proof (replica .register)
+  pub is-later : ltb (heldTimestamp (replica .register .held)) (proof .timestamp) ≡ true → afterWrite card proof (replica .register .held) ≡ holding card proof
   unfolding afterWrite
   is-later e = rw e
 

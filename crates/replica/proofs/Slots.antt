@@ -14,7 +14,7 @@ use Rattle.base.specs.declared.party.ClientId.{ClientId}
 use Rattle.base.proofs.Booleans.{and-true-both}
 use Rattle.base.proofs.Same.{same-equal}
 use Rattle.protocol.specs.Replica.{slotCount, slotDigest, slotTimestamp, slotIs, slotTakes, withSlot, withWritten}
-use Rattle.protocol.specs.declared.replica.Register.{Register}
+use Rattle.protocol.specs.declared.replica.Slots.{Slots}
 use Rattle.replica.specs.Kinds.{preparedWith}
 
 -- A part of a list put back where it stands.
@@ -23,29 +23,29 @@ part-back at width next l e =
     let rest : drop next l ≡ drop width (drop at l) = rw e (sym (drop-drop width at l)) in
     rw (rest, take-append-drop, take-append-drop)
 
-module _ (client : ClientId) (timestamp : ℕ) (digest : List ℕ) (register : Register) (first : 1 ≤ client .0) (small : client .0 < 256) where
+module _ (client : ClientId) (timestamp : ℕ) (digest : List ℕ) (slots : Slots) (first : 1 ≤ client .0) (small : client .0 < 256) where
   -- A slot that has the timestamp and digest stays as it is.
-  slot-again : slotIs client timestamp digest register ≡ true → withSlot client timestamp digest register ≡ register
+  slot-again : slotIs client timestamp digest slots ≡ true → withSlot client timestamp digest slots ≡ slots
   slot-again e =
-      let both = and-true-both (eqb (slotTimestamp register client) timestamp) (same (slotDigest register client) digest) e in
-      let is : slotTimestamp register client ≡ timestamp = eqb-true _ _ (both .0) in
-      let count : timestamp / 256 ≡ slotCount register client = omega (arith, is) in
-      rw (count, ← same-equal _ _ (both .1), set-getD, part-back (32 * (client .0 - 1)) 32 (32 * client .0) (register .digests) (omega arith))
+      let both = and-true-both (eqb (slotTimestamp slots client) timestamp) (same (slotDigest slots client) digest) e in
+      let is : slotTimestamp slots client ≡ timestamp = eqb-true _ _ (both .0) in
+      let count : timestamp / 256 ≡ slotCount slots client = omega (arith, is) in
+      rw (count, ← same-equal _ _ (both .1), set-getD, part-back (32 * (client .0 - 1)) 32 (32 * client .0) (slots .digests) (omega arith))
 
   module _ (written : ℕ) where
-    pub admitted : (slotIs client timestamp digest register || slotTakes client timestamp written register) ≡ true
-        → preparedWith client timestamp digest written register ≡ accepted (withWritten written (withSlot client timestamp digest register))
+    pub admitted : (slotIs client timestamp digest slots || slotTakes client timestamp written slots) ≡ true
+        → preparedWith client timestamp digest written slots ≡ accepted (withWritten written (withSlot client timestamp digest slots))
     unfolding preparedWith guard
-    admitted e = go (slotIs client timestamp digest register) refl
+    admitted e = go (slotIs client timestamp digest slots) refl
       where
-        go : (is : Bool) → slotIs client timestamp digest register ≡ is → preparedWith client timestamp digest written register ≡ accepted (withWritten written (withSlot client timestamp digest register))
-        go true h = rw h (ap (λ (r : Register). accepted (withWritten written r)) (sym (slot-again h)))
+        go : (is : Bool) → slotIs client timestamp digest slots ≡ is → preparedWith client timestamp digest written slots ≡ accepted (withWritten written (withSlot client timestamp digest slots))
+        go true h = rw h (ap (λ (r : Slots). accepted (withWritten written r)) (sym (slot-again h)))
         go false h = rw (h, rw h at e)
 
-    pub not-admitted : (slotIs client timestamp digest register || slotTakes client timestamp written register) ≡ false → preparedWith client timestamp digest written register ≡ refused 15
+    pub not-admitted : (slotIs client timestamp digest slots || slotTakes client timestamp written slots) ≡ false → preparedWith client timestamp digest written slots ≡ refused 15
     unfolding preparedWith guard
-    not-admitted e = go (slotIs client timestamp digest register) refl
+    not-admitted e = go (slotIs client timestamp digest slots) refl
       where
-        go : (is : Bool) → slotIs client timestamp digest register ≡ is → preparedWith client timestamp digest written register ≡ refused 15
+        go : (is : Bool) → slotIs client timestamp digest slots ≡ is → preparedWith client timestamp digest written slots ≡ refused 15
         go true h = let z : true ≡ false = rw h at e in let y : _≡_ {A = ℕ} 0 1 = cc in absurd (omega arith)
         go false h = rw (h, rw h at e)

@@ -14,10 +14,9 @@ use Rattle.wire.specs.Card.{isCard}
 use Rattle.wire.specs.Message.{STAMP, PREPARED, WRITTEN, CARD}
 use Rattle.wire.specs.Proof.{PreparedProof, readEntries}
 use Rattle.wire.specs.Sha256.{sha256}
-use Rattle.protocol.specs.Replica.{heldProof, heldCard, withWritten, withSlot, slotIs, slotTakes, afterWrite, isTimestamp, Reply, answering, withRegister}
-use Rattle.protocol.specs.declared.replica.Register.{Register}
+use Rattle.protocol.specs.Replica.{heldProof, heldCard, withWritten, withSlot, slotIs, slotTakes, afterWrite, isTimestamp, Reply, answering, withSlots, withHeld}
 use Rattle.protocol.specs.declared.replica.Replica.{Replica}
-use Rattle.replica.specs.declared.register.Prepared.{Prepared}
+use Rattle.protocol.specs.declared.replica.Slots.{Slots}
 
 -- `slotIs` and `slotTakes` of a slot by itself.
 abbrev pub isSlot : ℕ → List ℕ → ClientId → ℕ → List ℕ → Bool
@@ -26,21 +25,17 @@ isSlot count held client timestamp digest = eqb (count * 256 + client .0) timest
 abbrev pub takesSlot : ℕ → ClientId → ℕ → ℕ → Bool
 takesSlot count client timestamp written = eqb count 0 || (leb (count * 256 + client .0) written && ltb (count * 256 + client .0) timestamp)
 
--- PREPARE on a register, with the written timestamp that the slot is judged by.
-unfoldable pub preparedWith : ClientId → ℕ → List ℕ → ℕ → Register → Outcome Register
-preparedWith client timestamp digest written register =
-    cond (slotIs client timestamp digest register) (accepted (withWritten written register))
-    (guard 15 (slotTakes client timestamp written register) (accepted (withWritten written (withSlot client timestamp digest register))))
-
--- What an answer of the code stands for.
-abbrev pub preparedOutcome : Prepared → Outcome Register
-preparedOutcome prepared = cond (prepared .taken) (accepted (prepared .register)) (refused 15)
+-- PREPARE, with the written timestamp that the slot is judged by.
+unfoldable pub preparedWith : ClientId → ℕ → List ℕ → ℕ → Slots → Outcome Slots
+preparedWith client timestamp digest written slots =
+    cond (slotIs client timestamp digest slots) (accepted (withWritten written slots))
+    (guard 15 (slotTakes client timestamp written slots) (accepted (withWritten written (withSlot client timestamp digest slots))))
 
 -- A prepared proof as it stands in a message: timestamp, digest, number of entries, and their bytes.
 abbrev pub proofOf : Timestamp → List ℕ → ℕ → List ℕ → PreparedProof
 proofOf timestamp digest count entries = record { timestamp = number timestamp; digest = digest; entries = readEntries count entries }
 
--- A card, a digest, and so many entries' bytes that fit a register's arrays.
+-- A card, a digest, and so many entries' bytes that fit what is held.
 pub record Fitting (card digest : List ℕ) (count : ℕ) (entries : List ℕ) : Type 0 where
   pub card-short : length card ≤ 17
   pub digest-whole : length digest ≡ 32
@@ -49,7 +44,7 @@ pub record Fitting (card digest : List ℕ) (count : ℕ) (entries : List ℕ) :
 
 -- READ-STAMP
 abbrev pub onReadStamp : Replica → ClientId → ℕ → Outcome Reply
-onReadStamp replica client nonce = answering (STAMP (replica .id) nonce (heldProof (replica .register)) client) replica
+onReadStamp replica client nonce = answering (STAMP (replica .id) nonce (heldProof (replica .register .held)) client) replica
 
 -- PREPARE; the timestamps of the prepared proof and of the written proof are 0 where the proofs are missing.
 abbrev pub ownOrMissing : ClientId → ℕ → Bool
@@ -59,8 +54,8 @@ unfoldable pub onPrepare : Replica → ClientId → ℕ → List ℕ → ℕ →
 onPrepare replica client timestamp digest shown last =
     guard 12 (ownOrMissing client last)
     (guard 13 (isTimestamp timestamp (successor (ofNumber shown) client))
-    (preparedWith client timestamp digest (max (number (replica .register .written)) last) (replica .register) >>= λ register.
-    answering (PREPARED (replica .id) timestamp digest) (withRegister replica register)))
+    (preparedWith client timestamp digest (max (number (replica .register .slots .written)) last) (replica .register .slots) >>= λ slots.
+    answering (PREPARED (replica .id) timestamp digest) (withSlots replica slots)))
 
 -- WRITE
 abbrev pub standsFor : List ℕ → List ℕ → Bool
@@ -69,8 +64,8 @@ standsFor card digest = isCard card && same (sha256 card) digest
 unfoldable pub onWrite : Replica → List ℕ → PreparedProof → Outcome Reply
 onWrite replica card proof =
     guard 14 (standsFor card (proof .digest))
-    (answering (WRITTEN (replica .id) (proof .timestamp)) (withRegister replica (afterWrite card proof (replica .register))))
+    (answering (WRITTEN (replica .id) (proof .timestamp)) (withHeld replica (afterWrite card proof (replica .register .held))))
 
 -- READ
 abbrev pub onRead : Replica → ClientId → ℕ → Outcome Reply
-onRead replica client nonce = answering (CARD (replica .id) nonce (heldCard (replica .register)) (heldProof (replica .register)) client) replica
+onRead replica client nonce = answering (CARD (replica .id) nonce (heldCard (replica .register .held)) (heldProof (replica .register .held)) client) replica

@@ -7,7 +7,7 @@ use Rattle.base.specs.Outcome.{accepted}
 use Rattle.wire.specs.Acceptance.{acceptance}
 use Rattle.wire.specs.declared.message.Fields.{Fields}
 use Rattle.wire.specs.declared.message.Party.the-variants.{Replica as AtReplica}
-use Rattle.protocol.specs.Replica.{replicaStep, ReplicaCall, answerOutcome, sentLength, replicaAnswers, withOutput, withRegister, replicaCall}
+use Rattle.protocol.specs.Replica.{replicaStep, ReplicaCall, answerOutcome, sentLength, replicaAnswers, withOutput, withSlots, withHeld, replicaCall}
 use Rattle.protocol.specs.declared.replica.Replica.{Replica}
 use Rattle.protocol.specs.declared.replica.ReplicaAnswer.{ReplicaAnswer}
 use Rattle.replica.specs.declared.Stepped.{Stepped}
@@ -16,40 +16,9 @@ use Rattle.replica.specs.declared.Stepped.{Stepped}
 abbrev pub keeping : ReplicaAnswer → Replica → Stepped
 keeping answer replica = record { answer = answer; holds = false; prepares = false; replica = replica }
 
--- A record with another's held timestamp, card and proof; and one with another's slots and written timestamp.
-abbrev pub heldFrom : Replica → Replica → Replica
-heldFrom replica other =
-    withRegister replica
-    (record {
-      counts = replica .register .counts;
-      digests = replica .register .digests;
-      written = replica .register .written;
-      timestamp = other .register .timestamp;
-      «card_length» = other .register .«card_length»;
-      card = other .register .card;
-      digest = other .register .digest;
-      «entry_count» = other .register .«entry_count»;
-      entries = other .register .entries;
-    })
-
-abbrev pub slotsFrom : Replica → Replica → Replica
-slotsFrom replica other =
-    withRegister replica
-    (record {
-      counts = other .register .counts;
-      digests = other .register .digests;
-      written = other .register .written;
-      timestamp = replica .register .timestamp;
-      «card_length» = replica .register .«card_length»;
-      card = replica .register .card;
-      digest = replica .register .digest;
-      «entry_count» = replica .register .«entry_count»;
-      entries = replica .register .entries;
-    })
-
 -- What of the record a step says that it changed: what is held, else the slots, else nothing.
 abbrev pub changed : Bool → Bool → Replica → Replica → Replica
-changed holds prepares replica other = cond holds (heldFrom replica other) (cond prepares (slotsFrom replica other) replica)
+changed holds prepares replica other = cond holds (withHeld replica (other .register .held)) (cond prepares (withSlots replica (other .register .slots)) replica)
 
 -- Nothing else has changed.
 pub record Changes (replica : Replica) (stepped : Stepped) : Type 0 where

@@ -34,6 +34,23 @@ pub(super) fn copy(out: &mut [u8], at: usize, bytes: &[u8])
     }
 }
 
+// A slot's digest among those of all slots: read, and stored.
+pub(super) fn digest_at(digests: &[u8; 2048], at: usize) -> [u8; 32]
+    requires { ⌜ at + 32 ≤ 2048 ⌝ }
+    ensures { λ r. ⌜ r ≡ take 32 (drop at (now (digests .entry))) ⌝ }
+{
+    let all = &digests[..];
+    let end = at + 32;
+    digest_array(&all[at..end])
+}
+
+pub(super) fn put_digest(digests: &mut [u8; 2048], at: usize, digest: &[u8; 32])
+    requires { ⌜ at + 32 ≤ 2048 ⌝ }
+    ensures { λ _. ⌜ now (digests .exit) ≡ take at (now (digests .entry)) ++ (now (digest .entry) ++ drop (at + 32) (now (digests .entry))) ⌝ }
+{
+    copy(digests, at, digest);
+}
+
 // Arrays with zeros behind the bytes.
 pub(super) fn filled_17(bytes: &[u8]) -> [u8; 17]
     requires { ⌜ length (now bytes) ≤ 17 ⌝ }

@@ -1,13 +1,17 @@
 // The four requests on plain values, each with its reply in the output.
 use crate::Stepped;
-use crate::register::after_prepare;
-use crate::register::with_held;
+use crate::register::holding;
+use crate::register::later;
+use crate::register::slot_admits;
+use crate::register::slot_of;
+use crate::register::with_slot;
 use base::party::ClientId;
 use base::timestamp::Successor;
 use base::timestamp::Timestamp;
-use protocol::replica::Register;
+use protocol::replica::Held;
 use protocol::replica::Replica;
 use protocol::replica::ReplicaAnswer;
+use protocol::replica::Slots;
 use wire::card::CardCheck;
 use wire::writer::Encoded;
 ghost use mathlib.Core.Path.{_≡_};
@@ -18,7 +22,7 @@ ghost use Rattle.wire.specs.Layout.{extent, preparedRule};
 ghost use Rattle.wire.specs.Message.{longest};
 ghost use Rattle.wire.specs.Proof.{preparedFrom};
 ghost use Rattle.wire.specs.Writing.{encodedOutcome};
-ghost use Rattle.protocol.specs.Replica.{answerOutcome, isTimestamp, withRegister, replicaAnswers};
+ghost use Rattle.protocol.specs.Replica.{answerOutcome, isTimestamp, withSlots, withHeld, replicaAnswers};
 ghost use Rattle.replica.specs.Kinds.{proofOf, ownOrMissing, standsFor, onReadStamp, onPrepare, onWrite, onRead};
 ghost use Rattle.replica.specs.Stepping.{keeping, Leaves};
 
@@ -51,9 +55,21 @@ fn answer_of(encoded: Encoded) -> ReplicaAnswer
     }
 }
 
-fn with_register(replica: Replica, register: Register) -> Replica
-    ensures { λ r. ⌜ r ≡ withRegister replica register ⌝ }
+fn with_slots(replica: Replica, slots: Slots) -> Replica
+    ensures { λ r. ⌜ r ≡ withSlots replica slots ⌝ }
 {
+    let mut register = replica.register;
+    register.slots = slots;
+    let mut next = replica;
+    next.register = register;
+    next
+}
+
+fn with_held(replica: Replica, held: Held) -> Replica
+    ensures { λ r. ⌜ r ≡ withHeld replica held ⌝ }
+{
+    let mut register = replica.register;
+    register.held = held;
     let mut next = replica;
     next.register = register;
     next
@@ -64,16 +80,16 @@ pub(super) fn read_stamp(replica: Replica, client: ClientId, nonce: u64, out: &m
     requires { ⌜ longest ≤ length (now out) ⌝ }
     ensures { λ r. ⌜ Leaves replica (replicaAnswers replica (now (out .entry)) (onReadStamp replica client nonce)) r (now (out .exit)) ⌝ }
 {
-    let register = replica.register;
-    let digest = register.digest;
-    let entries = register.entries;
+    let held = replica.register.held;
+    let digest = held.digest;
+    let entries = held.entries;
     let encoded = wire::writer::write_stamp(
         out,
         replica.id,
         nonce,
-        register.timestamp,
+        held.timestamp,
         &digest,
-        register.entry_count,
+        held.entry_count,
         &entries,
         client,
     );
@@ -90,7 +106,7 @@ pub(super) fn read(replica: Replica, client: ClientId, nonce: u64, out: &mut [u8
     requires { ⌜ longest ≤ length (now out) ⌝ }
     ensures { λ r. ⌜ Leaves replica (replicaAnswers replica (now (out .entry)) (onRead replica client nonce)) r (now (out .exit)) ⌝ }
 {
-    let held = replica.register;
+    let held = replica.register.held;
     let card = held.card;
     let digest = held.digest;
     let entries = held.entries;
@@ -153,17 +169,21 @@ pub(super) fn prepare(
     if !is_successor(timestamp, shown, client) {
         return refuse(replica, NOT_SUCCESSOR);
     }
-    let register = replica.register;
-    let prepared = after_prepare(register, client, timestamp, digest, last);
-    if !prepared.taken {
+    let slots = replica.register.slots;
+    let written = later(slots.written, last);
+    let slot = slot_of(slots, client);
+    if !slot_admits(slot, client, timestamp, digest, written) {
+        // A refused PREPARE leaves the written timestamp too as it was.
         return refuse(replica, NOT_TAKEN);
     }
+    // A slot that has the timestamp and digest stays as it is.
+    let next = with_slot(slots, client, timestamp, digest, written);
     let encoded = wire::writer::write_prepared(out, replica.id, timestamp, digest);
     Stepped {
         answer: answer_of(encoded),
         holds: false,
         prepares: true,
-        replica: with_register(replica, prepared.register),
+        replica: with_slots(replica, next),
     }
 }
 
@@ -198,8 +218,8 @@ fn write_parts(
     }
     let encoded = wire::writer::write_written(out, replica.id, timestamp);
     let answer = answer_of(encoded);
-    let register = replica.register;
-    if !register.timestamp.is_before(timestamp) {
+    let current = replica.register.held.timestamp;
+    if !current.is_before(timestamp) {
         return Stepped {
             answer: answer,
             holds: false,
@@ -207,12 +227,12 @@ fn write_parts(
             replica: replica,
         };
     }
-    let held = with_held(register, timestamp, card, digest, entry_count, entries);
+    let next = holding(timestamp, card, digest, entry_count, entries);
     Stepped {
         answer: answer,
         holds: true,
         prepares: false,
-        replica: with_register(replica, held),
+        replica: with_held(replica, next),
     }
 }
 

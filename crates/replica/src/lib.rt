@@ -9,9 +9,11 @@ use base::party::ReplicaId;
 use base::party::Setup;
 use base::party::replica_setup;
 use base::timestamp::Timestamp;
+use protocol::replica::Held;
 use protocol::replica::Register;
 use protocol::replica::Replica;
 use protocol::replica::ReplicaAnswer;
+use protocol::replica::Slots;
 use wire::acceptance::accept;
 use wire::message::Party;
 use wire::message::Reading;
@@ -38,15 +40,19 @@ fn fresh_register() -> Register
     ensures { λ r. ⌜ r ≡ freshRegister ⌝ }
 {
     Register {
-        counts: [0; 64],
-        digests: [0; 2048],
-        written: Timestamp::start(),
-        timestamp: Timestamp::start(),
-        card_length: 2,
-        card: [0; 17],
-        digest: [0; 32],
-        entry_count: 0,
-        entries: [0; 715],
+        slots: Slots {
+            counts: [0; 64],
+            digests: [0; 2048],
+            written: Timestamp::start(),
+        },
+        held: Held {
+            timestamp: Timestamp::start(),
+            card_length: 2,
+            card: [0; 17],
+            digest: [0; 32],
+            entry_count: 0,
+            entries: [0; 715],
+        },
     }
 }
 
@@ -107,18 +113,9 @@ pub fn step_in_place(
     let before = *replica;
     let stepped = step(before, message, verdicts, out);
     if stepped.holds {
-        replica.register.timestamp.count = stepped.replica.register.timestamp.count;
-        replica.register.timestamp.client.0 = stepped.replica.register.timestamp.client.0;
-        replica.register.card_length = stepped.replica.register.card_length;
-        replica.register.card = stepped.replica.register.card;
-        replica.register.digest = stepped.replica.register.digest;
-        replica.register.entry_count = stepped.replica.register.entry_count;
-        replica.register.entries = stepped.replica.register.entries;
+        replica.register.held = stepped.replica.register.held;
     } else if stepped.prepares {
-        replica.register.counts = stepped.replica.register.counts;
-        replica.register.digests = stepped.replica.register.digests;
-        replica.register.written.count = stepped.replica.register.written.count;
-        replica.register.written.client.0 = stepped.replica.register.written.client.0;
+        replica.register.slots = stepped.replica.register.slots;
     }
     stepped.answer
 }

@@ -23,7 +23,7 @@ use Rattle.run.proofs.SentMessages.{Said, step-said}
 module _ (R : Run) where
   -- The timestamp that a replica holds before event t.
   abbrev pub held : ReplicaId → ℕ → ℕ
-  held id t = heldTimestamp (replicaAt R id t .register)
+  held id t = heldTimestamp (replicaAt R id t .register .held)
 
   module _ (id : ReplicaId) (c : R .correct-replica id ≡ true) where
     held-step : (t : ℕ) → held id t ≤ held id (suc t)
@@ -57,8 +57,8 @@ module _ (R : Run) where
     pub asked : Said R (client by) question time
 
   module _ (P : Premises R) (id : ReplicaId) (c : R .correct-replica id ≡ true) (by : ClientId) (c′ : R .correct-client by ≡ true) (nonce : ℕ) (proof : Option PreparedProof) (t : ℕ) where
-    shown-held : (u : ℕ) → proof ≡ heldProof (replicaAt R id u .register) → timestampOf proof ≡ held id u
-    shown-held u e = ap timestampOf e ∙ held-shown (replicaAt R id u .register)
+    shown-held : (u : ℕ) → proof ≡ heldProof (replicaAt R id u .register .held) → timestampOf proof ≡ held id u
+    shown-held u e = ap timestampOf e ∙ held-shown (replicaAt R id u .register .held)
 
     pub stamp-showed : Said R (replica id) (STAMP id nonce proof by) t → Showed id t (READ-STAMP by nonce) by (timestampOf proof)
     stamp-showed e =

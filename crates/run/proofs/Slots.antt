@@ -26,7 +26,7 @@ use Rattle.wire.specs.Proof.{Entry, PreparedProof}
 use Rattle.wire.proofs.ProofBytes.{prepared-rewritten}
 use Rattle.protocol.specs.Client.{send}
 use Rattle.protocol.specs.Replica.{slotCount, slotDigest}
-use Rattle.protocol.specs.declared.replica.Register.{Register}
+use Rattle.protocol.specs.declared.replica.Slots.{Slots}
 use Rattle.protocol.proofs.Passed.{Passed}
 use Rattle.protocol.proofs.ReplicaFacts.{clientOf, SlotRises}
 use Rattle.run.specs.Claims.{Genuine}
@@ -47,10 +47,10 @@ order a b = go (leb a b) refl
     go false e = inr (leb-false a b e)
 
 -- The slot of a timestamp's client has timestamp and digest, or a later timestamp.
-abbrev Has : Register → ℕ → List ℕ → Type 0
-Has register s d = ((slotCount register (clientOf s) ≡ s / 256) × (slotDigest register (clientOf s) ≡ d)) ⊎ (s / 256 < slotCount register (clientOf s))
+abbrev Has : Slots → ℕ → List ℕ → Type 0
+Has slots s d = ((slotCount slots (clientOf s) ≡ s / 256) × (slotDigest slots (clientOf s) ≡ d)) ⊎ (s / 256 < slotCount slots (clientOf s))
 
-has-kept : (before after : Register) (s : ℕ) (d : List ℕ) → SlotRises before after (clientOf s) → Has before s d → Has after s d
+has-kept : (before after : Slots) (s : ℕ) (d : List ℕ) → SlotRises before after (clientOf s) → Has before s d → Has after s d
 has-kept before after s d (inl k) (inl a) = inl (k .0 ∙ a .0, k .1 ∙ a .1)
 has-kept before after s d (inl k) (inr a) = let same = k .0 in inr (omega arith)
 has-kept before after s d (inr k) (inl a) = let same = a .0 in inr (omega arith)
@@ -63,21 +63,21 @@ prepared-legal id s d low small digest = record { fits = (low, small, digest); s
 module _ (R : Run) where
   -- What a step that sent PREPARED left in the slot.
   prepared-step : (id : ReplicaId) (t s : ℕ) (d : List ℕ) (x : ReplicaStep R id t) → answerAt R t ≡ accepted (send (PREPARED id s d))
-      → (isClient (clientOf s) ≡ true) × (slotCount (replicaAt R id (suc t) .register) (clientOf s) ≡ s / 256) × (slotDigest (replicaAt R id (suc t) .register) (clientOf s) ≡ d)
+      → (isClient (clientOf s) ≡ true) × (slotCount (replicaAt R id (suc t) .register .slots) (clientOf s) ≡ s / 256) × (slotDigest (replicaAt R id (suc t) .register .slots) (clientOf s) ≡ d)
   prepared-step id t s d x a =
       let same : x .reply .message ≡ PREPARED id s d = cc (x .answer-is) in
       let q = x .facts .prepared-sent id s d same in
       rw (x .next-is) (q .1, q .2, q .3)
 
   -- A replica's slot keeps what it sent PREPARED for, or a later timestamp.
-  slots : (id : ReplicaId) → R .correct-replica id ≡ true → (t s : ℕ) (d : List ℕ) → isClient (clientOf s) ≡ true → Said R (replica id) (PREPARED id s d) t → Has (replicaAt R id t .register) s d
+  slots : (id : ReplicaId) → R .correct-replica id ≡ true → (t s : ℕ) (d : List ℕ) → isClient (clientOf s) ≡ true → Said R (replica id) (PREPARED id s d) t → Has (replicaAt R id t .register .slots) s d
   slots id c zero s d own e = let l = e .earlier in absurd (omega arith)
   slots id c (suc t) s d own e = go (λ k. slots id c t s d own k) (replica-turn R id c t)
     where
       before : e .time < t → Said R (replica id) (PREPARED id s d) t
       before l = record { time = e .time; earlier = l; by = e .by; answered = e .answered }
 
-      go : (Said R (replica id) (PREPARED id s d) t → Has (replicaAt R id t .register) s d) → ReplicaTurn R id t → Has (replicaAt R id (suc t) .register) s d
+      go : (Said R (replica id) (PREPARED id s d) t → Has (replicaAt R id t .register .slots) s d) → ReplicaTurn R id t → Has (replicaAt R id (suc t) .register .slots) s d
       go ih (rests same silent) =
           split-last (e .time) t (e .earlier)
           (λ z. absurd (silent (subst (λ (u : ℕ). At R u (replica id)) z (e .by)) (send (PREPARED id s d)) (subst (λ (u : ℕ). answerAt R u ≡ accepted (send (PREPARED id s d))) z (e .answered))))
@@ -86,7 +86,7 @@ module _ (R : Run) where
           split-last (e .time) t (e .earlier)
           (λ z. let q = prepared-step id t s d x (subst (λ (u : ℕ). answerAt R u ≡ accepted (send (PREPARED id s d))) z (e .answered)) in inl (q .1, q .2))
           (λ z. let range = bounds 1 64 (clientOf s .0) own in
-          rw (x .next-is) (has-kept (replicaAt R id t .register) (x .reply .next .register) s d (x .facts .slots-rise (clientOf s) (range .0) (range .1)) (ih (before z))))
+          rw (x .next-is) (has-kept (replicaAt R id t .register .slots) (x .reply .next .register .slots) s d (x .facts .slots-rise (clientOf s) (range .0) (range .1)) (ih (before z))))
 
   module _ (id : ReplicaId) (c : R .correct-replica id ≡ true) (s : ℕ) (d d′ : List ℕ) where
     one-ordered : (t : ℕ) (e : Said R (replica id) (PREPARED id s d) t) (e′ : Said R (replica id) (PREPARED id s d′) t) → e .time ≤ e′ .time → d ≡ d′
@@ -95,8 +95,8 @@ module _ (R : Run) where
         let left = prepared-step id (e′ .time) s d′ x (e′ .answered) in
         go left (slots id c (suc (e′ .time)) s d (left .0) (record { time = e .time; earlier = omega arith; by = e .by; answered = e .answered }))
       where
-        go : (isClient (clientOf s) ≡ true) × (slotCount (replicaAt R id (suc (e′ .time)) .register) (clientOf s) ≡ s / 256) × (slotDigest (replicaAt R id (suc (e′ .time)) .register) (clientOf s) ≡ d′)
-            → Has (replicaAt R id (suc (e′ .time)) .register) s d → d ≡ d′
+        go : (isClient (clientOf s) ≡ true) × (slotCount (replicaAt R id (suc (e′ .time)) .register .slots) (clientOf s) ≡ s / 256) × (slotDigest (replicaAt R id (suc (e′ .time)) .register .slots) (clientOf s) ≡ d′)
+            → Has (replicaAt R id (suc (e′ .time)) .register .slots) s d → d ≡ d′
         go left (inl k) = sym (k .1) ∙ left .2
         go left (inr k) = let q = left .1 in absurd (omega arith)
 

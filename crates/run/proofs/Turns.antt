@@ -28,7 +28,7 @@ use Rattle.protocol.specs.declared.client.Phase.{Phase}
 use Rattle.protocol.specs.declared.client.Phase.the-variants.{Stamps, Cards}
 use Rattle.protocol.specs.declared.replica.Replica.{Replica}
 use Rattle.protocol.proofs.ArrayLaws.{bytes-zeros, zeros-fit}
-use Rattle.protocol.proofs.Fit.{RegisterFits, ReplicaFits, ClientFits}
+use Rattle.protocol.proofs.Fit.{SlotsFit, HeldFits, ReplicaFits, ClientFits}
 use Rattle.protocol.proofs.ReplicaFacts.{ReplicaFacts, replica-facts}
 use Rattle.protocol.proofs.ClientCases.{Begun, PhaseFits, ClientFacts}
 use Rattle.protocol.proofs.ClientFacts.{begins-write as write-begun, begins-read as read-begun, client-facts}
@@ -47,21 +47,21 @@ same-client a b e = ap (λ (n : ℕ). record { 0 = n }) e
 
 -- ---- Fresh records fit
 
-fresh-register-fits : RegisterFits freshRegister
+fresh-slots-fit : SlotsFit (freshRegister .slots)
 unfolding freshRegister
-fresh-register-fits = record {
+fresh-slots-fit = record {
   counts-long = length-replicate {A = ℕ} 64 0;
   counts-fit = λ i. zeros 64 i;
   digests-fit = zeros-fit 2048;
   written-fits = omega arith;
-  timestamp-fits = omega arith;
-  card-fits = zeros-fit 17;
-  digest-fits = zeros-fit 32;
-  entries-fit = zeros-fit 715;
 }
   where
     zeros : (n i : ℕ) → getD (replicate n 0) i 0 < 2 ^ 32
     zeros n i = let b = bytes-zeros n i in omega arith
+
+fresh-held-fits : HeldFits (freshRegister .held)
+unfolding freshRegister
+fresh-held-fits = record { timestamp-fits = omega arith; card-fits = zeros-fit 17; digest-fits = zeros-fit 32; entries-fit = zeros-fit 715 }
 
 fresh-client-fits : (f : ℕ) (id : ClientId) (nonce : ℕ) → id .0 < 256 → nonce < 2 ^ 64 → ClientFits (freshClient f id nonce)
 fresh-client-fits f id nonce low small = record {
@@ -166,7 +166,7 @@ module _ (R : Run) where
 
   pub good-replica : (id : ReplicaId) → R .correct-replica id ≡ true → (t : ℕ) → GoodReplica id (replicaAt R id t)
   unfolding replicaAt
-  good-replica id c zero = let range = correct-replica-range id c in record { f-is = refl; id-is = refl; fits = record { id-fits = omega arith; register-fits = fresh-register-fits } }
+  good-replica id c zero = let range = correct-replica-range id c in record { f-is = refl; id-is = refl; fits = record { id-fits = omega arith; slots-fit = fresh-slots-fit; held-fits = fresh-held-fits } }
   good-replica id c (suc t) = go (good-replica id c t) (replica-turn-of id t (good-replica id c t) (event R t) refl)
     where
       go : GoodReplica id (replicaAt R id t) → ReplicaTurn id t → GoodReplica id (replicaAt R id (suc t))

@@ -22,7 +22,7 @@ use contract.Running.{givenOf, tables, tablesOf}
 use contract.Lifetimes.{AllOutlive}
 use types.Kit.{Given, Item, ‵, raw, _⊛_, ⋆, some, later, atRet, _$_, _∵_, !, qed, by, move, keep, drop, use1, use3, split, join, pick, rewrite, fsplit, fsplit3, fjoin, fjoin3, feqL, feqI, suffices, frame, await, done}
 use types.Run.{look, look-raw, init, forget, stop, hop, fld, from, load, addr, of-opd, and-then, no-more, assigns, assigns-last, land, first, skips, branches, returns, enter, alloc1, alloc0, params1, pass1, pass0, free1, free0, exec}
-use types.Part.{agg, whole, sub, look-in, store-in}
+use types.Part.{agg, whole, sub, look-in}
 use types.SemTy.{Body}
 use sound.WpLaws.{FmC, fmOf, WpFn-mono}
 use denote.RattleType.{owns}
@@ -48,17 +48,19 @@ use denote.Triple.Walked.{says, Stays, stay-ref, stay-none-slice, gave-slice, wa
 use denote.Exit.{yes}
 use Rattle.protocol.specs.declared.replica.Replica.{Replica}
 use Rattle.replica.specs.declared.Stepped.{Stepped}
-use Rattle.replica.specs.Stepping.{Steps, Changes, heldFrom, slotsFrom}
-use Rattle.base.proofs.party.ClientId as Client
-use Rattle.base.proofs.party.ClientId.Laws as Client′
-use Rattle.base.proofs.timestamp.Timestamp as T
-use Rattle.base.proofs.timestamp.Timestamp.Laws as T′
+use Rattle.protocol.specs.Replica.{withSlots, withHeld}
+use Rattle.replica.specs.Stepping.{Steps, Changes}
+use Rattle.protocol.proofs.replica.Held as L
+use Rattle.protocol.proofs.replica.Held.Laws as L′
 use Rattle.protocol.proofs.replica.Register as G
 use Rattle.protocol.proofs.replica.Register.Laws as G′
 use Rattle.protocol.proofs.replica.Replica as R
 use Rattle.protocol.proofs.replica.Replica.Laws as R′
 use Rattle.protocol.proofs.replica.ReplicaAnswer as N
 use Rattle.protocol.proofs.replica.ReplicaAnswer.Laws as N′
+use Rattle.protocol.proofs.replica.Slots as S
+use Rattle.protocol.proofs.replica.Slots.Laws as S′
+use Rattle.replica.proofs.RawPart.{store-raw-in}
 use Rattle.replica.proofs.Stepped as D
 use Rattle.replica.proofs.Stepped.Laws as D′
 use Rattle.replica.proofs.step as step
@@ -86,17 +88,17 @@ at-blocks (local τ home ∷ locals) [] = []
 at-blocks (local τ home ∷ locals) (l ∷ ls) = (τ, l) ∷ at-blocks locals ls
 
 -- What was stored, by how the tests of the two flags came out, is the record that `step` returned.
-held-stored : (replica : Replica) (stepped : Stepped) → Changes replica stepped → Holds (stepped .holds) → heldFrom replica (stepped .replica) ≡ stepped .replica
+held-stored : (replica : Replica) (stepped : Stepped) → Changes replica stepped → Holds (stepped .holds) → withHeld replica (stepped .replica .register .held) ≡ stepped .replica
 held-stored replica stepped changes t = go (stepped .holds) refl t
   where
-    go : (h : Bool) → stepped .holds ≡ h → Holds h → heldFrom replica (stepped .replica) ≡ stepped .replica
+    go : (h : Bool) → stepped .holds ≡ h → Holds h → withHeld replica (stepped .replica .register .held) ≡ stepped .replica
     go true e _ = sym (rw e at (changes .only))
     go false e z = absurd z
 
-slots-stored : (replica : Replica) (stepped : Stepped) → Changes replica stepped → Holds (not (stepped .holds)) → Holds (stepped .prepares) → slotsFrom replica (stepped .replica) ≡ stepped .replica
+slots-stored : (replica : Replica) (stepped : Stepped) → Changes replica stepped → Holds (not (stepped .holds)) → Holds (stepped .prepares) → withSlots replica (stepped .replica .register .slots) ≡ stepped .replica
 slots-stored replica stepped changes t s = go (stepped .holds) refl t (stepped .prepares) refl s
   where
-    go : (h : Bool) → stepped .holds ≡ h → Holds (not h) → (p : Bool) → stepped .prepares ≡ p → Holds p → slotsFrom replica (stepped .replica) ≡ stepped .replica
+    go : (h : Bool) → stepped .holds ≡ h → Holds (not h) → (p : Bool) → stepped .prepares ≡ p → Holds p → withSlots replica (stepped .replica .register .slots) ≡ stepped .replica
     go true e z p f _ = absurd z
     go false e _ true f _ = sym (rw (e, f) at (changes .only))
     go false e _ false f z = absurd z
@@ -222,13 +224,7 @@ module _ {M : Type 1} (𝓤 : URA M) (H : Heap 𝓤) (A : Atoms 𝓤) (W : Given
         first ! $ branches ! (load ! (from ! (stop !)) (look ! 14 refl))
         -- what is held is stored
         (λ holds.
-        assigns ! (of-opd ! (load ! (from ! (fld ! refl (fld ! refl (fld ! refl (fld ! refl (stop !)))))) (look-in ! 20 (sub ! 0 refl (sub ! 3 refl (sub ! 2 refl (sub ! 3 refl (whole !)))))))) (from ! (hop ! (look ! 30 refl) (fld ! refl (fld ! refl (fld ! refl (stop !)))))) (store-in ! 7 (sub ! 0 refl (sub ! 3 refl (sub ! 2 refl (whole !)))) (uint-lawful 𝓤 H A W w32 .typed _ _ (LL.owed T.the-type T′.the-laws (stepped .replica .register .timestamp) _ (LL.owed G.the-type G′.the-laws (stepped .replica .register) _ (LL.owed R.the-type R′.the-laws (stepped .replica) _ (LL.owed D.the-type D′.the-laws stepped _ is-stepped .1 .1 .1 .0) .1 .1 .0) .1 .1 .1 .0) .0) .0)) $
-        assigns ! (of-opd ! (load ! (from ! (fld ! refl (fld ! refl (fld ! refl (fld ! refl (fld ! refl (stop !))))))) (look-in ! 20 (sub ! 0 refl (sub ! 1 refl (sub ! 3 refl (sub ! 2 refl (sub ! 3 refl (whole !))))))))) (from ! (hop ! (look ! 30 refl) (fld ! refl (fld ! refl (fld ! refl (fld ! refl (stop !))))))) (store-in ! 7 (sub ! 0 refl (sub ! 1 refl (sub ! 3 refl (sub ! 2 refl (whole !))))) (uint-lawful 𝓤 H A W w8 .typed _ _ (LL.owed Client.the-type Client′.the-laws (stepped .replica .register .timestamp .client) _ (LL.owed T.the-type T′.the-laws (stepped .replica .register .timestamp) _ (LL.owed G.the-type G′.the-laws (stepped .replica .register) _ (LL.owed R.the-type R′.the-laws (stepped .replica) _ (LL.owed D.the-type D′.the-laws stepped _ is-stepped .1 .1 .1 .0) .1 .1 .0) .1 .1 .1 .0) .1 .0) .0) .0)) $
-        assigns ! (of-opd ! (load ! (from ! (fld ! refl (fld ! refl (fld ! refl (stop !))))) (look-in ! 20 (sub ! 4 refl (sub ! 2 refl (sub ! 3 refl (whole !))))))) (from ! (hop ! (look ! 30 refl) (fld ! refl (fld ! refl (stop !))))) (store-in ! 7 (sub ! 4 refl (sub ! 2 refl (whole !))) (uint-lawful 𝓤 H A W w8 .typed _ _ (LL.owed G.the-type G′.the-laws (stepped .replica .register) _ (LL.owed R.the-type R′.the-laws (stepped .replica) _ (LL.owed D.the-type D′.the-laws stepped _ is-stepped .1 .1 .1 .0) .1 .1 .0) .1 .1 .1 .1 .0) .0)) $
-        assigns ! (of-opd ! (load ! (from ! (fld ! refl (fld ! refl (fld ! refl (stop !))))) (look-in ! 20 (sub ! 5 refl (sub ! 2 refl (sub ! 3 refl (whole !))))))) (from ! (hop ! (look ! 30 refl) (fld ! refl (fld ! refl (stop !))))) (store-in ! 7 (sub ! 5 refl (sub ! 2 refl (whole !))) (array-lawful 𝓤 H A W u8 (uint-lawful 𝓤 H A W w8) 17 .typed (G.the-type .to (stepped .replica .register) .1 .1 .1 .1 .1 .0) _ (LL.owed G.the-type G′.the-laws (stepped .replica .register) _ (LL.owed R.the-type R′.the-laws (stepped .replica) _ (LL.owed D.the-type D′.the-laws stepped _ is-stepped .1 .1 .1 .0) .1 .1 .0) .1 .1 .1 .1 .1 .0) .0)) $
-        assigns ! (of-opd ! (load ! (from ! (fld ! refl (fld ! refl (fld ! refl (stop !))))) (look-in ! 20 (sub ! 6 refl (sub ! 2 refl (sub ! 3 refl (whole !))))))) (from ! (hop ! (look ! 30 refl) (fld ! refl (fld ! refl (stop !))))) (store-in ! 7 (sub ! 6 refl (sub ! 2 refl (whole !))) (array-lawful 𝓤 H A W u8 (uint-lawful 𝓤 H A W w8) 32 .typed (G.the-type .to (stepped .replica .register) .1 .1 .1 .1 .1 .1 .0) _ (LL.owed G.the-type G′.the-laws (stepped .replica .register) _ (LL.owed R.the-type R′.the-laws (stepped .replica) _ (LL.owed D.the-type D′.the-laws stepped _ is-stepped .1 .1 .1 .0) .1 .1 .0) .1 .1 .1 .1 .1 .1 .0) .0)) $
-        assigns ! (of-opd ! (load ! (from ! (fld ! refl (fld ! refl (fld ! refl (stop !))))) (look-in ! 20 (sub ! 7 refl (sub ! 2 refl (sub ! 3 refl (whole !))))))) (from ! (hop ! (look ! 30 refl) (fld ! refl (fld ! refl (stop !))))) (store-in ! 7 (sub ! 7 refl (sub ! 2 refl (whole !))) (uint-lawful 𝓤 H A W w8 .typed _ _ (LL.owed G.the-type G′.the-laws (stepped .replica .register) _ (LL.owed R.the-type R′.the-laws (stepped .replica) _ (LL.owed D.the-type D′.the-laws stepped _ is-stepped .1 .1 .1 .0) .1 .1 .0) .1 .1 .1 .1 .1 .1 .1 .0) .0)) $
-        assigns-last ! (of-opd ! (load ! (from ! (fld ! refl (fld ! refl (fld ! refl (stop !))))) (look-in ! 20 (sub ! 8 refl (sub ! 2 refl (sub ! 3 refl (whole !))))))) (from ! (hop ! (look ! 30 refl) (fld ! refl (fld ! refl (stop !))))) (store-in ! 7 (sub ! 8 refl (sub ! 2 refl (whole !))) (array-lawful 𝓤 H A W u8 (uint-lawful 𝓤 H A W w8) 715 .typed (G.the-type .to (stepped .replica .register) .1 .1 .1 .1 .1 .1 .1 .1 .0) _ (LL.owed G.the-type G′.the-laws (stepped .replica .register) _ (LL.owed R.the-type R′.the-laws (stepped .replica) _ (LL.owed D.the-type D′.the-laws stepped _ is-stepped .1 .1 .1 .0) .1 .1 .0) .1 .1 .1 .1 .1 .1 .1 .1 .0) .0)) $
+        assigns-last ! (of-opd ! (load ! (from ! (fld ! refl (fld ! refl (fld ! refl (stop !))))) (look-in ! 20 (sub ! 1 refl (sub ! 2 refl (sub ! 3 refl (whole !))))))) (from ! (hop ! (look ! 30 refl) (fld ! refl (fld ! refl (stop !))))) (store-raw-in ! 7 (sub ! 1 refl (sub ! 2 refl (whole !))) (LL.lawful L.the-type L′.the-laws 𝓤 H A W .typed (stepped .replica .register .held) _ (LL.owed G.the-type G′.the-laws (stepped .replica .register) _ (LL.owed R.the-type R′.the-laws (stepped .replica) _ (LL.owed D.the-type D′.the-laws stepped _ is-stepped .1 .1 .1 .0) .1 .1 .0) .1 .0) .0)) $
         rewrite ! 7 (λ (r : Replica). ‵ (cellAt fullShare (R.the-row .mir) (record-val r ∷ []) b o)) (held-stored replica stepped (both .1) holds) refl $ exec ! C Λ (at-blocks (code.function .locals) (l₀ ∷ l₁ ∷ l₂ ∷ l₃ ∷ l₄ ∷ l₅ ∷ l₆ ∷ l₇ ∷ l₈ ∷ l₉ ∷ l₁₀ ∷ [])) code-of.t-7 (atRet (at-blocks (code.function .locals) (l₀ ∷ l₁ ∷ l₂ ∷ l₃ ∷ l₄ ∷ l₅ ∷ l₆ ∷ l₇ ∷ l₈ ∷ l₉ ∷ l₁₀ ∷ [])) Post) $
         assigns ! (of-opd ! (load ! (from ! (fld ! refl (stop !))) (look-in ! 20 (sub ! 0 refl (whole !))))) (from ! (stop !)) (init ! 32 refl (EL.lawful N.the-type N′.the-laws 𝓤 H A W tt .typed (stepped .answer) _ (LL.owed D.the-type D′.the-laws stepped _ is-stepped .0) .0)) $
         owned ! R.the-row (Is R.the-row) (LL.makes R.the-type R′.the-plain 𝓤 H A) (stepped .replica) _ (LL.owed D.the-type D′.the-laws stepped _ is-stepped .1 .1 .1 .0) $ move ! (8 ∷ 0 ∷ 10 ∷ 11 ∷ 12 ∷ []) $ closes ! tt R.the-row (stepped .replica) (record-val (stepped .replica) ∷ []) b o $
@@ -240,10 +236,7 @@ module _ {M : Type 1} (𝓤 : URA M) (H : Heap 𝓤) (A : Atoms 𝓤) (W : Given
         branches ! (load ! (from ! (stop !)) (look ! 12 refl))
         -- the slots are stored
         (λ prepares.
-        assigns ! (of-opd ! (load ! (from ! (fld ! refl (fld ! refl (fld ! refl (stop !))))) (look-in ! 20 (sub ! 0 refl (sub ! 2 refl (sub ! 3 refl (whole !))))))) (from ! (hop ! (look ! 30 refl) (fld ! refl (fld ! refl (stop !))))) (store-in ! 7 (sub ! 0 refl (sub ! 2 refl (whole !))) (array-lawful 𝓤 H A W u32 (uint-lawful 𝓤 H A W w32) 64 .typed (G.the-type .to (stepped .replica .register) .0) _ (LL.owed G.the-type G′.the-laws (stepped .replica .register) _ (LL.owed R.the-type R′.the-laws (stepped .replica) _ (LL.owed D.the-type D′.the-laws stepped _ is-stepped .1 .1 .1 .0) .1 .1 .0) .0) .0)) $
-        assigns ! (of-opd ! (load ! (from ! (fld ! refl (fld ! refl (fld ! refl (stop !))))) (look-in ! 20 (sub ! 1 refl (sub ! 2 refl (sub ! 3 refl (whole !))))))) (from ! (hop ! (look ! 30 refl) (fld ! refl (fld ! refl (stop !))))) (store-in ! 7 (sub ! 1 refl (sub ! 2 refl (whole !))) (array-lawful 𝓤 H A W u8 (uint-lawful 𝓤 H A W w8) 2048 .typed (G.the-type .to (stepped .replica .register) .1 .0) _ (LL.owed G.the-type G′.the-laws (stepped .replica .register) _ (LL.owed R.the-type R′.the-laws (stepped .replica) _ (LL.owed D.the-type D′.the-laws stepped _ is-stepped .1 .1 .1 .0) .1 .1 .0) .1 .0) .0)) $
-        assigns ! (of-opd ! (load ! (from ! (fld ! refl (fld ! refl (fld ! refl (fld ! refl (stop !)))))) (look-in ! 20 (sub ! 0 refl (sub ! 2 refl (sub ! 2 refl (sub ! 3 refl (whole !)))))))) (from ! (hop ! (look ! 30 refl) (fld ! refl (fld ! refl (fld ! refl (stop !)))))) (store-in ! 7 (sub ! 0 refl (sub ! 2 refl (sub ! 2 refl (whole !)))) (uint-lawful 𝓤 H A W w32 .typed _ _ (LL.owed T.the-type T′.the-laws (stepped .replica .register .written) _ (LL.owed G.the-type G′.the-laws (stepped .replica .register) _ (LL.owed R.the-type R′.the-laws (stepped .replica) _ (LL.owed D.the-type D′.the-laws stepped _ is-stepped .1 .1 .1 .0) .1 .1 .0) .1 .1 .0) .0) .0)) $
-        assigns-last ! (of-opd ! (load ! (from ! (fld ! refl (fld ! refl (fld ! refl (fld ! refl (fld ! refl (stop !))))))) (look-in ! 20 (sub ! 0 refl (sub ! 1 refl (sub ! 2 refl (sub ! 2 refl (sub ! 3 refl (whole !))))))))) (from ! (hop ! (look ! 30 refl) (fld ! refl (fld ! refl (fld ! refl (fld ! refl (stop !))))))) (store-in ! 7 (sub ! 0 refl (sub ! 1 refl (sub ! 2 refl (sub ! 2 refl (whole !))))) (uint-lawful 𝓤 H A W w8 .typed _ _ (LL.owed Client.the-type Client′.the-laws (stepped .replica .register .written .client) _ (LL.owed T.the-type T′.the-laws (stepped .replica .register .written) _ (LL.owed G.the-type G′.the-laws (stepped .replica .register) _ (LL.owed R.the-type R′.the-laws (stepped .replica) _ (LL.owed D.the-type D′.the-laws stepped _ is-stepped .1 .1 .1 .0) .1 .1 .0) .1 .1 .0) .1 .0) .0) .0)) $
+        assigns-last ! (of-opd ! (load ! (from ! (fld ! refl (fld ! refl (fld ! refl (stop !))))) (look-in ! 20 (sub ! 0 refl (sub ! 2 refl (sub ! 3 refl (whole !))))))) (from ! (hop ! (look ! 30 refl) (fld ! refl (fld ! refl (stop !))))) (store-raw-in ! 7 (sub ! 0 refl (sub ! 2 refl (whole !))) (LL.lawful S.the-type S′.the-laws 𝓤 H A W .typed (stepped .replica .register .slots) _ (LL.owed G.the-type G′.the-laws (stepped .replica .register) _ (LL.owed R.the-type R′.the-laws (stepped .replica) _ (LL.owed D.the-type D′.the-laws stepped _ is-stepped .1 .1 .1 .0) .1 .1 .0) .0) .0)) $
         rewrite ! 7 (λ (r : Replica). ‵ (cellAt fullShare (R.the-row .mir) (record-val r ∷ []) b o)) (slots-stored replica stepped (both .1) rests prepares) refl $ exec ! C Λ (at-blocks (code.function .locals) (l₀ ∷ l₁ ∷ l₂ ∷ l₃ ∷ l₄ ∷ l₅ ∷ l₆ ∷ l₇ ∷ l₈ ∷ l₉ ∷ l₁₀ ∷ [])) code-of.t-7 (atRet (at-blocks (code.function .locals) (l₀ ∷ l₁ ∷ l₂ ∷ l₃ ∷ l₄ ∷ l₅ ∷ l₆ ∷ l₇ ∷ l₈ ∷ l₉ ∷ l₁₀ ∷ [])) Post) $
         assigns ! (of-opd ! (load ! (from ! (fld ! refl (stop !))) (look-in ! 20 (sub ! 0 refl (whole !))))) (from ! (stop !)) (init ! 32 refl (EL.lawful N.the-type N′.the-laws 𝓤 H A W tt .typed (stepped .answer) _ (LL.owed D.the-type D′.the-laws stepped _ is-stepped .0) .0)) $
         owned ! R.the-row (Is R.the-row) (LL.makes R.the-type R′.the-plain 𝓤 H A) (stepped .replica) _ (LL.owed D.the-type D′.the-laws stepped _ is-stepped .1 .1 .1 .0) $ move ! (8 ∷ 0 ∷ 10 ∷ 11 ∷ 12 ∷ []) $ closes ! tt R.the-row (stepped .replica) (record-val (stepped .replica) ∷ []) b o $

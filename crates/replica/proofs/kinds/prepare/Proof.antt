@@ -1,13 +1,14 @@
 -- `replica::kinds::prepare` meets its contract. Assumes nothing.
-use mathlib.Core.Path.{_≡_, sym, _∙_}
-use mathlib.Core.Bool.{true}
+use mathlib.Core.Path.{_≡_, sym, ap, _∙_}
+use mathlib.Core.Bool.{true, _||_}
 use Prim.Native.Nat.{max}
+use native.Mathlib.Omega.{arith}
 use borrow.Author.Tests.{not-true, not-false}
 use borrow.Author.Needs.{needs}
 use Rattle.base.specs.Timestamp.{number, ofNumber, successor}
-use Rattle.protocol.specs.Replica.{isTimestamp}
+use Rattle.protocol.specs.Replica.{isTimestamp, slotIs, slotTakes, withSlots}
 use Rattle.replica.specs.Kinds.{ownOrMissing}
-use Rattle.replica.proofs.Replies.{sends, refuses, not-own, not-successor, not-taken, is-taken, slots-only}
+use Rattle.replica.proofs.Replies.{sends, refuses, not-own, not-successor, not-taken, is-taken}
 use Rattle.replica.proofs.kinds.prepare.Statement.{statement}
 use Rattle.replica.proofs.kinds.prepare.Tie as tie
 
@@ -18,6 +19,13 @@ follows : (c : tie.Else2)
     → isTimestamp (number (c .before .before .before .before .before .args .timestamp))
     (successor (ofNumber (number (c .before .before .before .before .before .args .shown))) (c .before .before .before .before .before .args .client)) ≡ true
 follows c = sym (c .before .is-successor .ensures) ∙ not-false _ (c .if2 .left)
+
+-- What the slot was asked.
+asked : (c : tie.After-slot-admits)
+    → c .slot-admits .result
+    ≡ (slotIs (c .before .before .before .before .before .before .before .before .before .args .client) (number (c .before .before .before .before .before .before .before .before .before .args .timestamp)) (c .before .before .before .before .before .before .before .before .before .args .digest .now) (c .before .before .before .before .before .before .before .before .before .args .replica .register .slots)
+    || slotTakes (c .before .before .before .before .before .before .before .before .before .args .client) (number (c .before .before .before .before .before .before .before .before .before .args .timestamp)) (max (number (c .before .before .before .before .before .before .before .before .before .args .replica .register .slots .written)) (number (c .before .before .before .before .before .before .before .before .before .args .last))) (c .before .before .before .before .before .before .before .before .before .args .replica .register .slots))
+asked c = rw (c .before .slot-of .ensures .0, c .before .slot-of .ensures .1, c .before .before .later .ensures) at (c .slot-admits .ensures)
 
 returns : tie.Need-returns
 returns c =
@@ -36,22 +44,23 @@ returns-2 c =
 
 returns-3 : tie.Need-returns-3
 returns-3 c =
-    let a = c .before .before .before .before .before .before .before .before .before .before .args in
-    let x = c .before .before .before in
+    let x = c .before .before in
+    let s = x .before .before .before .before .before .before .before .before .before in
+    let a = s .args in
     refuses (a .replica) (a .out .now) _ 15 _
-    (not-taken (a .replica) (a .client) (number (a .timestamp)) (a .digest .now) (number (a .shown)) (number (a .last)) (own (x .before .before .before .before)) (follows (x .before .before)) (x .after-prepare .result) (x .after-prepare .ensures) (not-true _ (c .before .if3 .taken)))
+    (not-taken (a .replica) (a .client) (number (a .timestamp)) (a .digest .now) (number (a .shown)) (number (a .last)) (own (x .before .before .before .before .before .before)) (follows (x .before .before .before .before)) (s .pre .0 .0) (omega (arith, s .pre .0 .1)) (x .slot-admits .result) (asked x) (not-true _ (c .before .if3 .taken)))
     (c .refuse3 .ensures)
 
 returns-4 : tie.Need-returns-4
 returns-4 c =
-    let s = c .before .before .before .before .before .before .before .before .before .before .before .before .before .before .before in
-    let a = s .args in
     let w = c .before .before .before .before in
     let x = w .before .before .before .before in
+    let s = x .before .before .before .before .before .before .before .before .before in
+    let a = s .args in
+    let put = c .with-slots .ensures ∙ ap (withSlots (a .replica)) (w .before .before .with-slot .ensures) in
     sends (a .replica) (a .out .now) _ _ _ _ _ _
-    (is-taken (a .replica) (a .client) (number (a .timestamp)) (a .digest .now) (number (a .shown)) (number (a .last)) (own (x .before .before .before .before)) (follows (x .before .before)) (x .after-prepare .result) (x .after-prepare .ensures) (not-false _ (w .before .before .if3 .left)))
-    (s .pre .1) (w .write-prepared .ensures) (c .before .answer-of .ensures) (c .with-register .ensures)
-    (record { only = rw (c .with-register .ensures) (slots-only (a .replica) (a .client) (number (a .timestamp)) (a .digest .now) (max (number (a .replica .register .written)) (number (a .last))) (x .after-prepare .result) (x .after-prepare .ensures) (not-false _ (w .before .before .if3 .left))) })
+    (is-taken (a .replica) (a .client) (number (a .timestamp)) (a .digest .now) (number (a .shown)) (number (a .last)) (own (x .before .before .before .before .before .before)) (follows (x .before .before .before .before)) (s .pre .0 .0) (omega (arith, s .pre .0 .1)) (x .slot-admits .result) (asked x) (not-false _ (w .before .before .before .if3 .left)))
+    (s .pre .1) (w .write-prepared .ensures) (c .before .answer-of .ensures) (rw (x .before .before .later .ensures) at put) (record { only = rw (c .with-slots .ensures) })
 
 pub prepare-spec : {M : Type 1} → statement M
 prepare-spec =
@@ -65,7 +74,10 @@ prepare-spec =
     returns-2
     (λ c κs. search needs)
     (λ c κs. search needs)
+    (λ c κs. search needs)
+    (λ c κs. search needs)
     returns-3
+    (λ c κs. search needs)
     (λ c κs. search needs)
     (λ c κs. search needs)
     (λ c κs. search needs)

@@ -3,7 +3,7 @@ use mathlib.Core.Path.{_≡_, refl, sym, ap, _∙_}
 use mathlib.Core.Bool.{true}
 use borrow.Author.Tests.{not-true, not-false}
 use borrow.Author.Needs.{needs}
-use Rattle.protocol.specs.Replica.{withRegister}
+use Rattle.protocol.specs.Replica.{withHeld}
 use Rattle.replica.specs.Kinds.{proofOf, standsFor}
 use Rattle.replica.proofs.Replies.{sends, refuses, wrong-card, right-card, not-later, is-later, standing-short}
 use Rattle.replica.proofs.kinds.write_parts.Statement.{statement}
@@ -28,8 +28,8 @@ returns-2 c =
     (s .pre .3) (c .before .before .before .before .before .before .write-written .ensures) (c .before .before .before .answer-of .ensures)
     (sym (not-later (a .replica) (a .card .now) proof (sym (c .before .is-before .ensures) ∙ not-true _ (c .if2 .taken)))) (record { only = refl })
 
-with-held-requires : tie.Need-with-held-requires
-with-held-requires c κs =
+holding-requires : tie.Need-holding-requires
+holding-requires c κs =
     let s = c .before .before .before .before .before .before .before .before .before .before .before .before .before .before in
     record { card-short = standing-short (s .args .card .now) (s .args .digest .now) (right (c .before .before .before .before .before .before .before .before)); digest-whole = s .pre .0; few = s .pre .1; entries-whole = s .pre .2 }
 
@@ -41,8 +41,8 @@ returns-3 c =
     let later = is-later (a .replica) (a .card .now) proof (sym (c .before .before .before .is-before .ensures) ∙ not-false _ (c .before .before .if2 .left)) in
     sends (a .replica) (a .out .now) _ _ _ _ _ _ (right-card (a .replica) (a .card .now) proof (right (c .before .before .before .before .before .before .before .before .before .before)))
     (s .pre .3) (c .before .before .before .before .before .before .before .before .write-written .ensures) (c .before .before .before .before .before .answer-of .ensures)
-    (c .with-register .ensures ∙ ap (withRegister (a .replica)) (c .before .with-held .ensures ∙ sym later))
-    (record { only = rw (c .with-register .ensures, c .before .with-held .ensures) })
+    (c .with-held .ensures ∙ ap (withHeld (a .replica)) (c .before .holding .ensures ∙ sym later))
+    (record { only = rw (c .with-held .ensures) })
 
 pub write-parts-spec : {M : Type 1} → statement M
 write-parts-spec =
@@ -56,7 +56,7 @@ write-parts-spec =
     (λ c κs. search needs)
     (λ c. search needs)
     returns-2
-    with-held-requires
+    holding-requires
     (λ c κs. search needs)
     (λ c. search needs)
     returns-3)
