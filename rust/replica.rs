@@ -72,16 +72,28 @@ struct Timestamp {
 
 #[repr(C)]
 #[derive(Debug, PartialEq, Eq)]
-struct Register {
+struct Slots {
     counts: [u32; 64],
     digests: [u8; 2048],
     written: Timestamp,
+}
+
+#[repr(C)]
+#[derive(Debug, PartialEq, Eq)]
+struct Held {
     timestamp: Timestamp,
     card_length: u8,
     card: [u8; 17],
     digest: [u8; 32],
     entry_count: u8,
     entries: [u8; 715],
+}
+
+#[repr(C)]
+#[derive(Debug, PartialEq, Eq)]
+struct Register {
+    slots: Slots,
+    held: Held,
 }
 
 #[repr(C)]
@@ -107,14 +119,15 @@ struct NumberedAnswer {
 // C's layout on x86-64: a field that moved or grew does not compile.
 const _: () = {
     assert!(size_of::<Timestamp>() == 8);
-    assert!(offset_of!(Register, digests) == 256);
-    assert!(offset_of!(Register, written) == 2_304);
-    assert!(offset_of!(Register, timestamp) == 2_312);
-    assert!(offset_of!(Register, card_length) == 2_320);
-    assert!(offset_of!(Register, card) == 2_321);
-    assert!(offset_of!(Register, digest) == 2_338);
-    assert!(offset_of!(Register, entry_count) == 2_370);
-    assert!(offset_of!(Register, entries) == 2_371);
+    assert!(offset_of!(Slots, digests) == 256);
+    assert!(offset_of!(Slots, written) == 2_304);
+    assert!(offset_of!(Held, card_length) == 8);
+    assert!(offset_of!(Held, card) == 9);
+    assert!(offset_of!(Held, digest) == 26);
+    assert!(offset_of!(Held, entry_count) == 58);
+    assert!(offset_of!(Held, entries) == 59);
+    assert!(size_of::<Held>() == 776);
+    assert!(offset_of!(Register, held) == 2_312);
     assert!(size_of::<Register>() == 3_088);
     assert!(offset_of!(Record, register) == 4);
     assert!(size_of::<Record>() == 3_092 && align_of::<Record>() == 4);

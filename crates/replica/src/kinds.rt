@@ -80,16 +80,16 @@ pub(super) fn read_stamp(replica: Replica, client: ClientId, nonce: u64, out: &m
     requires { ⌜ longest ≤ length (now out) ⌝ }
     ensures { λ r. ⌜ Leaves replica (replicaAnswers replica (now (out .entry)) (onReadStamp replica client nonce)) r (now (out .exit)) ⌝ }
 {
-    let held = replica.register.held;
-    let digest = held.digest;
-    let entries = held.entries;
+    let proof = replica.register.held;
+    let digest = proof.digest;
+    let entries = proof.entries;
     let encoded = wire::writer::write_stamp(
         out,
         replica.id,
         nonce,
-        held.timestamp,
+        proof.timestamp,
         &digest,
-        held.entry_count,
+        proof.entry_count,
         &entries,
         client,
     );

@@ -1,5 +1,5 @@
--- `replica::step_in_place` meets its contract: a walk of its MIR, by hand. The borrow of the record is opened, the record is copied out and passed by value to `step`, with the three slices at their own lifetimes; the record that `step` returns is stored in the borrow's cell, and the borrow is closed at it.
--- All that the proof knows of `step` is that it meets its contract, which is the contract here too: its fact is passed on as it is. The structs' laws say how a record's machine value is spelled, so no array is taken apart.
+-- `replica::step_in_place` meets its contract: a walk of its MIR, by hand. The borrow of the record is opened, the record is copied out and passed by value to `step`, with the three slices at their own lifetimes; the part that `step` says it changed is stored in the borrow's cell, which makes the cell the record that `step` returned, and the borrow is closed at it.
+-- All that the proof knows of `step` is its contract: `Steps`, which is the contract here too and is passed on as it is, and `Changes`. The structs' laws say how a record's machine value is spelled, so no array is taken apart.
 -- Assumes nothing.
 use mathlib.Core.Path.{_≡_, refl, sym, ap}
 use Prim.Native.Nat.{ℕ}
@@ -111,6 +111,10 @@ nothing-stored replica stepped changes t s = go (stepped .holds) refl t (stepped
     go false e _ true f z = absurd z
     go false e _ false f _ = sym (rw (e, f) at (changes .only))
 
+-- What several branches of a walk end in, said once: the first of them tells its context.
+abbrev once : {S T : Type 1} → (S → T) → S → T
+once branches ending = branches ending
+
 -- The machine value of a record.
 abbrev record-val : Replica → Val
 record-val replica = LL.tuple-val R.the-type R′.the-laws (R.the-type .to replica)
@@ -221,36 +225,30 @@ module _ {M : Type 1} (𝓤 : URA M) (H : Heap 𝓤) (A : Atoms 𝓤) (W : Given
         land ! (from ! (stop !)) (init ! 20 refl (LL.lawful D.the-type D′.the-laws 𝓤 H A W .typed stepped _ is-stepped .0)) $ rewrite ! 20 (λ (u : Val). ‵ (fat fullShare D′.mir l₆ 0 u)) (ap only (LL.tells D.the-type D′.the-laws stepped _ is-stepped)) refl $
         -- _9 = stepped.holds
         assigns ! (of-opd ! (load ! (from ! (fld ! refl (stop !))) (look-in ! 20 (sub ! 1 refl (whole !))))) (from ! (stop !)) (init ! 14 refl (tt, tt)) $
+        once
+        (λ ending.
         first ! $ branches ! (load ! (from ! (stop !)) (look ! 14 refl))
         -- what is held is stored
         (λ holds.
         assigns-last ! (of-opd ! (load ! (from ! (fld ! refl (fld ! refl (fld ! refl (stop !))))) (look-in ! 20 (sub ! 1 refl (sub ! 2 refl (sub ! 3 refl (whole !))))))) (from ! (hop ! (look ! 30 refl) (fld ! refl (fld ! refl (stop !))))) (store-raw-in ! 7 (sub ! 1 refl (sub ! 2 refl (whole !))) (LL.lawful L.the-type L′.the-laws 𝓤 H A W .typed (stepped .replica .register .held) _ (LL.owed G.the-type G′.the-laws (stepped .replica .register) _ (LL.owed R.the-type R′.the-laws (stepped .replica) _ (LL.owed D.the-type D′.the-laws stepped _ is-stepped .1 .1 .1 .0) .1 .1 .0) .1 .0) .0)) $
-        rewrite ! 7 (λ (r : Replica). ‵ (cellAt fullShare (R.the-row .mir) (record-val r ∷ []) b o)) (held-stored replica stepped (both .1) holds) refl $ exec ! C Λ (at-blocks (code.function .locals) (l₀ ∷ l₁ ∷ l₂ ∷ l₃ ∷ l₄ ∷ l₅ ∷ l₆ ∷ l₇ ∷ l₈ ∷ l₉ ∷ l₁₀ ∷ [])) code-of.t-7 (atRet (at-blocks (code.function .locals) (l₀ ∷ l₁ ∷ l₂ ∷ l₃ ∷ l₄ ∷ l₅ ∷ l₆ ∷ l₇ ∷ l₈ ∷ l₉ ∷ l₁₀ ∷ [])) Post) $
-        assigns ! (of-opd ! (load ! (from ! (fld ! refl (stop !))) (look-in ! 20 (sub ! 0 refl (whole !))))) (from ! (stop !)) (init ! 32 refl (EL.lawful N.the-type N′.the-laws 𝓤 H A W tt .typed (stepped .answer) _ (LL.owed D.the-type D′.the-laws stepped _ is-stepped .0) .0)) $
-        owned ! R.the-row (Is R.the-row) (LL.makes R.the-type R′.the-plain 𝓤 H A) (stepped .replica) _ (LL.owed D.the-type D′.the-laws stepped _ is-stepped .1 .1 .1 .0) $ move ! (8 ∷ 0 ∷ 10 ∷ 11 ∷ 12 ∷ []) $ closes ! tt R.the-row (stepped .replica) (record-val (stepped .replica) ∷ []) b o $
-        returns ! (look ! 31 refl) $ forget ! 13 refl $ forget ! 15 refl $ forget ! 17 refl $ forget ! 19 refl $ forget ! 21 refl $ forget ! 23 refl $ forget ! 25 refl $ forget ! 27 refl $ forget ! 29 refl $ forget ! 31 refl $
-        move ! (31 ∷ 32 ∷ []) $ free1 ! $ move ! (29 ∷ 30 ∷ []) $ free1 ! $ move ! (27 ∷ 28 ∷ []) $ free1 ! $ move ! (25 ∷ 26 ∷ []) $ free1 ! $ move ! (23 ∷ 24 ∷ []) $ free1 ! $ move ! (21 ∷ 22 ∷ []) $ free1 ! $ move ! (19 ∷ 20 ∷ []) $ free1 ! $ move ! (17 ∷ 18 ∷ []) $ free1 ! $ move ! (15 ∷ 16 ∷ []) $ free1 ! $ move ! (13 ∷ 14 ∷ []) $ free1 ! $ move ! (11 ∷ 12 ∷ []) $ free1 ! $ free0 ! $
-        keep ! (0 ∷ 1 ∷ 2 ∷ 4 ∷ 5 ∷ 11 ∷ []) $ by ! (exits stepped (zs .1 .1 .1 .0) _ (both .0) long (LL.owed D.the-type D′.the-laws stepped _ is-stepped .0)))
+        rewrite ! 7 (λ (r : Replica). ‵ (cellAt fullShare (R.the-row .mir) (record-val r ∷ []) b o)) (held-stored replica stepped (both .1) holds) refl $ ending)
         -- _10 = stepped.prepares
         (λ rests. assigns ! (of-opd ! (load ! (from ! (fld ! refl (stop !))) (look-in ! 20 (sub ! 2 refl (whole !))))) (from ! (stop !)) (init ! 12 refl (tt, tt)) $
         branches ! (load ! (from ! (stop !)) (look ! 12 refl))
         -- the slots are stored
         (λ prepares.
         assigns-last ! (of-opd ! (load ! (from ! (fld ! refl (fld ! refl (fld ! refl (stop !))))) (look-in ! 20 (sub ! 0 refl (sub ! 2 refl (sub ! 3 refl (whole !))))))) (from ! (hop ! (look ! 30 refl) (fld ! refl (fld ! refl (stop !))))) (store-raw-in ! 7 (sub ! 0 refl (sub ! 2 refl (whole !))) (LL.lawful S.the-type S′.the-laws 𝓤 H A W .typed (stepped .replica .register .slots) _ (LL.owed G.the-type G′.the-laws (stepped .replica .register) _ (LL.owed R.the-type R′.the-laws (stepped .replica) _ (LL.owed D.the-type D′.the-laws stepped _ is-stepped .1 .1 .1 .0) .1 .1 .0) .0) .0)) $
-        rewrite ! 7 (λ (r : Replica). ‵ (cellAt fullShare (R.the-row .mir) (record-val r ∷ []) b o)) (slots-stored replica stepped (both .1) rests prepares) refl $ exec ! C Λ (at-blocks (code.function .locals) (l₀ ∷ l₁ ∷ l₂ ∷ l₃ ∷ l₄ ∷ l₅ ∷ l₆ ∷ l₇ ∷ l₈ ∷ l₉ ∷ l₁₀ ∷ [])) code-of.t-7 (atRet (at-blocks (code.function .locals) (l₀ ∷ l₁ ∷ l₂ ∷ l₃ ∷ l₄ ∷ l₅ ∷ l₆ ∷ l₇ ∷ l₈ ∷ l₉ ∷ l₁₀ ∷ [])) Post) $
-        assigns ! (of-opd ! (load ! (from ! (fld ! refl (stop !))) (look-in ! 20 (sub ! 0 refl (whole !))))) (from ! (stop !)) (init ! 32 refl (EL.lawful N.the-type N′.the-laws 𝓤 H A W tt .typed (stepped .answer) _ (LL.owed D.the-type D′.the-laws stepped _ is-stepped .0) .0)) $
-        owned ! R.the-row (Is R.the-row) (LL.makes R.the-type R′.the-plain 𝓤 H A) (stepped .replica) _ (LL.owed D.the-type D′.the-laws stepped _ is-stepped .1 .1 .1 .0) $ move ! (8 ∷ 0 ∷ 10 ∷ 11 ∷ 12 ∷ []) $ closes ! tt R.the-row (stepped .replica) (record-val (stepped .replica) ∷ []) b o $
-        returns ! (look ! 31 refl) $ forget ! 11 refl $ forget ! 13 refl $ forget ! 15 refl $ forget ! 17 refl $ forget ! 19 refl $ forget ! 21 refl $ forget ! 23 refl $ forget ! 25 refl $ forget ! 27 refl $ forget ! 29 refl $ forget ! 31 refl $
-        move ! (31 ∷ 32 ∷ []) $ free1 ! $ move ! (29 ∷ 30 ∷ []) $ free1 ! $ move ! (27 ∷ 28 ∷ []) $ free1 ! $ move ! (25 ∷ 26 ∷ []) $ free1 ! $ move ! (23 ∷ 24 ∷ []) $ free1 ! $ move ! (21 ∷ 22 ∷ []) $ free1 ! $ move ! (19 ∷ 20 ∷ []) $ free1 ! $ move ! (17 ∷ 18 ∷ []) $ free1 ! $ move ! (15 ∷ 16 ∷ []) $ free1 ! $ move ! (13 ∷ 14 ∷ []) $ free1 ! $ move ! (11 ∷ 12 ∷ []) $ free1 ! $ free0 ! $
-        keep ! (0 ∷ 1 ∷ 2 ∷ 4 ∷ 5 ∷ 11 ∷ []) $ by ! (exits stepped (zs .1 .1 .1 .0) _ (both .0) long (LL.owed D.the-type D′.the-laws stepped _ is-stepped .0)))
+        rewrite ! 7 (λ (r : Replica). ‵ (cellAt fullShare (R.the-row .mir) (record-val r ∷ []) b o)) (slots-stored replica stepped (both .1) rests prepares) refl $ forget ! 12 refl $ ending)
         -- nothing is stored
         (λ keeps. skips ! $
-        rewrite ! 7 (λ (r : Replica). ‵ (cellAt fullShare (R.the-row .mir) (record-val r ∷ []) b o)) (nothing-stored replica stepped (both .1) rests keeps) refl $ exec ! C Λ (at-blocks (code.function .locals) (l₀ ∷ l₁ ∷ l₂ ∷ l₃ ∷ l₄ ∷ l₅ ∷ l₆ ∷ l₇ ∷ l₈ ∷ l₉ ∷ l₁₀ ∷ [])) code-of.t-7 (atRet (at-blocks (code.function .locals) (l₀ ∷ l₁ ∷ l₂ ∷ l₃ ∷ l₄ ∷ l₅ ∷ l₆ ∷ l₇ ∷ l₈ ∷ l₉ ∷ l₁₀ ∷ [])) Post) $
+        rewrite ! 7 (λ (r : Replica). ‵ (cellAt fullShare (R.the-row .mir) (record-val r ∷ []) b o)) (nothing-stored replica stepped (both .1) rests keeps) refl $ forget ! 12 refl $ ending)))
+        -- the answer, and the end
+        (exec ! C Λ (at-blocks (code.function .locals) (l₀ ∷ l₁ ∷ l₂ ∷ l₃ ∷ l₄ ∷ l₅ ∷ l₆ ∷ l₇ ∷ l₈ ∷ l₉ ∷ l₁₀ ∷ [])) code-of.t-7 (atRet (at-blocks (code.function .locals) (l₀ ∷ l₁ ∷ l₂ ∷ l₃ ∷ l₄ ∷ l₅ ∷ l₆ ∷ l₇ ∷ l₈ ∷ l₉ ∷ l₁₀ ∷ [])) Post) $
         assigns ! (of-opd ! (load ! (from ! (fld ! refl (stop !))) (look-in ! 20 (sub ! 0 refl (whole !))))) (from ! (stop !)) (init ! 32 refl (EL.lawful N.the-type N′.the-laws 𝓤 H A W tt .typed (stepped .answer) _ (LL.owed D.the-type D′.the-laws stepped _ is-stepped .0) .0)) $
         owned ! R.the-row (Is R.the-row) (LL.makes R.the-type R′.the-plain 𝓤 H A) (stepped .replica) _ (LL.owed D.the-type D′.the-laws stepped _ is-stepped .1 .1 .1 .0) $ move ! (8 ∷ 0 ∷ 10 ∷ 11 ∷ 12 ∷ []) $ closes ! tt R.the-row (stepped .replica) (record-val (stepped .replica) ∷ []) b o $
-        returns ! (look ! 31 refl) $ forget ! 11 refl $ forget ! 13 refl $ forget ! 15 refl $ forget ! 17 refl $ forget ! 19 refl $ forget ! 21 refl $ forget ! 23 refl $ forget ! 25 refl $ forget ! 27 refl $ forget ! 29 refl $ forget ! 31 refl $
+        returns ! (look ! 31 refl) $ forget ! 13 refl $ forget ! 15 refl $ forget ! 17 refl $ forget ! 19 refl $ forget ! 21 refl $ forget ! 23 refl $ forget ! 25 refl $ forget ! 27 refl $ forget ! 29 refl $ forget ! 31 refl $
         move ! (31 ∷ 32 ∷ []) $ free1 ! $ move ! (29 ∷ 30 ∷ []) $ free1 ! $ move ! (27 ∷ 28 ∷ []) $ free1 ! $ move ! (25 ∷ 26 ∷ []) $ free1 ! $ move ! (23 ∷ 24 ∷ []) $ free1 ! $ move ! (21 ∷ 22 ∷ []) $ free1 ! $ move ! (19 ∷ 20 ∷ []) $ free1 ! $ move ! (17 ∷ 18 ∷ []) $ free1 ! $ move ! (15 ∷ 16 ∷ []) $ free1 ! $ move ! (13 ∷ 14 ∷ []) $ free1 ! $ move ! (11 ∷ 12 ∷ []) $ free1 ! $ free0 ! $
-        keep ! (0 ∷ 1 ∷ 2 ∷ 4 ∷ 5 ∷ 11 ∷ []) $ by ! (exits stepped (zs .1 .1 .1 .0) _ (both .0) long (LL.owed D.the-type D′.the-laws stepped _ is-stepped .0)))))))))))))))))))))))
+        keep ! (0 ∷ 1 ∷ 2 ∷ 4 ∷ 5 ∷ 11 ∷ []) $ by ! (exits stepped (zs .1 .1 .1 .0) _ (both .0) long (LL.owed D.the-type D′.the-laws stepped _ is-stepped .0))))))))))))))))))))))
 
 module _ {M : Type 1} (𝓤 : URA M) (H : Heap 𝓤) (A : Atoms 𝓤) (W : Given 𝓤 H A) (mem : Memory → SProp 𝓤) (run : Routine → Fun 𝓤) where
   step-in-place-walks : (C : Calls 𝓤 H) (Λ : Loops 𝓤 H) → FmC 𝓤 H (W .laws) C → Triple 𝓤 (C #replica·step) (Step 𝓤 H A mem run) → Walks 𝓤 H A thin.ended stayed (WpFn 𝓤 H C Λ code.function) (thin.clauses 𝓤 H A mem run)
