@@ -27,11 +27,11 @@ use Rattle.wire.proofs.Parsed.{Parsed, parsed, preparedAt, prepared-whole, take
 use Rattle.wire.proofs.Rows.{Taken, card as card-row}
 use Rattle.wire.proofs.Windows.{behind-first}
 use Rattle.wire.proofs.card.Digests.{card-short}
-use Rattle.protocol.specs.Client.{onStamp, onPrepared, onWritten, onCard}
+use Rattle.protocol.specs.Client.{onStamp, onPrepared, onWritten, onCard, onReply}
 use Rattle.protocol.specs.Parts.{cardStands, startCard}
 use Rattle.protocol.specs.declared.client.Client.{Client}
 use Rattle.client.specs.Arrays.{proofIn}
-use Rattle.client.specs.Messages.{onReply, afterTests, Passing}
+use Rattle.client.specs.Messages.{afterTests, Passing}
 
 some-bytes : (proof : List ℕ) → 0 < length proof → proofIn proof ≡ some (preparedFrom proof)
 some-bytes [] h = absurd (omega arith)

@@ -11,13 +11,12 @@ use Rattle.base.specs.declared.party.ClientId.{ClientId}
 use Rattle.base.specs.declared.party.ReplicaId.{ReplicaId}
 use Rattle.base.specs.declared.replica_set.ReplicaSet.{ReplicaSet}
 use Rattle.base.specs.declared.timestamp.Timestamp.{Timestamp}
-use Rattle.wire.specs.Checks.{checked, proven}
-use Rattle.wire.specs.Decode.{decode}
+use Rattle.wire.specs.Acceptance.{admitted}
 use Rattle.wire.specs.Layout.{signature}
 use Rattle.wire.specs.Message.{Message, READ-STAMP, PREPARE, WRITE, READ, STAMP, PREPARED, WRITTEN, CARD}
 use Rattle.wire.specs.Proof.{PreparedProof}
 use Rattle.wire.specs.declared.message.Party.the-variants.{Client as AtClient}
-use Rattle.protocol.specs.Client.{send, counted, done, ended, Turn, currentCard, bestOf, keepBetter, showedBy, keepBetterCard, beginWrite, beginRead, toPrepare, afterStamp, onStamp, afterPrepared, onPrepared, afterWritten, afterWriteBack, onWritten, afterCard, onCard, onMessage, clientStep}
+use Rattle.protocol.specs.Client.{send, counted, done, ended, Turn, currentCard, bestOf, keepBetter, showedBy, keepBetterCard, beginWrite, beginRead, toPrepare, afterStamp, onStamp, afterPrepared, onPrepared, afterWritten, afterWriteBack, onWritten, afterCard, onCard, onReply, clientStep}
 use Rattle.protocol.specs.Replica.{withOutput}
 use Rattle.protocol.specs.declared.client.Client.{Client}
 use Rattle.protocol.specs.declared.client.Phase.{Phase}
@@ -94,25 +93,17 @@ short-on-card client sender nonce card proof addressed (Cards asked best held sh
     short-guard 18 _ _ (short-cards asked (bestOf best proof) (with held sender) (showedBy best proof sender showed) (keepBetterCard best card proof client))
 short-on-card client sender nonce card proof addressed (WriteBack asked held) = refuses
 
--- 6 to 11 in front.
-short-tests : (f : ℕ) (ranged : Bool) (message : Message) (verdicts : List ℕ) (next : Outcome Turn) → Short next → Short (guard 6 ranged (checked f message verdicts next))
-unfolding checked proven
-short-tests f ranged message verdicts next h = short-guard 6 _ _ (short-guard 7 _ _ (short-guard 8 _ _ (short-guard 9 _ _ (short-guard 10 _ _ (short-guard 11 _ _ h)))))
-
 module _ (client : Client) where
-  short-message : (verdicts mark : List ℕ) (message : Message) → Short (onMessage client verdicts mark message)
-  unfolding onMessage
-  short-message verdicts mark (STAMP sender nonce proof addressed) =
-      short-tests (client .f) _ (STAMP sender nonce proof addressed) verdicts _ (short-stamp client sender nonce proof addressed (client .phase))
-  short-message verdicts mark (PREPARED sender timestamp digest) =
-      short-tests (client .f) _ (PREPARED sender timestamp digest) verdicts _ (short-prepared client sender timestamp digest mark (client .phase))
-  short-message verdicts mark (WRITTEN sender timestamp) = short-tests (client .f) _ (WRITTEN sender timestamp) verdicts _ (short-written client sender timestamp mark (client .phase))
-  short-message verdicts mark (CARD sender nonce card proof addressed) =
-      short-tests (client .f) _ (CARD sender nonce card proof addressed) verdicts _ (short-guard 14 _ _ (short-on-card client sender nonce card proof addressed (client .phase)))
-  short-message verdicts mark (READ-STAMP sender nonce) = refuses
-  short-message verdicts mark (PREPARE sender timestamp digest proof last) = refuses
-  short-message verdicts mark (WRITE sender card proof) = refuses
-  short-message verdicts mark (READ sender nonce) = refuses
+  short-reply : (mark : List ℕ) (message : Message) → Short (onReply client mark message)
+  unfolding onReply
+  short-reply mark (STAMP sender nonce proof addressed) = short-stamp client sender nonce proof addressed (client .phase)
+  short-reply mark (PREPARED sender timestamp digest) = short-prepared client sender timestamp digest mark (client .phase)
+  short-reply mark (WRITTEN sender timestamp) = short-written client sender timestamp mark (client .phase)
+  short-reply mark (CARD sender nonce card proof addressed) = short-guard 14 _ _ (short-on-card client sender nonce card proof addressed (client .phase))
+  short-reply mark (READ-STAMP sender nonce) = refuses
+  short-reply mark (PREPARE sender timestamp digest proof last) = refuses
+  short-reply mark (WRITE sender card proof) = refuses
+  short-reply mark (READ sender nonce) = refuses
 
   module _ (old : List ℕ) where
     pub short-write : (card : List ℕ) → Short (withOutput old (beginWrite client card))
@@ -125,8 +116,8 @@ module _ (client : Client) where
 
     pub short-step : (bytes verdicts : List ℕ) → Short (withOutput old (clientStep client bytes verdicts))
     unfolding clientStep
-    short-step bytes verdicts = short-guard 1 _ _ (go (decode AtClient bytes))
+    short-step bytes verdicts = short-guard 1 _ _ (go (admitted AtClient (client .f) bytes verdicts))
       where
-        go : (m : Outcome Message) → Short (m >>= onMessage client verdicts (signature bytes))
-        go (accepted message) = short-message verdicts (signature bytes) message
+        go : (m : Outcome Message) → Short (m >>= onReply client (signature bytes))
+        go (accepted message) = short-reply (signature bytes) message
         go (refused number) = refuses

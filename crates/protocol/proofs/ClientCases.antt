@@ -20,7 +20,7 @@ use Rattle.protocol.specs.declared.client.Client.{Client}
 use Rattle.protocol.specs.declared.client.Phase.{Phase}
 use Rattle.protocol.specs.declared.client.Phase.the-variants.{Idle, Stamps, Prepareds, Writtens, Cards, WriteBack}
 use Rattle.protocol.proofs.Fit.{ClientFits, TimestampFits}
-use Rattle.protocol.proofs.Passed.{Passed}
+use Rattle.wire.proofs.Passed.{Passed}
 
 -- What an operation's beginning does: it sends the question, with the next nonce.
 pub record Begun (before : Client) (question : Message) (phase : Phase) (card : List ℕ) (turn : Turn) : Type 0 where

@@ -8,15 +8,13 @@ use borrow.Author.Tests.{ltb-true}
 use lib.Dec.{ltb}
 use lib.ListN.{length}
 use Rattle.base.specs.BigEndian.{Bytes}
-use Rattle.base.specs.Outcome.{Outcome, accepted}
-use Rattle.base.specs.Party.{isReplica}
+use Rattle.base.specs.Outcome.{accepted}
 use Rattle.base.specs.ReplicaSet.{empty}
 use Rattle.base.specs.Timestamp.{start}
-use Rattle.base.specs.declared.party.ReplicaId.{ReplicaId}
 use Rattle.base.proofs.Booleans.{and-true-both}
-use Rattle.wire.specs.Checks.{checked}
+use Rattle.wire.specs.Acceptance.{senderOf, inItsRange}
 use Rattle.wire.specs.Message.{Message, READ-STAMP, PREPARE, WRITE, READ, STAMP, PREPARED, WRITTEN, CARD, Fits, size, Legal, IsSignature}
-use Rattle.protocol.specs.Client.{send, Turn, isIdle, mayBegin, beginning, beginWrite, beginRead, fromReplica, onMessage}
+use Rattle.protocol.specs.Client.{send, Turn, isIdle, mayBegin, beginning, beginWrite, beginRead, onReply}
 use Rattle.protocol.specs.Parts.{startCard}
 use Rattle.protocol.specs.declared.client.Client.{Client}
 use Rattle.protocol.specs.declared.client.Phase.{Phase}
@@ -27,7 +25,7 @@ use Rattle.wire.proofs.card.Digests.{card-short}
 use Rattle.protocol.proofs.ClientKept.{beginning-fits}
 use Rattle.protocol.proofs.ClientReplies.{stamp-facts, prepared-facts, written-facts, card-facts}
 use Rattle.protocol.proofs.Fit.{ClientFits}
-use Rattle.protocol.proofs.Passed.{Passed, checked-passed}
+use Rattle.wire.proofs.Passed.{Passed}
 pub use Rattle.protocol.proofs.ClientCases.{Begun, Leaves, SameCard, NewFrom, betterCard, ClientCase, stamp-counted, stamps-enough, stamps-ended, prepared-counted, prepareds-enough, written-counted, writtens-enough, card-counted, cards-agree, cards-differ, back-counted, back-enough, LegalAnswer, PhaseFits, ClientFacts}
 
 idle-phase : (phase : Phase) → isIdle phase ≡ true → phase ≡ Idle
@@ -78,29 +76,21 @@ begins-read before turn fits e = outcome .holds turn e
         (begun before _ _ startCard fits may (bytes-zeros 2) (omega arith) (λ small. record { fits = (fits .id-fits, small); short = omega arith })))
 
 module _ (before : Client) (verdicts mark : List ℕ) (fits : ClientFits before) (phase-fits : PhaseFits (before .phase)) (mark-fits : IsSignature mark) where
-  -- The sender is a replica, the message passed 7 to 11, and the rest holds.
-  from-replica : (sender : ReplicaId) (message : Message) (next : Outcome Turn)
-      → (isReplica (before .f) sender ≡ true → Passed (before .f) message verdicts → Accepts (ClientFacts before verdicts message) next)
-      → Accepts (ClientFacts before verdicts message) (fromReplica before sender (checked (before .f) message verdicts next))
-  from-replica sender message next h =
-      by-guard 6 (λ in-range. record { holds = λ turn e. let (passed, rest) = checked-passed (before .f) message verdicts next turn e in h in-range passed .holds turn rest })
-
-  facts : (message : Message) → Fits message → Accepts (ClientFacts before verdicts message) (onMessage before verdicts mark message)
-  unfolding onMessage Fits
-  facts (STAMP sender nonce proof addressed) message-fits =
-      from-replica sender _ _ (λ in-range passed. stamp-facts before verdicts fits sender in-range nonce proof addressed passed (message-fits .2) (before .phase) refl phase-fits)
-  facts (PREPARED sender timestamp digest) message-fits =
-      from-replica sender _ _ (λ in-range passed. prepared-facts before verdicts fits sender in-range mark mark-fits timestamp digest passed (before .phase) refl phase-fits)
-  facts (WRITTEN sender timestamp) message-fits =
-      from-replica sender _ _ (λ in-range passed. written-facts before verdicts fits sender in-range mark mark-fits timestamp passed (before .phase) refl phase-fits)
-  facts (CARD sender nonce card proof addressed) message-fits =
-      from-replica sender _ _ (λ in-range passed. by-guard 14 (λ stands.
-      card-facts before verdicts fits sender in-range nonce card proof addressed passed (message-fits .2 .1) (message-fits .3) stands (before .phase) refl phase-fits))
-  facts (READ-STAMP sender nonce) message-fits = by-refusal
-  facts (PREPARE sender timestamp digest proof last) message-fits = by-refusal
-  facts (WRITE sender card proof) message-fits = by-refusal
-  facts (READ sender nonce) message-fits = by-refusal
+  facts : (message : Message) → Fits message → inItsRange (before .f) (senderOf message) ≡ true → Passed (before .f) message verdicts → Accepts (ClientFacts before verdicts message) (onReply before mark message)
+  unfolding onReply Fits
+  facts (STAMP sender nonce proof addressed) message-fits ranged passed = stamp-facts before verdicts fits sender ranged nonce proof addressed passed (message-fits .2) (before .phase) refl phase-fits
+  facts (PREPARED sender timestamp digest) message-fits ranged passed =
+      prepared-facts before verdicts fits sender ranged mark mark-fits timestamp digest passed (before .phase) refl phase-fits
+  facts (WRITTEN sender timestamp) message-fits ranged passed = written-facts before verdicts fits sender ranged mark mark-fits timestamp passed (before .phase) refl phase-fits
+  facts (CARD sender nonce card proof addressed) message-fits ranged passed =
+      by-guard 14 (λ stands.
+      card-facts before verdicts fits sender ranged nonce card proof addressed passed (message-fits .2 .1) (message-fits .3) stands (before .phase) refl phase-fits)
+  facts (READ-STAMP sender nonce) message-fits ranged passed = by-refusal
+  facts (PREPARE sender timestamp digest proof last) message-fits ranged passed = by-refusal
+  facts (WRITE sender card proof) message-fits ranged passed = by-refusal
+  facts (READ sender nonce) message-fits ranged passed = by-refusal
 
 pub client-facts : (before : Client) (verdicts mark : List ℕ) (message : Message) (turn : Turn) → ClientFits before → PhaseFits (before .phase)
-    → Rattle.wire.specs.Message.Fits message → IsSignature mark → onMessage before verdicts mark message ≡ accepted turn → ClientFacts before verdicts message turn
-client-facts before verdicts mark message turn fits phase-fits message-fits mark-fits e = facts before verdicts mark fits phase-fits mark-fits message message-fits .holds turn e
+    → Rattle.wire.specs.Message.Fits message → IsSignature mark → inItsRange (before .f) (senderOf message) ≡ true → Passed (before .f) message verdicts
+    → onReply before mark message ≡ accepted turn → ClientFacts before verdicts message turn
+client-facts before verdicts mark message turn fits phase-fits message-fits mark-fits ranged passed e = facts before verdicts mark fits phase-fits mark-fits message message-fits ranged passed .holds turn e

@@ -36,7 +36,7 @@ use Rattle.protocol.proofs.ClientArrays.{digest-fits, signature-put, bu
 use Rattle.protocol.proofs.ClientCases.{Leaves, NewFrom, betterCard, ClientCase, stamp-counted, stamps-enough, stamps-ended, prepared-counted, prepareds-enough, written-counted, writtens-enough, card-counted, cards-agree, cards-differ, back-counted, back-enough, LegalAnswer, PhaseFits, ClientFacts}
 use Rattle.protocol.proofs.ClientKept.{Kept, itself-kept, phase-kept, digest-changed, signatures-changed, written-changed, better-kept, better-card-kept}
 use Rattle.protocol.proofs.Fit.{Array, TimestampFits, ClientFits}
-use Rattle.protocol.proofs.Passed.{Passed}
+use Rattle.wire.proofs.Passed.{Passed}
 
 -- ---- Messages that a client sends
 

@@ -1,6 +1,6 @@
 -- Document 01's proved examples, A to K, as one theorem. Assumes nothing.
 use mathlib.Core.Path.{_≡_, refl, ap, _∙_}
-use mathlib.Core.Bool.{Bool, true, false, and-false}
+use mathlib.Core.Bool.{true, false, and-false}
 use mathlib.Core.List.{List, [], _∷_}
 use mathlib.Core.Option.{Option, none, some}
 use Prim.Native.Nat.{ℕ, _/_, _≤_, _<_}
@@ -14,20 +14,21 @@ use Rattle.base.specs.Range.{within}
 use Rattle.base.specs.Timestamp.{number, ofNumber, successor}
 use Rattle.base.specs.declared.party.ClientId.{ClientId}
 use Rattle.base.specs.declared.timestamp.Timestamp.{Timestamp}
-use Rattle.base.proofs.Outcome.{guard-passes}
 use Rattle.base.proofs.Timestamps.{ofNumber-number}
 use Rattle.wire.specs.Card.{table, readFields, goodMap, readCard, isCard}
-use Rattle.wire.specs.Checks.{entriesOf, all, oneEach, checked}
+use Rattle.wire.specs.Acceptance.{admits}
+use Rattle.wire.specs.Checks.{entriesOf, all, oneEach}
 use Rattle.wire.specs.Message.{Message, PREPARE, WRITE, PREPARED, WRITTEN}
 use Rattle.wire.specs.Proof.{PreparedProof, WrittenProof}
 use Rattle.protocol.specs.Parts.{timestampOf, cardStands}
-use Rattle.protocol.specs.Replica.{Reply, heldTimestamp, slotCount, slotDigest, slotTimestamp, withWritten, withSlot, raised, slotIs, slotTakes, afterPrepare, afterWrite, isOwn, isTimestamp, withSlots, withHeld, answering, onMessage}
+use Rattle.protocol.specs.Replica.{Reply, heldTimestamp, slotCount, slotDigest, slotTimestamp, withWritten, withSlot, raised, slotIs, slotTakes, afterPrepare, afterWrite, isOwn, isTimestamp, withSlots, withHeld, answering, onRequest}
 use Rattle.protocol.specs.declared.replica.Held.{Held}
 use Rattle.protocol.specs.declared.replica.Replica.{Replica}
 use Rattle.protocol.specs.declared.replica.Slots.{Slots}
 use Rattle.base.proofs.Same.{same-itself, same-differ}
 use Rattle.protocol.proofs.Fit.{ReplicaFits}
-use Rattle.protocol.proofs.Passed.{Passed, passed-checked}
+use Rattle.wire.proofs.Admitted.{passed-admits}
+use Rattle.wire.proofs.Passed.{Passed}
 use Rattle.protocol.proofs.ReplicaFacts.{raised-rises}
 
 -- ---- How they are said
@@ -64,6 +65,10 @@ first digest = PREPARE two 1·2 digest none none
 abbrev pub genuine : List ℕ
 genuine = 1 ∷ []
 
+-- A replica is handed a message: 6 to 11, and what follows.
+abbrev pub handed : Replica → List ℕ → Message → Outcome Reply
+handed replica verdicts message = admits (replica .f) verdicts message >>= onRequest replica
+
 pub record Examples : Type 0 where
   -- "f = 1 gives n 4, q 3; f = 5 gives 16, 11."
   pub A : (replicaCount 1 ≡ 4) × (quorumSize 1 ≡ 3) × (replicaCount 5 ≡ 16) × (quorumSize 5 ≡ 11)
@@ -83,18 +88,18 @@ pub record Examples : Type 0 where
   pub H : (isCard (0x00 ∷ 0x20 ∷ 0x04 ∷ []) ≡ true) × (isCard (0x00 ∷ 0x20 ∷ 0x05 ∷ []) ≡ false)
   -- "line 1.2 open with digest a: 1.2 a PREPARED, 1.2 b refused 15."
   pub I : (replica : Replica) (a b : List ℕ) → (a ≡ b → ⊥) → ReplicaFits replica → SlotHolds (replica .register .slots) a → Open (replica .register .slots)
-      → (onMessage replica genuine (first a) ≡ answering (PREPARED (replica .id) 1·2 a) replica) × (onMessage replica genuine (first b) ≡ refused 15)
+      → (handed replica genuine (first a) ≡ answering (PREPARED (replica .id) 1·2 a) replica) × (handed replica genuine (first b) ≡ refused 15)
   -- "the same line closed: 2.2 taken, 1.2 b still 15." 2.2 comes with a prepared proof of a timestamp of count 1, which passed 7 to 12.
   pub J : (replica : Replica) (a b : List ℕ) → (a ≡ b → ⊥) → SlotHolds (replica .register .slots) a → Closed (replica .register .slots)
       → ((digest : List ℕ) (proof : PreparedProof) (last : Option WrittenProof) (verdicts : List ℕ) → proof .timestamp / 256 ≡ 1
       → Passed (replica .f) (PREPARE two 2·2 digest (some proof) last) verdicts → isOwn two last ≡ true
-      → onMessage replica verdicts (PREPARE two 2·2 digest (some proof) last)
+      → handed replica verdicts (PREPARE two 2·2 digest (some proof) last)
       ≡ answering (PREPARED (replica .id) 2·2 digest) (withSlots replica (withWritten (raised last (replica .register .slots)) (withSlot two 2·2 digest (replica .register .slots)))))
-      × (onMessage replica genuine (first b) ≡ refused 15)
+      × (handed replica genuine (first b) ≡ refused 15)
   -- "WRITE of the held stamp: WRITTEN, record kept." From any client, with a proof and a card that passed 7 to 11 and 14.
   pub K : (replica : Replica) (client : ClientId) (card : List ℕ) (proof : PreparedProof) (verdicts : List ℕ) → isClient client ≡ true
       → Passed (replica .f) (WRITE client card proof) verdicts → cardStands card (some proof) ≡ true → proof .timestamp ≡ heldTimestamp (replica .register .held)
-      → onMessage replica verdicts (WRITE client card proof) ≡ answering (WRITTEN (replica .id) (proof .timestamp)) replica
+      → handed replica verdicts (WRITE client card proof) ≡ answering (WRITTEN (replica .id) (proof .timestamp)) replica
 
 -- ---- A PREPARE and a WRITE that passed their tests
 
@@ -116,32 +121,18 @@ module _ (client : ClientId) (timestamp : ℕ) (digest : List ℕ) (last : Optio
 prepare-tested : (replica : Replica) (verdicts : List ℕ) (client : ClientId) (timestamp : ℕ) (digest : List ℕ) (proof : Option PreparedProof) (last : Option WrittenProof)
     (after : Outcome Slots) → isClient client ≡ true → Passed (replica .f) (PREPARE client timestamp digest proof last) verdicts → isOwn client last ≡ true
     → isTimestamp timestamp (successor (ofNumber (timestampOf proof)) client) ≡ true → afterPrepare client timestamp digest last (replica .register .slots) ≡ after
-    → onMessage replica verdicts (PREPARE client timestamp digest proof last)
+    → handed replica verdicts (PREPARE client timestamp digest proof last)
     ≡ (after >>= λ slots. answering (PREPARED (replica .id) timestamp digest) (withSlots replica slots))
-unfolding onMessage
+unfolding onRequest guard
 prepare-tested replica verdicts client timestamp digest proof last after from-client passed own next e =
-    let request = PREPARE client timestamp digest proof last in
-    let replied : Outcome Slots → Outcome Reply = λ outcome. outcome >>= λ slots. answering (PREPARED (replica .id) timestamp digest) (withSlots replica slots) in
-    let decided = afterPrepare client timestamp digest last (replica .register .slots) in
-    let made = replied decided in
-    guard-passes 6 (isClient client) (checked (replica .f) request verdicts (guard 12 (isOwn client last) (guard 13 is-next made))) from-client
-    ∙ passed-checked (replica .f) request verdicts (guard 12 (isOwn client last) (guard 13 is-next made)) passed
-    ∙ guard-passes 12 (isOwn client last) (guard 13 is-next made) own
-    ∙ guard-passes 13 is-next made next
-    ∙ ap replied e
-  where
-    is-next : Bool
-    is-next = isTimestamp timestamp (successor (ofNumber (timestampOf proof)) client)
+    rw (passed-admits (replica .f) verdicts (PREPARE client timestamp digest proof last) from-client passed, own, next, e)
 
 write-tested : (replica : Replica) (verdicts : List ℕ) (client : ClientId) (card : List ℕ) (proof : PreparedProof) → isClient client ≡ true
     → Passed (replica .f) (WRITE client card proof) verdicts → cardStands card (some proof) ≡ true
-    → onMessage replica verdicts (WRITE client card proof) ≡ answering (WRITTEN (replica .id) (proof .timestamp)) (withHeld replica (afterWrite card proof (replica .register .held)))
-unfolding onMessage
+    → handed replica verdicts (WRITE client card proof) ≡ answering (WRITTEN (replica .id) (proof .timestamp)) (withHeld replica (afterWrite card proof (replica .register .held)))
+unfolding onRequest guard
 write-tested replica verdicts client card proof from-client passed stands =
-    let made = answering (WRITTEN (replica .id) (proof .timestamp)) (withHeld replica (afterWrite card proof (replica .register .held))) in
-    guard-passes 6 (isClient client) (checked (replica .f) (WRITE client card proof) verdicts (guard 14 (cardStands card (some proof)) made)) from-client
-    ∙ passed-checked (replica .f) (WRITE client card proof) verdicts (guard 14 (cardStands card (some proof)) made) passed
-    ∙ guard-passes 14 (cardStands card (some proof)) made stands
+    rw (passed-admits (replica .f) verdicts (WRITE client card proof) from-client passed, stands)
 
 -- ---- The slot 1.2 of client 2
 
@@ -160,12 +151,12 @@ first-passed f digest =
     }
 
 first-answered : (replica : Replica) (digest : List ℕ) (after : Outcome Slots) → afterPrepare two 1·2 digest none (replica .register .slots) ≡ after
-    → onMessage replica genuine (first digest) ≡ (after >>= λ slots. answering (PREPARED (replica .id) 1·2 digest) (withSlots replica slots))
+    → handed replica genuine (first digest) ≡ (after >>= λ slots. answering (PREPARED (replica .id) 1·2 digest) (withSlots replica slots))
 unfolding within
 first-answered replica digest after e = prepare-tested replica genuine two 1·2 digest none none after refl (first-passed (replica .f) digest) refl refl e
 
 module _ (replica : Replica) (a : List ℕ) (holds : SlotHolds (replica .register .slots) a) where
-  again : ReplicaFits replica → onMessage replica genuine (first a) ≡ answering (PREPARED (replica .id) 1·2 a) replica
+  again : ReplicaFits replica → handed replica genuine (first a) ≡ answering (PREPARED (replica .id) 1·2 a) replica
   again fits =
       let old = replica .register .slots in
       let is : slotIs two 1·2 a old ≡ true = rw (eq-eqb (slotTimestamp old two) 1·2 (holds .timestamp), holds .digest-is) (same-itself a) in
@@ -176,7 +167,7 @@ module _ (replica : Replica) (a : List ℕ) (holds : SlotHolds (replica .registe
       written-at : Timestamp → Slots
       written-at written = record { counts = replica .register .slots .counts; digests = replica .register .slots .digests; written = written }
 
-  other-refused : (b : List ℕ) → (a ≡ b → ⊥) → onMessage replica genuine (first b) ≡ refused 15
+  other-refused : (b : List ℕ) → (a ≡ b → ⊥) → handed replica genuine (first b) ≡ refused 15
   other-refused b apart =
       let old = replica .register .slots in
       let stands = holds .timestamp in
@@ -187,7 +178,7 @@ module _ (replica : Replica) (a : List ℕ) (holds : SlotHolds (replica .registe
 
   next-taken : Closed (replica .register .slots) → (digest : List ℕ) (proof : PreparedProof) (last : Option WrittenProof) (verdicts : List ℕ) → proof .timestamp / 256 ≡ 1
       → Passed (replica .f) (PREPARE two 2·2 digest (some proof) last) verdicts → isOwn two last ≡ true
-      → onMessage replica verdicts (PREPARE two 2·2 digest (some proof) last)
+      → handed replica verdicts (PREPARE two 2·2 digest (some proof) last)
       ≡ answering (PREPARED (replica .id) 2·2 digest) (withSlots replica (withWritten (raised last (replica .register .slots)) (withSlot two 2·2 digest (replica .register .slots))))
   unfolding within
   next-taken closed digest proof last verdicts count passed own =

@@ -9,5 +9,4 @@ pub mod ClientReplies
 pub mod Examples
 pub mod Fit
 pub mod OperationMessages
-pub mod Passed
 pub mod ReplicaFacts

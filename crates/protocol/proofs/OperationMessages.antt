@@ -1,12 +1,15 @@
 -- Document 01, "A desk": an operation's messages. A read sends at most two, a write at most three. Assumes nothing.
 use mathlib.Core.Path.{_≡_}
+use mathlib.Core.Bool.{true}
 use mathlib.Core.List.{List, [], _∷_}
 use Prim.Native.Nat.{ℕ, _+_, _≤_}
 use native.Mathlib.Omega.{arith}
 use Rattle.base.specs.BigEndian.{Bytes}
 use Rattle.base.specs.Outcome.{accepted}
 use Rattle.wire.specs.Message.{Message, Fits, IsSignature}
-use Rattle.protocol.specs.Client.{Answer, send, counted, done, ended, Turn, beginWrite, beginRead, onMessage}
+use Rattle.wire.specs.Acceptance.{senderOf, inItsRange}
+use Rattle.wire.proofs.Passed.{Passed}
+use Rattle.protocol.specs.Client.{Answer, send, counted, done, ended, Turn, beginWrite, beginRead, onReply}
 use Rattle.protocol.specs.declared.client.Client.{Client}
 use Rattle.protocol.specs.declared.client.Phase.{Phase}
 use Rattle.protocol.specs.declared.client.Phase.the-variants.{Idle, Stamps, Prepareds, Writtens, Cards, WriteBack}
@@ -57,7 +60,9 @@ pub record Takes (client : Client) (turn : Turn) : Type 0 where
   pub mark : List ℕ
   pub message-fits : Fits message
   pub mark-fits : IsSignature mark
-  pub taken : onMessage client verdicts mark message ≡ accepted turn
+  pub ranged : inItsRange (client .f) (senderOf message) ≡ true
+  pub passed : Passed (client .f) message verdicts
+  pub taken : onReply client mark message ≡ accepted turn
 
 -- Turns each of which starts from the record that the last one left. Refused calls stand between them unseen: they leave the record as it was and send
 -- nothing. No operation begins among them: a beginning is another call, which a busy client refuses, and an idle one takes no message.
@@ -74,7 +79,7 @@ sentIn (turn ∷ turns) = sentBy (turn .answer) + sentIn turns
 pub follow-sends : (client : Client) (turns : List Turn) → ClientFits client → PhaseFits (client .phase) → Follow client turns → sentIn turns ≤ remaining (client .phase)
 follow-sends client [] fits phase-fits follow = omega arith
 follow-sends client (turn ∷ turns) fits phase-fits (takes, follow) =
-    let facts = client-facts client (takes .verdicts) (takes .mark) (takes .message) turn fits phase-fits (takes .message-fits) (takes .mark-fits) (takes .taken) in
+    let facts = client-facts client (takes .verdicts) (takes .mark) (takes .message) turn fits phase-fits (takes .message-fits) (takes .mark-fits) (takes .ranged) (takes .passed) (takes .taken) in
     omega (arith, case-sends client (takes .message) turn (facts .case), follow-sends (turn .next) turns (facts .fits) (facts .phase-fits) follow)
 
 -- A beginning sends its question, and what follows no more than its phase may.

@@ -22,16 +22,17 @@ use Rattle.base.proofs.Outcome.{guard-accepted}
 use Rattle.base.proofs.Range.{bounds}
 use Rattle.base.proofs.Same.{same-equal}
 use Rattle.wire.specs.Message.{Message, READ-STAMP, PREPARE, WRITE, READ, STAMP, PREPARED, WRITTEN, CARD, IfThere, IsDigest, PreparedFits, WrittenFits, CardFits, Fits, preparedSize, size, Legal}
-use Rattle.wire.specs.Checks.{writtenOf, checked}
+use Rattle.wire.specs.Acceptance.{senderOf, inItsRange}
+use Rattle.wire.specs.Checks.{writtenOf}
 use Rattle.wire.specs.Proof.{PreparedProof, WrittenProof}
 use Rattle.protocol.specs.Parts.{entriesIn, timestampOf, cardStands}
-use Rattle.protocol.specs.Replica.{Reply, heldTimestamp, heldProof, heldCard, slotCount, slotDigest, slotTimestamp, raised, withWritten, withSlot, holding, withSlots, withHeld, slotIs, slotTakes, isOwn, isTimestamp, afterPrepare, afterWrite, answering, fromClient, onMessage}
+use Rattle.protocol.specs.Replica.{Reply, heldTimestamp, heldProof, heldCard, slotCount, slotDigest, slotTimestamp, raised, withWritten, withSlot, holding, withSlots, withHeld, slotIs, slotTakes, isOwn, isTimestamp, afterPrepare, afterWrite, answering, onRequest}
 use Rattle.protocol.specs.declared.replica.Held.{Held}
 use Rattle.protocol.specs.declared.replica.Replica.{Replica}
 use Rattle.protocol.specs.declared.replica.Slots.{Slots}
 use Rattle.protocol.proofs.ArrayLaws.{replaced-length, replaced-bytes, replaced-here, replaced-before, replaced-behind, filled-fits, card-in-bytes, card-in-short, entries-in-length, entries-in-fit, entries-filled, issued-there, issued-timestamp, issued-size}
 use Rattle.protocol.proofs.Fit.{SlotsFit, HeldFits, ReplicaFits}
-use Rattle.protocol.proofs.Passed.{Passed, checked-passed}
+use Rattle.wire.proofs.Passed.{Passed}
 
 -- The client of a timestamp's number.
 abbrev pub clientOf : ℕ → ClientId
@@ -471,19 +472,6 @@ module _ (before : Replica) (verdicts : List ℕ) (client : ClientId) (timestamp
 
 -- ---- All kinds
 
--- What is answered has passed 6 to 11.
-record Through (replica : Replica) (verdicts : List ℕ) (client : ClientId) (message : Message) (next : Outcome Reply) (reply : Reply) : Type 0 where
-  from-client : isClient client ≡ true
-  passed : Passed (replica .f) message verdicts
-  answers : next ≡ accepted reply
-
-through : (replica : Replica) (verdicts : List ℕ) (client : ClientId) (message : Message) (next : Outcome Reply) (reply : Reply)
-    → fromClient client (checked (replica .f) message verdicts next) ≡ accepted reply → Through replica verdicts client message next reply
-through replica verdicts client message next reply e =
-    let sixth = guard-accepted 6 (isClient client) (checked (replica .f) message verdicts next) reply e in
-    let others = checked-passed (replica .f) message verdicts next reply (sixth .1) in
-    record { from-client = sixth .0; passed = others .0; answers = others .1 }
-
 -- What is answered after an outcome.
 answered : (replica : Replica) (message : Message) (outcome : Outcome Slots) (reply : Reply)
     → (outcome >>= λ slots. answering message (withSlots replica slots)) ≡ accepted reply
@@ -492,40 +480,33 @@ answered replica message (accepted after) reply e = (after, refl, (cc))
 answered replica message (refused number) reply e = let z : _≡_ {A = ℕ} 0 1 = cc in absurd (omega arith)
 
 pub replica-facts : (before : Replica) (verdicts : List ℕ) (message : Message) (reply : Reply) → ReplicaFits before → Rattle.wire.specs.Message.Fits message
-    → onMessage before verdicts message ≡ accepted reply → ReplicaFacts before verdicts message reply
-unfolding onMessage
-replica-facts before verdicts (READ-STAMP client nonce) reply fits message-fits e =
+    → inItsRange (before .f) (senderOf message) ≡ true → Passed (before .f) message verdicts → onRequest before message ≡ accepted reply → ReplicaFacts before verdicts message reply
+unfolding onRequest
+replica-facts before verdicts (READ-STAMP client nonce) reply fits message-fits ranged passed e =
     let made : Reply = record { message = STAMP (before .id) nonce (heldProof (before .register .held)) client; next = before } in
-    let t = through before verdicts client (READ-STAMP client nonce) (accepted made) reply e in
-    let answers = t .answers in
     let same : made ≡ reply = cc in
-    subst (ReplicaFacts before verdicts (READ-STAMP client nonce)) same (stamp-facts before verdicts client nonce fits message-fits (t .passed))
-replica-facts before verdicts (PREPARE client timestamp digest proof last) reply fits message-fits e =
+    subst (ReplicaFacts before verdicts (READ-STAMP client nonce)) same (stamp-facts before verdicts client nonce fits message-fits passed)
+replica-facts before verdicts (PREPARE client timestamp digest proof last) reply fits message-fits ranged passed e =
     let request = PREPARE client timestamp digest proof last in
     let prepared = afterPrepare client timestamp digest last (before .register .slots) in
     let made : Outcome Reply = prepared >>= λ slots. answering (PREPARED (before .id) timestamp digest) (withSlots before slots) in
-    let own = isOwn client last in
     let is-next = isTimestamp timestamp (successor (ofNumber (timestampOf proof)) client) in
-    let t = through before verdicts client request (guard 12 own (guard 13 is-next made)) reply e in
-    let twelfth = guard-accepted 12 own (guard 13 is-next made) reply (t .answers) in
+    let twelfth = guard-accepted 12 (isOwn client last) (guard 13 is-next made) reply e in
     let thirteenth = guard-accepted 13 is-next made reply (twelfth .1) in
     let a = answered before (PREPARED (before .id) timestamp digest) prepared reply (thirteenth .1) in
     subst (ReplicaFacts before verdicts request) (a .2)
-    (prepare-facts before verdicts client timestamp digest proof last fits message-fits (t .passed) (t .from-client) (thirteenth .0) (a .0) (a .1))
-replica-facts before verdicts (WRITE client card proof) reply fits message-fits e =
+    (prepare-facts before verdicts client timestamp digest proof last fits message-fits passed ranged (thirteenth .0) (a .0) (a .1))
+replica-facts before verdicts (WRITE client card proof) reply fits message-fits ranged passed e =
     let made : Reply = record { message = WRITTEN (before .id) (proof .timestamp); next = withHeld before (afterWrite card proof (before .register .held)) } in
-    let t = through before verdicts client (WRITE client card proof) (guard 14 (cardStands card (some proof)) (accepted made)) reply e in
-    let fourteenth = guard-accepted 14 (cardStands card (some proof)) (accepted made) reply (t .answers) in
+    let fourteenth = guard-accepted 14 (cardStands card (some proof)) (accepted made) reply e in
     let answers = fourteenth .1 in
     let same : made ≡ reply = cc in
-    subst (ReplicaFacts before verdicts (WRITE client card proof)) same (write-facts before verdicts client card proof fits message-fits (t .passed))
-replica-facts before verdicts (READ client nonce) reply fits message-fits e =
+    subst (ReplicaFacts before verdicts (WRITE client card proof)) same (write-facts before verdicts client card proof fits message-fits passed)
+replica-facts before verdicts (READ client nonce) reply fits message-fits ranged passed e =
     let made : Reply = record { message = CARD (before .id) nonce (heldCard (before .register .held)) (heldProof (before .register .held)) client; next = before } in
-    let t = through before verdicts client (READ client nonce) (accepted made) reply e in
-    let answers = t .answers in
     let same : made ≡ reply = cc in
-    subst (ReplicaFacts before verdicts (READ client nonce)) same (card-facts before verdicts client nonce fits message-fits (t .passed))
-replica-facts before verdicts (STAMP sender nonce proof client) reply fits message-fits e = let z : _≡_ {A = ℕ} 0 1 = cc in absurd (omega arith)
-replica-facts before verdicts (PREPARED sender timestamp digest) reply fits message-fits e = let z : _≡_ {A = ℕ} 0 1 = cc in absurd (omega arith)
-replica-facts before verdicts (WRITTEN sender timestamp) reply fits message-fits e = let z : _≡_ {A = ℕ} 0 1 = cc in absurd (omega arith)
-replica-facts before verdicts (CARD sender nonce card proof client) reply fits message-fits e = let z : _≡_ {A = ℕ} 0 1 = cc in absurd (omega arith)
+    subst (ReplicaFacts before verdicts (READ client nonce)) same (card-facts before verdicts client nonce fits message-fits passed)
+replica-facts before verdicts (STAMP sender nonce proof client) reply fits message-fits ranged passed e = let z : _≡_ {A = ℕ} 0 1 = cc in absurd (omega arith)
+replica-facts before verdicts (PREPARED sender timestamp digest) reply fits message-fits ranged passed e = let z : _≡_ {A = ℕ} 0 1 = cc in absurd (omega arith)
+replica-facts before verdicts (WRITTEN sender timestamp) reply fits message-fits ranged passed e = let z : _≡_ {A = ℕ} 0 1 = cc in absurd (omega arith)
+replica-facts before verdicts (CARD sender nonce card proof client) reply fits message-fits ranged passed e = let z : _≡_ {A = ℕ} 0 1 = cc in absurd (omega arith)

@@ -7,7 +7,7 @@ use lib.Dec.{eqb, ltb}
 use lib.ListN.{length, take, drop, replicate}
 use Rattle.base.specs.Counting.{replica}
 use Rattle.base.specs.Outcome.{Outcome, accepted, refused, guard, _>>=_}
-use Rattle.base.specs.Party.{isReplica, replicaCount, clientSetup}
+use Rattle.base.specs.Party.{replicaCount, clientSetup}
 use Rattle.base.specs.ReplicaSet.{empty, has, with, isQuorum}
 use Rattle.base.specs.Same.{same}
 use Rattle.base.specs.Timestamp.{number, ofNumber, start, successor}
@@ -16,8 +16,7 @@ use Rattle.base.specs.declared.party.ReplicaId.{ReplicaId}
 use Rattle.base.specs.declared.replica_set.ReplicaSet.{ReplicaSet}
 use Rattle.base.specs.declared.timestamp.Timestamp.{Timestamp}
 use Rattle.wire.specs.Card.{isCard}
-use Rattle.wire.specs.Checks.{checked}
-use Rattle.wire.specs.Decode.{decode}
+use Rattle.wire.specs.Acceptance.{admitted}
 use Rattle.wire.specs.Layout.{signature}
 use Rattle.wire.specs.Message.{Message, READ-STAMP, PREPARE, WRITE, READ, STAMP, PREPARED, WRITTEN, CARD}
 use Rattle.wire.specs.Proof.{Entry, PreparedProof, WrittenProof, entriesBytes}
@@ -389,37 +388,22 @@ onCard client sender nonce card proof addressed (Prepareds timestamp counts) = u
 onCard client sender nonce card proof addressed (Writtens timestamp counts) = unawaited
 onCard client sender nonce card proof addressed (WriteBack timestamp counts) = unawaited
 
--- 6: "The sender's number is outside its range."
-abbrev pub fromReplica : {A : Type 0} → Client → ReplicaId → Outcome A → Outcome A
-fromReplica client sender next = guard 6 (isReplica (client .f) sender) next
-
--- The four replies, once 2 to 5 are passed, with the message's own signature. The other kinds do not get here: 5 refuses them.
-unfoldable pub onMessage : Client → List ℕ → List ℕ → Message → Outcome Turn
-onMessage client verdicts mark (STAMP sender nonce proof addressed) =
-    fromReplica client sender
-    (checked (client .f) (STAMP sender nonce proof addressed) verdicts
-    (onStamp client sender nonce proof addressed (client .phase)))
-onMessage client verdicts mark (PREPARED sender timestamp digest) =
-    fromReplica client sender
-    (checked (client .f) (PREPARED sender timestamp digest) verdicts
-    (onPrepared client sender timestamp digest mark (client .phase)))
-onMessage client verdicts mark (WRITTEN sender timestamp) =
-    fromReplica client sender
-    (checked (client .f) (WRITTEN sender timestamp) verdicts
-    (onWritten client sender timestamp mark (client .phase)))
-onMessage client verdicts mark (CARD sender nonce card proof addressed) =
-    fromReplica client sender
-    (checked (client .f) (CARD sender nonce card proof addressed) verdicts
-    (guard 14 (cardStands card proof)
-    (onCard client sender nonce card proof addressed (client .phase))))
-onMessage client verdicts mark (READ-STAMP sender nonce) = refused 5
-onMessage client verdicts mark (PREPARE sender timestamp digest proof last) = refused 5
-onMessage client verdicts mark (WRITE sender card proof) = refused 5
-onMessage client verdicts mark (READ sender nonce) = refused 5
+-- The four replies, once 2 to 11 are passed, with the message's own signature. The other kinds do not get here: 5 refuses them.
+unfoldable pub onReply : Client → List ℕ → Message → Outcome Turn
+onReply client mark (STAMP sender nonce proof addressed) = onStamp client sender nonce proof addressed (client .phase)
+onReply client mark (PREPARED sender timestamp digest) = onPrepared client sender timestamp digest mark (client .phase)
+onReply client mark (WRITTEN sender timestamp) = onWritten client sender timestamp mark (client .phase)
+onReply client mark (CARD sender nonce card proof addressed) =
+    guard 14 (cardStands card proof)
+    (onCard client sender nonce card proof addressed (client .phase))
+onReply client mark (READ-STAMP sender nonce) = refused 5
+onReply client mark (PREPARE sender timestamp digest proof last) = refused 5
+onReply client mark (WRITE sender card proof) = refused 5
+onReply client mark (READ sender nonce) = refused 5
 
 -- A client is handed bytes with verdicts.
 unfoldable pub clientStep : Client → List ℕ → List ℕ → Outcome Turn
-clientStep client bytes verdicts = decode AtClient bytes >>= onMessage client verdicts (signature bytes)
+clientStep client bytes verdicts = admitted AtClient (client .f) bytes verdicts >>= onReply client (signature bytes)
 
 -- ---- The calls
 

@@ -6,14 +6,13 @@ use Prim.Native.Nat.{ℕ, _+_, _-_, _*_, _/_, max}
 use lib.Dec.{eqb, leb, ltb}
 use lib.ListN.{length, getD, take, drop, set, replicate}
 use Rattle.base.specs.Outcome.{Outcome, accepted, refused, guard, _>>=_}
-use Rattle.base.specs.Party.{isClient, replicaSetup}
+use Rattle.base.specs.Party.{replicaSetup}
 use Rattle.base.specs.Same.{same}
 use Rattle.base.specs.Timestamp.{number, ofNumber, start, successor}
 use Rattle.base.specs.declared.party.ClientId.{ClientId}
 use Rattle.base.specs.declared.party.ReplicaId.{ReplicaId}
 use Rattle.base.specs.declared.timestamp.Timestamp.{Timestamp}
-use Rattle.wire.specs.Checks.{checked}
-use Rattle.wire.specs.Decode.{decode}
+use Rattle.wire.specs.Acceptance.{admitted}
 use Rattle.wire.specs.Message.{Message, READ-STAMP, PREPARE, WRITE, READ, STAMP, PREPARED, WRITTEN, CARD}
 use Rattle.wire.specs.Proof.{PreparedProof, WrittenProof, entriesBytes}
 use Rattle.wire.specs.Writing.{unsigned, roomy, inFront}
@@ -157,40 +156,41 @@ withHeld replica held = record { f = replica .f; id = replica .id; register = re
 abbrev pub answering : Message → Replica → Outcome Reply
 answering message next = accepted (record { message = message; next = next })
 
--- 6: "The sender's number is outside its range."
-abbrev pub fromClient : {A : Type 0} → ClientId → Outcome A → Outcome A
-fromClient client next = guard 6 (isClient client) next
+-- "READ-STAMP: STAMP with the nonce, the desk and the proof."
+abbrev pub onReadStamp : Replica → ClientId → ℕ → Outcome Reply
+onReadStamp replica client nonce = answering (STAMP (replica .id) nonce (heldProof (replica .register .held)) client) replica
 
--- The four requests, once 2 to 5 are passed. The other kinds do not get here: 5 refuses them.
-unfoldable pub onMessage : Replica → List ℕ → Message → Outcome Reply
-onMessage replica verdicts (READ-STAMP client nonce) =
-    fromClient client
-    (checked (replica .f) (READ-STAMP client nonce) verdicts
-    (answering (STAMP (replica .id) nonce (heldProof (replica .register .held)) client) replica))
-onMessage replica verdicts (PREPARE client timestamp digest proof last) =
-    fromClient client
-    (checked (replica .f) (PREPARE client timestamp digest proof last) verdicts
-    (guard 12 (isOwn client last)
+abbrev pub onPrepare : Replica → ClientId → ℕ → List ℕ → Option PreparedProof → Option WrittenProof → Outcome Reply
+onPrepare replica client timestamp digest proof last =
+    guard 12 (isOwn client last)
     (guard 13 (isTimestamp timestamp (successor (ofNumber (timestampOf proof)) client))
     (afterPrepare client timestamp digest last (replica .register .slots) >>= λ slots.
-    answering (PREPARED (replica .id) timestamp digest) (withSlots replica slots)))))
-onMessage replica verdicts (WRITE client card proof) =
-    fromClient client
-    (checked (replica .f) (WRITE client card proof) verdicts
-    (guard 14 (cardStands card (some proof))
-    (answering (WRITTEN (replica .id) (proof .timestamp)) (withHeld replica (afterWrite card proof (replica .register .held))))))
-onMessage replica verdicts (READ client nonce) =
-    fromClient client
-    (checked (replica .f) (READ client nonce) verdicts
-    (answering (CARD (replica .id) nonce (heldCard (replica .register .held)) (heldProof (replica .register .held)) client) replica))
-onMessage replica verdicts (STAMP sender nonce proof client) = refused 5
-onMessage replica verdicts (PREPARED sender timestamp digest) = refused 5
-onMessage replica verdicts (WRITTEN sender timestamp) = refused 5
-onMessage replica verdicts (CARD sender nonce card proof client) = refused 5
+    answering (PREPARED (replica .id) timestamp digest) (withSlots replica slots)))
+
+-- "WRITTEN with the proof's stamp, stored or not."
+abbrev pub onWrite : Replica → List ℕ → PreparedProof → Outcome Reply
+onWrite replica card proof =
+    guard 14 (cardStands card (some proof))
+    (answering (WRITTEN (replica .id) (proof .timestamp)) (withHeld replica (afterWrite card proof (replica .register .held))))
+
+-- "READ: CARD."
+abbrev pub onRead : Replica → ClientId → ℕ → Outcome Reply
+onRead replica client nonce = answering (CARD (replica .id) nonce (heldCard (replica .register .held)) (heldProof (replica .register .held)) client) replica
+
+-- The four requests, once 2 to 11 are passed. The other kinds do not get here: 5 refuses them.
+unfoldable pub onRequest : Replica → Message → Outcome Reply
+onRequest replica (READ-STAMP client nonce) = onReadStamp replica client nonce
+onRequest replica (PREPARE client timestamp digest proof last) = onPrepare replica client timestamp digest proof last
+onRequest replica (WRITE client card proof) = onWrite replica card proof
+onRequest replica (READ client nonce) = onRead replica client nonce
+onRequest replica (STAMP sender nonce proof client) = refused 5
+onRequest replica (PREPARED sender timestamp digest) = refused 5
+onRequest replica (WRITTEN sender timestamp) = refused 5
+onRequest replica (CARD sender nonce card proof client) = refused 5
 
 -- A replica is handed bytes with verdicts.
 unfoldable pub replicaStep : Replica → List ℕ → List ℕ → Outcome Reply
-replicaStep replica bytes verdicts = decode AtReplica bytes >>= onMessage replica verdicts
+replicaStep replica bytes verdicts = admitted AtReplica (replica .f) bytes verdicts >>= onRequest replica
 
 -- ---- The call
 

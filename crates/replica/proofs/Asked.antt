@@ -11,58 +11,41 @@ use lib.Dec.{eqb, leb}
 use lib.ListN.{length, getD, take, drop}
 use Rattle.base.specs.BigEndian.{fromBytes}
 use Rattle.base.specs.BitMap.{bit}
-use Rattle.base.specs.Outcome.{Outcome, accepted, refused, guard, _>>=_}
+use Rattle.base.specs.Outcome.{Outcome, accepted, refused}
 use Rattle.base.specs.Party.{quorumSize, replicaCount}
 use Rattle.base.specs.Range.{within}
 use Rattle.base.specs.Rising.{rising}
-use Rattle.base.specs.Timestamp.{number, ofNumber, successor}
+use Rattle.base.specs.Timestamp.{number, ofNumber}
 use Rattle.base.specs.declared.party.ClientId.{ClientId}
 use Rattle.base.specs.declared.timestamp.Timestamp.{Timestamp}
 use Rattle.base.proofs.Booleans.{and-true-both}
-use Rattle.base.proofs.Outcome.{guard-passes}
 use Rattle.base.proofs.Range.{bounds}
 use Rattle.base.proofs.Timestamps.{number-ofNumber}
-use Rattle.wire.specs.Acceptance.{senderOf, inItsRange, acceptance}
-use Rattle.wire.specs.Checks.{ifThere, shaped, issued, checked}
+use Rattle.wire.specs.Acceptance.{acceptance}
+use Rattle.wire.specs.Checks.{ifThere, shaped, issued}
 use Rattle.wire.specs.Decode.{decode, reading, fieldsIn, digestIn, cardIn}
 use Rattle.wire.specs.Judging.{signers}
 use Rattle.wire.specs.Layout.{extent, preparedRule, rules, mapIn, place, field}
-use Rattle.wire.specs.Message.{Message, READ-STAMP, PREPARE, WRITE, READ, STAMP, PREPARED, WRITTEN, CARD, longest}
+use Rattle.wire.specs.Message.{Message, PREPARE, WRITE, longest}
 use Rattle.wire.specs.Places.{between, Room}
 use Rattle.wire.specs.Proof.{PreparedProof, WrittenProof, preparedFrom, writtenFrom}
 use Rattle.wire.specs.declared.message.Fields.{Fields}
 use Rattle.wire.specs.declared.message.Party.the-variants.{Replica as AtReplica}
-use Rattle.wire.proofs.Accepted.{Accepted, acceptance-accepted, acceptance-refused}
+use Rattle.wire.proofs.Admitted.{Admitted, admitted-passed, acceptance-accepted, acceptance-refused}
 use Rattle.wire.proofs.FieldParts.{room}
 use Rattle.wire.proofs.Framed.{place-present, place-absent, place-rises, place-within, field-absent}
-use Rattle.wire.proofs.Parsed.{Parsed, parsed, messageOf, preparedAt, writtenAt, prepared-whole, digest-part, taken-kind, decode-accepted, replica-kind, reads-1, reads-2, reads-3, reads-4}
-use Rattle.wire.proofs.Rows.{Taken, read-stamp, prepare, write, read}
+use Rattle.wire.proofs.Parsed.{Parsed, parsed, preparedAt, writtenAt, prepared-whole, digest-part, taken-kind, replica-kind, reads-1, reads-2, reads-3, reads-4}
+use Rattle.wire.proofs.Rows.{Taken, prepare, write}
 use Rattle.wire.proofs.Windows.{behind-first}
 use Rattle.protocol.specs.Parts.{timestampOf}
-use Rattle.protocol.specs.Replica.{afterPrepare, isOwn, isTimestamp, Reply, answering, withSlots, onMessage, replicaStep, ReplicaCall, answerOutcome, sentLength, replicaAnswers, withOutput, replicaCall}
+use Rattle.protocol.specs.Replica.{afterPrepare, Reply, onReadStamp, onPrepare, onWrite, onRead, onRequest, replicaStep, ReplicaCall, answerOutcome, sentLength, replicaAnswers, withOutput, replicaCall}
 use Rattle.protocol.specs.declared.replica.Replica.{Replica}
 use Rattle.protocol.proofs.ArrayLaws.{entries-read-length}
 use Rattle.protocol.specs.declared.replica.ReplicaAnswer.the-variants.{Refused}
 use Rattle.protocol.proofs.Calls.{long-output, replica-short}
-use Rattle.protocol.proofs.Passed.{Passed, checked-passed}
-use Rattle.replica.specs.Kinds.{preparedWith, onReadStamp, onPrepare, onWrite, onRead}
+use Rattle.replica.specs.Kinds.{preparedWith, prepareWith}
 use Rattle.replica.specs.Stepping.{keeping, Changes, Leaves, Answers, Steps}
 use Rattle.replica.specs.declared.Stepped.{Stepped}
-
--- What follows tests 2 to 11. A replica takes no other kinds.
-abbrev pub stepOf : Replica → Message → Outcome Reply
-stepOf replica (READ-STAMP client nonce) = onReadStamp replica client nonce
-stepOf replica (PREPARE client timestamp digest proof last) =
-    guard 12 (isOwn client last)
-    (guard 13 (isTimestamp timestamp (successor (ofNumber (timestampOf proof)) client))
-    (afterPrepare client timestamp digest last (replica .register .slots) >>= λ slots.
-    answering (PREPARED (replica .id) timestamp digest) (withSlots replica slots)))
-stepOf replica (WRITE client card proof) = onWrite replica card proof
-stepOf replica (READ client nonce) = onRead replica client nonce
-stepOf replica (STAMP sender nonce proof client) = refused 5
-stepOf replica (PREPARED sender timestamp digest) = refused 5
-stepOf replica (WRITTEN sender timestamp) = refused 5
-stepOf replica (CARD sender nonce card proof client) = refused 5
 
 -- The timestamp of a written proof, 0 where it is missing.
 abbrev writtenTimestamp : Option WrittenProof → ℕ
@@ -80,8 +63,8 @@ not-zero timestamp i e =
 -- PREPARE by its proofs is PREPARE by their timestamps.
 plain : (replica : Replica) (client : ClientId) (timestamp : ℕ) (digest : List ℕ) (proof : Option PreparedProof) (last : Option WrittenProof) (shown written : ℕ)
     → timestampOf proof ≡ shown → writtenTimestamp last ≡ written → writtenIssued last ≡ true
-    → stepOf replica (PREPARE client timestamp digest proof last) ≡ onPrepare replica client timestamp digest shown written
-unfolding onPrepare afterPrepare preparedWith
+    → onPrepare replica client timestamp digest proof last ≡ prepareWith replica client timestamp digest shown written
+unfolding prepareWith afterPrepare preparedWith
 plain replica client timestamp digest proof none shown written s w i =
     let same : max (number (replica .register .slots .written)) 0 ≡ number (replica .register .slots .written) = omega arith in
     rw (← s, ← w, same)
@@ -104,86 +87,60 @@ module _ (bytes : List ℕ) where
       go false e = rw (field-absent bytes 7 e) (unfold fromBytes in refl)
 
 module _ (replica : Replica) (bytes verdicts : List ℕ) where
-  abbrev after : Message → Outcome Reply
-  after m = guard 6 (inItsRange AtReplica (replica .f) (senderOf m)) (checked (replica .f) m verdicts (stepOf replica m))
-
-  taken-after : {map kind : ℕ} (t : Taken map kind AtReplica) → onMessage replica verdicts (messageOf t bytes) ≡ after (messageOf t bytes)
-  unfolding onMessage onWrite
-  taken-after (read-stamp e) = refl
-  taken-after (prepare e) = refl
-  taken-after (write e) = refl
-  taken-after (read e) = refl
-
-  step-after : replicaStep replica bytes verdicts ≡ (decode AtReplica bytes >>= after)
-  unfolding replicaStep
-  step-after = go (decode AtReplica bytes) refl
-    where
-      go : (o : Outcome Message) → decode AtReplica bytes ≡ o → (o >>= onMessage replica verdicts) ≡ (o >>= after)
-      go (refused n) d = refl
-      go (accepted m) d =
-          let p = parsed AtReplica bytes (fieldsIn bytes) (decode-accepted AtReplica bytes m d) in
-          let same : messageOf (p .taken) bytes ≡ m = cc (p .decodes) in
-          subst (λ (m : Message). onMessage replica verdicts m ≡ after m) same (taken-after (p .taken))
-
   pub step-refused : (n : ℕ) → acceptance AtReplica (replica .f) bytes verdicts ≡ refused n → replicaStep replica bytes verdicts ≡ refused n
-  step-refused n e = step-after ∙ acceptance-refused AtReplica (replica .f) bytes verdicts n e Reply (stepOf replica)
+  unfolding replicaStep
+  step-refused n e = rw (acceptance-refused AtReplica (replica .f) bytes verdicts n e)
 
   module _ (fields : Fields) (e : acceptance AtReplica (replica .f) bytes verdicts ≡ accepted fields) where
-    a : Accepted AtReplica (replica .f) bytes verdicts fields
-    a = acceptance-accepted AtReplica (replica .f) bytes verdicts fields e
+    pub reads-as : reading AtReplica bytes ≡ accepted fields
+    reads-as = acceptance-accepted AtReplica (replica .f) bytes verdicts fields e .2
 
-    -- The message is this one: the step is what follows for it, it passed 7 to 11, and its sender is in range.
-    step-is : (m : Message) → decode AtReplica bytes ≡ accepted m → replicaStep replica bytes verdicts ≡ stepOf replica m
-    step-is m d =
-        let same : a .message ≡ m = cc (a .decodes) in
-        step-after ∙ rw (a .decodes)
-        (guard-passes 6 (inItsRange AtReplica (replica .f) (senderOf (a .message))) (checked (replica .f) (a .message) verdicts (stepOf replica (a .message))) (a .ranged)
-        ∙ a .checks Reply (stepOf replica (a .message)) ∙ ap (stepOf replica) same)
-
-    message-passed : (m : Message) → decode AtReplica bytes ≡ accepted m → Passed (replica .f) m verdicts
-    message-passed m d =
-        let same : a .message ≡ m = cc (a .decodes) in
-        subst (λ (m : Message). Passed (replica .f) m verdicts) same
-        (checked-passed (replica .f) (a .message) verdicts (accepted (tt {0})) (tt {0}) (a .checks (Unit {0}) (accepted tt)) .0)
-
-    sender-bounds : (m : Message) → decode AtReplica bytes ≡ accepted m → (1 ≤ senderOf m) × (senderOf m ≤ 64)
-    sender-bounds m d =
-        let same : a .message ≡ m = cc (a .decodes) in
-        subst (λ (m : Message). (1 ≤ senderOf m) × (senderOf m ≤ 64)) same (bounds 1 64 (senderOf (a .message)) (a .ranged))
+    -- The message is this one: it was let through, and the step is what follows for it.
+    let-through : (m : Message) → decode AtReplica bytes ≡ accepted m → Admitted AtReplica (replica .f) bytes verdicts m × (replicaStep replica bytes verdicts ≡ onRequest replica m)
+    unfolding replicaStep
+    let-through m d =
+        let a = acceptance-accepted AtReplica (replica .f) bytes verdicts fields e in
+        let h = admitted-passed AtReplica (replica .f) bytes verdicts (a .0) (a .1) in
+        let same : a .0 ≡ m = cc (h .decodes) in
+        (subst (Admitted AtReplica (replica .f) bytes verdicts) same h, rw (a .1) (ap (onRequest replica) same))
 
     pub step-read-stamp : fields .kind ≡ 1 → replicaStep replica bytes verdicts ≡ onReadStamp replica (record { 0 = fields .sender }) (fields .nonce)
-    step-read-stamp k = step-is _ (reads-1 bytes fields (a .reads) k)
+    unfolding onRequest
+    step-read-stamp k = let-through _ (reads-1 bytes fields reads-as k) .1
 
     pub step-read : fields .kind ≡ 4 → replicaStep replica bytes verdicts ≡ onRead replica (record { 0 = fields .sender }) (fields .nonce)
-    step-read k = step-is _ (reads-4 bytes fields (a .reads) k)
+    unfolding onRequest
+    step-read k = let-through _ (reads-4 bytes fields reads-as k) .1
 
     -- "holders 1 to 4"
     pub last-kind : (fields .kind ≡ 1 → ⊥) → (fields .kind ≡ 2 → ⊥) → (fields .kind ≡ 3 → ⊥) → fields .kind ≡ 4
     last-kind not-1 not-2 not-3 =
-        ⊎-elim (λ k. absurd (not-1 k)) (⊎-elim (λ k. absurd (not-2 k)) (⊎-elim (λ k. absurd (not-3 k)) (λ k. k))) (replica-kind (parsed AtReplica bytes fields (a .reads) .taken))
+        ⊎-elim (λ k. absurd (not-1 k)) (⊎-elim (λ k. absurd (not-2 k)) (⊎-elim (λ k. absurd (not-3 k)) (λ k. k))) (replica-kind (parsed AtReplica bytes fields reads-as .taken))
 
     -- WRITE: its card and proof, and that the proof has at most 11 entries.
     pub step-write : fields .kind ≡ 3 → replicaStep replica bytes verdicts ≡ onWrite replica (cardIn bytes) (preparedFrom (field bytes 6))
-    step-write k = step-is _ (reads-3 bytes fields (a .reads) k)
+    unfolding onRequest
+    step-write k = let-through _ (reads-3 bytes fields reads-as k) .1
 
     pub few-entries : fields .kind ≡ 3 → getD (field bytes 6) 37 0 ≤ 11
     unfolding shaped
     few-entries k =
         let proof = preparedFrom (field bytes 6) in
-        let p = message-passed _ (reads-3 bytes fields (a .reads) k) .prepared-shaped in
+        let p = let-through _ (reads-3 bytes fields reads-as k) .0 .passed .prepared-shaped in
         let quorum = eqb-true (length (proof .entries)) (quorumSize (replica .f)) (and-true-both (eqb (length (proof .entries)) (quorumSize (replica .f))) (rising 0 (replicaCount (replica .f)) (signers (proof .entries))) p .0) in
         omega (arith, quorum, entries-read-length (getD (field bytes 6) 37 0) (drop 38 (field bytes 6)))
 
     -- PREPARE, with 0 for the timestamp of a missing proof.
     pub step-prepare : fields .kind ≡ 2
-        → replicaStep replica bytes verdicts ≡ onPrepare replica (record { 0 = fields .sender }) (number (fields .timestamp)) (digestIn bytes) (fromBytes (take 5 (field bytes 6))) (fromBytes (take 5 (field bytes 7)))
+        → replicaStep replica bytes verdicts ≡ prepareWith replica (record { 0 = fields .sender }) (number (fields .timestamp)) (digestIn bytes) (fromBytes (take 5 (field bytes 6))) (fromBytes (take 5 (field bytes 7)))
+    unfolding onRequest
     step-prepare k =
-        let d = reads-2 bytes fields (a .reads) k in
-        step-is _ d ∙ plain replica (record { 0 = fields .sender }) (number (fields .timestamp)) (digestIn bytes) (preparedAt bytes) (writtenAt bytes) _ _
-        (prepared-timestamp bytes) (written-timestamp bytes) (message-passed _ d .written-issued)
+        let t = let-through _ (reads-2 bytes fields reads-as k) in
+        t .1 ∙ plain replica (record { 0 = fields .sender }) (number (fields .timestamp)) (digestIn bytes) (preparedAt bytes) (writtenAt bytes) _ _
+        (prepared-timestamp bytes) (written-timestamp bytes) (t .0 .passed .written-issued)
 
     pub prepare-sender : fields .kind ≡ 2 → (1 ≤ fields .sender) × (fields .sender ≤ 64)
-    prepare-sender k = sender-bounds _ (reads-2 bytes fields (a .reads) k)
+    prepare-sender k = bounds 1 64 (fields .sender) (let-through _ (reads-2 bytes fields reads-as k) .0 .ranged)
 
 -- Where the parts of a PREPARE stand.
 pub record PrepareIn (bytes : List ℕ) (fields : Fields) : Type 0 where
@@ -247,22 +204,19 @@ module _ (bytes : List ℕ) (fields : Fields) (e : reading AtReplica bytes ≡ a
 
 -- The same by what the code takes out of the message.
 module _ (replica : Replica) (bytes verdicts : List ℕ) (fields : Fields) (e : acceptance AtReplica (replica .f) bytes verdicts ≡ accepted fields) where
-  pub reads-as : reading AtReplica bytes ≡ accepted fields
-  reads-as = acceptance-accepted AtReplica (replica .f) bytes verdicts fields e .reads
-
   pub prepare-as : fields .kind ≡ 2 → (digest : List ℕ) (shown last : Timestamp) → digest ≡ take 32 (drop (fields .digest) bytes)
       → shown ≡ ofNumber (fromBytes (take 5 (between bytes (fields .prepared) (fields .written))))
       → last ≡ ofNumber (fromBytes (take 5 (between bytes (fields .written) (fields .signature))))
-      → replicaStep replica bytes verdicts ≡ onPrepare replica (record { 0 = fields .sender }) (number (fields .timestamp)) digest (number shown) (number last)
+      → replicaStep replica bytes verdicts ≡ prepareWith replica (record { 0 = fields .sender }) (number (fields .timestamp)) digest (number shown) (number last)
   prepare-as k digest shown last d s l =
-      let p = prepare-in bytes fields reads-as k in
+      let p = prepare-in bytes fields (reads-as replica bytes verdicts fields e) k in
       let shown-number : number shown ≡ fromBytes (take 5 (field bytes 6)) = ap number s ∙ number-ofNumber _ ∙ rw (p .shown-is) in
       let last-number : number last ≡ fromBytes (take 5 (field bytes 7)) = ap number l ∙ number-ofNumber _ ∙ rw (p .last-is) in
       step-prepare replica bytes verdicts fields e k ∙ rw (d, p .digest-is, shown-number, last-number)
 
   pub write-as : fields .kind ≡ 3
       → replicaStep replica bytes verdicts ≡ onWrite replica (between bytes (fields .card + 1) (fields .prepared)) (preparedFrom (between bytes (fields .prepared) (fields .written)))
-  write-as k = let w = write-in bytes fields reads-as k in rw (w .card-is, w .proof-is) (step-write replica bytes verdicts fields e k)
+  write-as k = let w = write-in bytes fields (reads-as replica bytes verdicts fields e) k in rw (w .card-is, w .proof-is) (step-write replica bytes verdicts fields e k)
 
 -- A call whose step is this outcome, whichever verdicts let its message through.
 pub answers : (replica : Replica) (bytes : List ℕ) (fields : Fields) (old : List ℕ) (stepped : Stepped) (new : List ℕ) (outcome : Outcome Reply)

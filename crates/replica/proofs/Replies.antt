@@ -29,11 +29,11 @@ use Rattle.wire.specs.declared.card.CardCheck.the-variants.{Good, Refused as Ba
 use Rattle.wire.specs.declared.card.CardDigest.{CardDigest}
 use Rattle.wire.specs.declared.writer.Encoded.{Encoded}
 use Rattle.wire.proofs.card.Digests.{card-short}
-use Rattle.protocol.specs.Replica.{heldTimestamp, Reply, answerOutcome, answering, isTimestamp, slotIs, slotTakes, withWritten, withSlot, withSlots, holding, withHeld, afterWrite, replicaAnswers}
+use Rattle.protocol.specs.Replica.{heldTimestamp, Reply, answerOutcome, answering, isTimestamp, slotIs, slotTakes, withWritten, withSlot, withSlots, holding, withHeld, afterWrite, onWrite, replicaAnswers}
 use Rattle.protocol.specs.declared.replica.Replica.{Replica}
 use Rattle.protocol.specs.declared.replica.ReplicaAnswer.{ReplicaAnswer}
 use Rattle.protocol.specs.declared.replica.ReplicaAnswer.the-variants.{Send, Refused}
-use Rattle.replica.specs.Kinds.{proofOf, ownOrMissing, onPrepare, standsFor, onWrite}
+use Rattle.replica.specs.Kinds.{proofOf, ownOrMissing, prepareWith, standsFor}
 use Rattle.replica.specs.Stepping.{keeping, Changes, Leaves}
 use Rattle.replica.specs.declared.Stepped.{Stepped}
 use Rattle.replica.proofs.Slots.{admitted, not-admitted}
@@ -90,13 +90,13 @@ module _ (timestamp : ℕ) (shown : Timestamp) (client : ClientId) (found : Succ
 
 -- PREPARE, test by test.
 module _ (replica : Replica) (client : ClientId) (timestamp : ℕ) (digest : List ℕ) (shown last : ℕ) where
-  pub not-own : ownOrMissing client last ≡ false → onPrepare replica client timestamp digest shown last ≡ refused 12
-  unfolding onPrepare guard
+  pub not-own : ownOrMissing client last ≡ false → prepareWith replica client timestamp digest shown last ≡ refused 12
+  unfolding prepareWith guard
   not-own e = rw e
 
   module _ (own : ownOrMissing client last ≡ true) where
-    pub not-successor : isTimestamp timestamp (successor (ofNumber shown) client) ≡ false → onPrepare replica client timestamp digest shown last ≡ refused 13
-    unfolding onPrepare guard
+    pub not-successor : isTimestamp timestamp (successor (ofNumber shown) client) ≡ false → prepareWith replica client timestamp digest shown last ≡ refused 13
+    unfolding prepareWith guard
     not-successor e = rw (own, e)
 
     module _ (follows : isTimestamp timestamp (successor (ofNumber shown) client) ≡ true) (first : 1 ≤ client .0) (small : client .0 < 256)
@@ -105,25 +105,25 @@ module _ (replica : Replica) (client : ClientId) (timestamp : ℕ) (digest : Lis
       abbrev written : ℕ
       written = max (number (replica .register .slots .written)) last
 
-      pub not-taken : admits ≡ false → onPrepare replica client timestamp digest shown last ≡ refused 15
-      unfolding onPrepare guard
+      pub not-taken : admits ≡ false → prepareWith replica client timestamp digest shown last ≡ refused 15
+      unfolding prepareWith guard
       not-taken t = rw (own, follows, not-admitted client timestamp digest (replica .register .slots) first small written (sym e ∙ t))
 
       pub is-taken : admits ≡ true
-          → onPrepare replica client timestamp digest shown last
+          → prepareWith replica client timestamp digest shown last
           ≡ answering (PREPARED (replica .id) timestamp digest) (withSlots replica (withWritten written (withSlot client timestamp digest (replica .register .slots))))
-      unfolding onPrepare guard
+      unfolding prepareWith guard
       is-taken t = rw (own, follows, admitted client timestamp digest (replica .register .slots) first small written (sym e ∙ t))
 
 -- WRITE, test by test.
 module _ (replica : Replica) (card : List ℕ) (proof : PreparedProof) where
   pub wrong-card : standsFor card (proof .digest) ≡ false → onWrite replica card proof ≡ refused 14
-  unfolding onWrite guard
+  unfolding guard
   wrong-card e = rw e
 
   pub right-card : standsFor card (proof .digest) ≡ true
       → onWrite replica card proof ≡ answering (WRITTEN (replica .id) (proof .timestamp)) (withHeld replica (afterWrite card proof (replica .register .held)))
-  unfolding onWrite guard
+  unfolding guard
   right-card e = rw e
 
   pub not-later : ltb (heldTimestamp (replica .register .held)) (proof .timestamp) ≡ false → withHeld replica (afterWrite card proof (replica .register .held)) ≡ replica

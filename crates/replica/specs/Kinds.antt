@@ -1,20 +1,20 @@
--- The four requests on plain values: once tests 2 to 11 are passed, what a replica makes of what it read.
+-- PREPARE and WRITE on plain values, as the code reads them: once 2 to 11 are passed, what a replica makes of them.
 use mathlib.Core.Path.{_≡_}
 use mathlib.Core.Bool.{Bool, _&&_, _||_, cond}
 use mathlib.Core.List.{List}
 use Prim.Native.Nat.{ℕ, _+_, _*_, _%_, _≤_, max}
 use lib.Dec.{eqb, leb, ltb}
 use lib.ListN.{length}
-use Rattle.base.specs.Outcome.{Outcome, accepted, refused, guard, _>>=_}
+use Rattle.base.specs.Outcome.{Outcome, accepted, guard, _>>=_}
 use Rattle.base.specs.Same.{same}
 use Rattle.base.specs.Timestamp.{number, ofNumber, successor}
 use Rattle.base.specs.declared.party.ClientId.{ClientId}
 use Rattle.base.specs.declared.timestamp.Timestamp.{Timestamp}
 use Rattle.wire.specs.Card.{isCard}
-use Rattle.wire.specs.Message.{STAMP, PREPARED, WRITTEN, CARD}
+use Rattle.wire.specs.Message.{PREPARED}
 use Rattle.wire.specs.Proof.{PreparedProof, readEntries}
 use Rattle.wire.specs.Sha256.{sha256}
-use Rattle.protocol.specs.Replica.{heldProof, heldCard, withWritten, withSlot, slotIs, slotTakes, afterWrite, isTimestamp, Reply, answering, withSlots, withHeld}
+use Rattle.protocol.specs.Replica.{withWritten, withSlot, slotIs, slotTakes, isTimestamp, Reply, answering, withSlots}
 use Rattle.protocol.specs.declared.replica.Replica.{Replica}
 use Rattle.protocol.specs.declared.replica.Slots.{Slots}
 
@@ -42,30 +42,17 @@ pub record Fitting (card digest : List ℕ) (count : ℕ) (entries : List ℕ) :
   pub few : count ≤ 11
   pub entries-whole : length entries ≡ 65 * count
 
--- READ-STAMP
-abbrev pub onReadStamp : Replica → ClientId → ℕ → Outcome Reply
-onReadStamp replica client nonce = answering (STAMP (replica .id) nonce (heldProof (replica .register .held)) client) replica
-
 -- PREPARE; the timestamps of the prepared proof and of the written proof are 0 where the proofs are missing.
 abbrev pub ownOrMissing : ClientId → ℕ → Bool
 ownOrMissing client last = eqb last 0 || eqb (last % 256) (client .0)
 
-unfoldable pub onPrepare : Replica → ClientId → ℕ → List ℕ → ℕ → ℕ → Outcome Reply
-onPrepare replica client timestamp digest shown last =
+unfoldable pub prepareWith : Replica → ClientId → ℕ → List ℕ → ℕ → ℕ → Outcome Reply
+prepareWith replica client timestamp digest shown last =
     guard 12 (ownOrMissing client last)
     (guard 13 (isTimestamp timestamp (successor (ofNumber shown) client))
     (preparedWith client timestamp digest (max (number (replica .register .slots .written)) last) (replica .register .slots) >>= λ slots.
     answering (PREPARED (replica .id) timestamp digest) (withSlots replica slots)))
 
--- WRITE
+-- 14 of a card with its proof's digest.
 abbrev pub standsFor : List ℕ → List ℕ → Bool
 standsFor card digest = isCard card && same (sha256 card) digest
-
-unfoldable pub onWrite : Replica → List ℕ → PreparedProof → Outcome Reply
-onWrite replica card proof =
-    guard 14 (standsFor card (proof .digest))
-    (answering (WRITTEN (replica .id) (proof .timestamp)) (withHeld replica (afterWrite card proof (replica .register .held))))
-
--- READ
-abbrev pub onRead : Replica → ClientId → ℕ → Outcome Reply
-onRead replica client nonce = answering (CARD (replica .id) nonce (heldCard (replica .register .held)) (heldProof (replica .register .held)) client) replica

@@ -22,8 +22,8 @@ ghost use Rattle.wire.specs.Layout.{extent, preparedRule};
 ghost use Rattle.wire.specs.Message.{longest};
 ghost use Rattle.wire.specs.Proof.{preparedFrom};
 ghost use Rattle.wire.specs.Writing.{encodedOutcome};
-ghost use Rattle.protocol.specs.Replica.{answerOutcome, isTimestamp, withSlots, withHeld, replicaAnswers};
-ghost use Rattle.replica.specs.Kinds.{proofOf, ownOrMissing, standsFor, onReadStamp, onPrepare, onWrite, onRead};
+ghost use Rattle.protocol.specs.Replica.{answerOutcome, isTimestamp, withSlots, withHeld, onReadStamp, onWrite, onRead, replicaAnswers};
+ghost use Rattle.replica.specs.Kinds.{proofOf, ownOrMissing, standsFor, prepareWith};
 ghost use Rattle.replica.specs.Stepping.{keeping, Leaves};
 
 const NOT_OWN: u8 = 12;
@@ -161,7 +161,7 @@ pub(super) fn prepare(
     out: &mut [u8],
 ) -> Stepped
     requires { ⌜ ((1 ≤ client .0) × (client .0 ≤ 64)) × (longest ≤ length (now out)) ⌝ }
-    ensures { λ r. ⌜ Leaves replica (replicaAnswers replica (now (out .entry)) (onPrepare replica client (number timestamp) (now (digest .entry)) (number shown) (number last))) r (now (out .exit)) ⌝ }
+    ensures { λ r. ⌜ Leaves replica (replicaAnswers replica (now (out .entry)) (prepareWith replica client (number timestamp) (now (digest .entry)) (number shown) (number last))) r (now (out .exit)) ⌝ }
 {
     if !is_own(client, last) {
         return refuse(replica, NOT_OWN);

@@ -15,7 +15,8 @@ use Rattle.protocol.specs.Client.{send}
 use Rattle.protocol.specs.Parts.{timestampOf}
 use Rattle.protocol.specs.Replica.{heldTimestamp, heldProof}
 use Rattle.run.specs.Premises.{Premises}
-use Rattle.run.specs.Run.{replica, client, Run, replicaAt}
+use Rattle.wire.specs.Acceptance.{replica, client}
+use Rattle.run.specs.Run.{Run, replicaAt}
 use Rattle.protocol.proofs.ReplicaFacts.{held-shown}
 use Rattle.run.proofs.Turns.{ReplicaTurn, rests, steps, replica-turn, replica-step}
 use Rattle.run.proofs.SentMessages.{Said, step-said}

@@ -13,7 +13,8 @@ use Rattle.protocol.specs.Client.{Answer, send, counted, done, ended, Turn}
 use Rattle.protocol.specs.declared.client.Client.{Client}
 use Rattle.protocol.specs.declared.client.Phase.{Phase}
 use Rattle.protocol.proofs.ClientCases.{Begun, ClientCase, stamp-counted, stamps-enough, stamps-ended, prepared-counted, prepareds-enough, written-counted, writtens-enough, card-counted, cards-agree, cards-differ, back-counted, back-enough}
-use Rattle.run.specs.Run.{client, Run, clientAt, answerAt, At}
+use Rattle.wire.specs.Acceptance.{client}
+use Rattle.run.specs.Run.{Run, clientAt, answerAt, At}
 use Rattle.run.proofs.Turns.{apart, ClientStep, ClientTurn, rested, wrote, asked, heard, client-turn}
 use Rattle.run.proofs.SentMessages.{Said}
 use Rattle.run.proofs.Slots.{order}

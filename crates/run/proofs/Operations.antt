@@ -36,10 +36,11 @@ use Rattle.protocol.specs.declared.client.Client.{Client}
 use Rattle.protocol.specs.declared.client.Phase.{Phase}
 use Rattle.protocol.specs.declared.client.Phase.the-variants.{Idle, Stamps, Prepareds, Writtens, Cards, WriteBack}
 use Rattle.protocol.proofs.Fit.{TimestampFits}
-use Rattle.protocol.proofs.Passed.{Passed}
+use Rattle.wire.proofs.Passed.{Passed}
 use Rattle.protocol.proofs.ClientCases.{Leaves, betterCard, PhaseFits, ClientCase, stamp-counted, stamps-enough, stamps-ended, prepared-counted, prepareds-enough, written-counted, writtens-enough, card-counted, cards-agree, cards-differ, back-counted, back-enough}
 use Rattle.run.specs.Premises.{CardOfRun, Premises}
-use Rattle.run.specs.Run.{replica, client, Run, clientAt, answerAt}
+use Rattle.wire.specs.Acceptance.{replica, client}
+use Rattle.run.specs.Run.{Run, clientAt, answerAt}
 use Rattle.run.proofs.Turns.{apart, same-replica, correct-replica-range, correct-client-range, GoodClient, good-client, ClientStep, Heard}
 use Rattle.run.proofs.SentMessages.{or-true, Said, said-later, heard-said}
 use Rattle.run.proofs.Slots.{Backed, backed-later, meet, card-backed}

@@ -17,7 +17,8 @@ use Rattle.protocol.specs.declared.client.Client.{Client}
 use Rattle.protocol.specs.declared.client.Phase.the-variants.{Idle}
 use Rattle.run.specs.Claims.{Begins, Finished, FinishedBefore, AtOneTimestamp, Before}
 use Rattle.run.specs.Premises.{Accepted, CardOfRun, cardOf, Premises}
-use Rattle.run.specs.Run.{Event, begins-write, begins-read, to-client, client, Run, partyOf, event, clientAt, At, Correct}
+use Rattle.wire.specs.Acceptance.{client}
+use Rattle.run.specs.Run.{Event, begins-write, begins-read, to-client, Run, partyOf, event, clientAt, At, Correct}
 use Rattle.run.proofs.Turns.{apart, same-client, Silent, ClientTurn, rested, wrote, asked, heard, client-turn}
 use Rattle.run.proofs.Slots.{split-last, order, one-backed}
 use Rattle.run.proofs.Operations.{none-in, Settled, settled-later, Shown, shown-later, During, during-later, not-idle, moved, Above, AtDone, Next, goes-on, finishes, stops, heard-next}

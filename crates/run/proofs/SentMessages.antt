@@ -21,8 +21,9 @@ use Rattle.wire.proofs.OneForm.{decoded-legal}
 use Rattle.wire.specs.declared.message.Party.the-variants.{Replica as AtReplica, Client as AtClient}
 use Rattle.protocol.specs.Client.{send}
 use Rattle.protocol.proofs.ClientCases.{LegalAnswer}
-use Rattle.run.specs.Premises.{Signature, senderOf, signedBy, signaturesOf, TrueVerdicts, TrueFor, TrueAt, Premises}
-use Rattle.run.specs.Run.{to-replica, to-client, Party, replica, client, Run, clientAt, answerAt, At, Correct, Sent}
+use Rattle.run.specs.Premises.{Signature, signedBy, signaturesOf, TrueVerdicts, TrueFor, TrueAt, Premises}
+use Rattle.wire.specs.Acceptance.{senderOf, Sender, replica, client}
+use Rattle.run.specs.Run.{to-replica, to-client, Run, clientAt, answerAt, At, Correct, Sent}
 use Rattle.run.proofs.Bodies.{same-body, covered}
 use Rattle.run.proofs.Turns.{apart, same-replica, ReplicaStep, replica-step, ClientTurn, rested, wrote, asked, heard, client-turn, Heard}
 
@@ -32,17 +33,17 @@ or-true false b h = inr h
 
 module _ (R : Run) where
   -- The party was answered with this message before event t.
-  pub record Said (party : Party) (message : Message) (t : ℕ) : Type 0 where
+  pub record Said (party : Sender) (message : Message) (t : ℕ) : Type 0 where
     pub time : ℕ
     pub earlier : time < t
     pub by : At R time party
     pub answered : answerAt R time ≡ accepted (send message)
 
-  pub said-later : (party : Party) (message : Message) (t t′ : ℕ) → t ≤ t′ → Said party message t → Said party message t′
+  pub said-later : (party : Sender) (message : Message) (t t′ : ℕ) → t ≤ t′ → Said party message t → Said party message t′
   said-later party message t t′ l s = let before = s .earlier in record { time = s .time; earlier = omega arith; by = s .by; answered = s .answered }
 
   -- What a correct party sends is legal.
-  pub sent-legal : (party : Party) → Correct R party → (t : ℕ) (message : Message) → At R t party → answerAt R t ≡ accepted (send message) → Legal message
+  pub sent-legal : (party : Sender) → Correct R party → (t : ℕ) (message : Message) → At R t party → answerAt R t ≡ accepted (send message) → Legal message
   sent-legal (replica id) c t m at a =
       let s = replica-step R id c t (send m) at a in
       let same : s .reply .message ≡ m = cc (s .answer-is) in
@@ -56,7 +57,7 @@ module _ (R : Run) where
       go (heard h) = let same : h .turn .answer ≡ send m = cc (h .step .answer-is) in subst LegalAnswer same (h .facts .legal)
 
   -- A correct party that sent a legal message's bytes sent that message.
-  pub said : (party : Party) → Correct R party → (message : Message) → Legal message → (t : ℕ) → Sent R party (body message) t → Said party message t
+  pub said : (party : Sender) → Correct R party → (message : Message) → Legal message → (t : ℕ) → Sent R party (body message) t → Said party message t
   said party c m legal t s =
       let same : s .message ≡ m = same-body (s .message) m (sent-legal party c (s .time) (s .message) (s .by) (s .answered)) legal (s .same-bytes) in
       record { time = s .time; earlier = s .earlier; by = s .by; answered = s .answered ∙ ap (λ (x : Message). accepted (send x)) same }

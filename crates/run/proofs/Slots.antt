@@ -27,11 +27,12 @@ use Rattle.wire.proofs.ProofBytes.{prepared-rewritten}
 use Rattle.protocol.specs.Client.{send}
 use Rattle.protocol.specs.Replica.{slotCount, slotDigest}
 use Rattle.protocol.specs.declared.replica.Slots.{Slots}
-use Rattle.protocol.proofs.Passed.{Passed}
+use Rattle.wire.proofs.Passed.{Passed}
 use Rattle.protocol.proofs.ReplicaFacts.{clientOf, SlotRises}
 use Rattle.run.specs.Claims.{Genuine}
 use Rattle.run.specs.Premises.{preparedSignatures, signaturesOf, TrueVerdicts, Premises}
-use Rattle.run.specs.Run.{replica, Run, replicaAt, answerAt, At}
+use Rattle.wire.specs.Acceptance.{replica}
+use Rattle.run.specs.Run.{Run, replicaAt, answerAt, At}
 use Rattle.run.proofs.Turns.{correct-replica-range, ReplicaTurn, rests, steps, replica-turn, ReplicaStep, replica-step, Heard}
 use Rattle.run.proofs.SentMessages.{Said, said-later, said, front-true, rest-true, entry-sent, heard-true, heard-legal}
 

@@ -8,7 +8,7 @@ use native.Mathlib.Omega.{arith}
 use borrow.Author.Tests.{eqb-true, eqb-false, eq-eqb}
 use lib.Dec.{eqb}
 use lib.ListN.{getD, replicate, length-replicate}
-use Rattle.base.specs.Outcome.{Outcome, accepted, refused, _>>=_}
+use Rattle.base.specs.Outcome.{Outcome, accepted, refused}
 use Rattle.base.specs.Party.{replicaCount}
 use Rattle.base.specs.declared.party.ClientId.{ClientId}
 use Rattle.base.specs.declared.party.ReplicaId.{ReplicaId}
@@ -16,13 +16,14 @@ use Rattle.base.proofs.Range.{bounds}
 use Rattle.wire.specs.Decode.{decode}
 use Rattle.wire.specs.Layout.{signature}
 use Rattle.wire.specs.Message.{Message, READ-STAMP, READ}
+use Rattle.wire.proofs.Admitted.{Admitted, admitted-then}
 use Rattle.wire.proofs.OneForm.{decoded-fits, decoded-signature}
 use Rattle.wire.specs.declared.message.Party.the-variants.{Replica as AtReplica, Client as AtClient}
 use Rattle.base.specs.ReplicaSet.{empty}
 use Rattle.base.specs.Timestamp.{start}
 use Rattle.protocol.specs.Parts.{startCard}
-use Rattle.protocol.specs.Client.{Answer, send, Turn, freshClient, beginWrite, beginRead, clientStep}
-use Rattle.protocol.specs.Replica.{Reply, freshRegister, replicaStep}
+use Rattle.protocol.specs.Client.{Answer, send, Turn, freshClient, beginWrite, beginRead, onReply, clientStep}
+use Rattle.protocol.specs.Replica.{Reply, freshRegister, onRequest, replicaStep}
 use Rattle.protocol.specs.declared.client.Client.{Client}
 use Rattle.protocol.specs.declared.client.Phase.{Phase}
 use Rattle.protocol.specs.declared.client.Phase.the-variants.{Stamps, Cards}
@@ -32,7 +33,8 @@ use Rattle.protocol.proofs.Fit.{SlotsFit, HeldFits, ReplicaFits, ClientFits}
 use Rattle.protocol.proofs.ReplicaFacts.{ReplicaFacts, replica-facts}
 use Rattle.protocol.proofs.ClientCases.{Begun, PhaseFits, ClientFacts}
 use Rattle.protocol.proofs.ClientFacts.{begins-write as write-begun, begins-read as read-begun, client-facts}
-use Rattle.run.specs.Run.{Event, begins-write, begins-read, to-replica, to-client, Party, replica, client, Run, partyOf, nextReplica, nextClient, replicaAnswer, clientAnswer, event, replicaAt, clientAt, answerTo, answerAt, At}
+use Rattle.wire.specs.Acceptance.{Sender, replica, client}
+use Rattle.run.specs.Run.{Event, begins-write, begins-read, to-replica, to-client, Run, partyOf, nextReplica, nextClient, replicaAnswer, clientAnswer, event, replicaAt, clientAt, answerTo, answerAt, At}
 
 -- Two constructors are not equal.
 pub apart : {A : Type 0} → _≡_ {A = ℕ} 0 1 → A
@@ -87,7 +89,7 @@ module _ (R : Run) where
     pub fits : ReplicaFits before
 
   -- The party answers nothing at event t: it is not its event, or it is refused.
-  abbrev pub Silent : Party → ℕ → Type 0
+  abbrev pub Silent : Sender → ℕ → Type 0
   Silent party t = At R t party → (answer : Answer) → answerAt R t ≡ accepted answer → ⊥
 
   pub record ReplicaStep (id : ReplicaId) (t : ℕ) : Type 0 where
@@ -111,14 +113,9 @@ module _ (R : Run) where
   replica-outcome id t bytes verdicts out e q = (rw (e, eq-eqb (id .0) (id .0) refl, q), rw (e, q))
 
   replica-parts : (before : Replica) (bytes verdicts : List ℕ) (reply : Reply) → replicaStep before bytes verdicts ≡ accepted reply
-      → (message : Message) × (decode AtReplica bytes ≡ accepted message) × (Rattle.protocol.specs.Replica.onMessage before verdicts message ≡ accepted reply)
+      → (message : Message) × Admitted AtReplica (before .f) bytes verdicts message × (onRequest before message ≡ accepted reply)
   unfolding replicaStep
-  replica-parts before bytes verdicts reply e = go (decode AtReplica bytes) refl e
-    where
-      go : (d : Outcome Message) → decode AtReplica bytes ≡ d → (d >>= Rattle.protocol.specs.Replica.onMessage before verdicts) ≡ accepted reply
-          → (message : Message) × (decode AtReplica bytes ≡ accepted message) × (Rattle.protocol.specs.Replica.onMessage before verdicts message ≡ accepted reply)
-      go (accepted message) q e = (message, q, e)
-      go (refused n) q e = apart (cc)
+  replica-parts before bytes verdicts reply e = admitted-then AtReplica (before .f) bytes verdicts (onRequest before) reply e
 
   replica-here : (id : ReplicaId) (t : ℕ) (bytes verdicts : List ℕ) → GoodReplica id (replicaAt R id t) → event R t ≡ some (to-replica id bytes verdicts) → ReplicaTurn id t
   replica-here id t bytes verdicts good e = go (replicaStep (replicaAt R id t) bytes verdicts) refl
@@ -128,24 +125,24 @@ module _ (R : Run) where
       go (accepted reply) q =
           let both = replica-outcome id t bytes verdicts (accepted reply) e q in
           let parts = replica-parts (replicaAt R id t) bytes verdicts reply q in
-          let message-fits = decoded-fits AtReplica bytes (parts .0) (parts .1) (R .have-bytes t (to-replica id bytes verdicts) e) in
+          let message-fits = decoded-fits AtReplica bytes (parts .0) (parts .1 .decodes) (R .have-bytes t (to-replica id bytes verdicts) e) in
           steps (record {
             bytes = bytes;
             verdicts = verdicts;
             message = parts .0;
             reply = reply;
             event-is = e;
-            decoded = parts .1;
-            facts = replica-facts (replicaAt R id t) verdicts (parts .0) reply (good .fits) message-fits (parts .2);
+            decoded = parts .1 .decodes;
+            facts = replica-facts (replicaAt R id t) verdicts (parts .0) reply (good .fits) message-fits (parts .1 .ranged) (parts .1 .passed) (parts .2);
             next-is = both .0;
             answer-is = both .1;
           })
 
   -- There is no event, or it is another party's.
-  no-event : (t : ℕ) (party : Party) → event R t ≡ none → Silent party t
+  no-event : (t : ℕ) (party : Sender) → event R t ≡ none → Silent party t
   no-event t party q at answer a = apart (cc (at .1))
 
-  elsewhere : (t : ℕ) (party : Party) (e : Event) → event R t ≡ some e → (partyOf e ≡ party → ⊥) → Silent party t
+  elsewhere : (t : ℕ) (party : Sender) (e : Event) → event R t ≡ some e → (partyOf e ≡ party → ⊥) → Silent party t
   elsewhere t party e q other at answer a = let same : e ≡ at .0 = cc (at .1) in other (ap partyOf same ∙ at .2)
 
   replica-turn-of : (id : ReplicaId) (t : ℕ) → GoodReplica id (replicaAt R id t) → (e : Option Event) → event R t ≡ e → ReplicaTurn id t
@@ -247,14 +244,9 @@ module _ (R : Run) where
   by-outcome id t (accepted turn) left next = next turn refl (record { next-is = left .next-is; answer-is = left .answer-is })
 
   client-parts : (before : Client) (bytes verdicts : List ℕ) (turn : Turn) → clientStep before bytes verdicts ≡ accepted turn
-      → (message : Message) × (decode AtClient bytes ≡ accepted message) × (Rattle.protocol.specs.Client.onMessage before verdicts (signature bytes) message ≡ accepted turn)
+      → (message : Message) × Admitted AtClient (before .f) bytes verdicts message × (onReply before (signature bytes) message ≡ accepted turn)
   unfolding clientStep
-  client-parts before bytes verdicts turn e = go (decode AtClient bytes) refl e
-    where
-      go : (d : Outcome Message) → decode AtClient bytes ≡ d → (d >>= Rattle.protocol.specs.Client.onMessage before verdicts (signature bytes)) ≡ accepted turn
-          → (message : Message) × (decode AtClient bytes ≡ accepted message) × (Rattle.protocol.specs.Client.onMessage before verdicts (signature bytes) message ≡ accepted turn)
-      go (accepted message) q e = (message, q, e)
-      go (refused n) q e = apart (cc)
+  client-parts before bytes verdicts turn e = admitted-then AtClient (before .f) bytes verdicts (onReply before (signature bytes)) turn e
 
   client-here : (id : ClientId) (t : ℕ) (bytes verdicts : List ℕ) → GoodClient id (clientAt R id t) → event R t ≡ some (to-client id bytes verdicts) → ClientTurn id t
   client-here id t bytes verdicts good e = by-outcome id t (clientStep (clientAt R id t) bytes verdicts) (client-outcome id t bytes verdicts e) (λ turn q step.
@@ -266,8 +258,8 @@ module _ (R : Run) where
         message = parts .0;
         turn = turn;
         event-is = e;
-        decoded = parts .1;
-        facts = client-facts (clientAt R id t) verdicts (signature bytes) (parts .0) turn (good .fits) (good .phase-fits) (decoded-fits AtClient bytes (parts .0) (parts .1) small) (decoded-signature AtClient bytes (parts .0) (parts .1) small) (parts .2);
+        decoded = parts .1 .decodes;
+        facts = client-facts (clientAt R id t) verdicts (signature bytes) (parts .0) turn (good .fits) (good .phase-fits) (decoded-fits AtClient bytes (parts .0) (parts .1 .decodes) small) (decoded-signature AtClient bytes (parts .0) (parts .1 .decodes) small) (parts .1 .ranged) (parts .1 .passed) (parts .2);
         step = step;
       }))
 

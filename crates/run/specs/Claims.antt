@@ -15,7 +15,8 @@ use Rattle.protocol.specs.Client.{done, ended}
 use Rattle.wire.specs.Checks.{proofOutcome}
 use Rattle.wire.specs.Proof.{PreparedProof, readPrepared}
 use Rattle.run.specs.Premises.{preparedSignatures, TrueVerdicts, Accepted}
-use Rattle.run.specs.Run.{Event, begins-write, begins-read, client, Run, event, answerAt, At}
+use Rattle.wire.specs.Acceptance.{client}
+use Rattle.run.specs.Run.{Event, begins-write, begins-read, Run, event, answerAt, At}
 
 module _ (R : Run) where
   -- "A prepared proof, of any bytes and from anyone, is judged genuine with marks that are true at the end of the list."

@@ -16,22 +16,13 @@ use Rattle.wire.specs.Message.{Message, READ-STAMP, PREPARE, WRITE, READ, STAMP
 use Rattle.wire.specs.Proof.{Entry, PreparedProof, WrittenProof}
 use Rattle.wire.specs.Sha256.{sha256}
 use Rattle.wire.specs.declared.message.Party.the-variants.{Replica as AtReplica, Client as AtClient}
-use Rattle.run.specs.Run.{Event, begins-write, begins-read, to-replica, to-client, Party, replica, client, Run, event, answerAt, Correct, Sent}
+use Rattle.wire.specs.Acceptance.{senderOf, Sender, replica}
+use Rattle.run.specs.Run.{Event, begins-write, begins-read, to-replica, to-client, Run, event, answerAt, Correct, Sent}
 
 -- A signature (seal) that came: whose it is, and the bytes that it covers.
 pub record Signature : Type 0 where
-  pub signer : Party
+  pub signer : Sender
   pub covers : List ℕ
-
-abbrev pub senderOf : Message → Party
-senderOf (READ-STAMP id nonce) = client id
-senderOf (PREPARE id timestamp digest proof last) = client id
-senderOf (WRITE id card proof) = client id
-senderOf (READ id nonce) = client id
-senderOf (STAMP id nonce proof addressed) = replica id
-senderOf (PREPARED id timestamp digest) = replica id
-senderOf (WRITTEN id timestamp) = replica id
-senderOf (CARD id nonce card proof addressed) = replica id
 
 -- "An entry's seal is that of the holder's PREPARED (or WRITTEN) message with this stamp (and digest)."
 abbrev pub signedBy : (ReplicaId → Message) → List Entry → List Signature

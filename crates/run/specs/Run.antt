@@ -15,6 +15,7 @@ use Rattle.protocol.specs.Client.{Answer, send, Turn, freshClient, beginWrite, 
 use Rattle.protocol.specs.Replica.{Reply, freshReplica, replicaStep}
 use Rattle.protocol.specs.declared.client.Client.{Client}
 use Rattle.protocol.specs.declared.replica.Replica.{Replica}
+use Rattle.wire.specs.Acceptance.{Sender, replica, client}
 use Rattle.wire.specs.Message.{Message, body}
 
 -- "a desk begins a write of some card or begins a read; a holder or a desk is handed a message, of any bytes and length,
@@ -25,11 +26,8 @@ pub data Event : Type 0 where
   to-replica : ReplicaId → List ℕ → List ℕ → Event
   to-client : ClientId → List ℕ → List ℕ → Event
 
-pub data Party : Type 0 where
-  replica : ReplicaId → Party
-  client : ClientId → Party
-
-abbrev pub partyOf : Event → Party
+-- The party of an event, as a sender of messages.
+abbrev pub partyOf : Event → Sender
 partyOf (begins-write id card) = client id
 partyOf (begins-read id) = client id
 partyOf (to-replica id bytes verdicts) = replica id
@@ -42,7 +40,7 @@ HasBytes (begins-read id) = Unit {0}
 HasBytes (to-replica id bytes verdicts) = Bytes bytes
 HasBytes (to-client id bytes verdicts) = Bytes bytes
 
-abbrev pub CorrectIn : (ReplicaId → Bool) → (ClientId → Bool) → Party → Type 0
+abbrev pub CorrectIn : (ReplicaId → Bool) → (ClientId → Bool) → Sender → Type 0
 CorrectIn correct-replica correct-client (replica id) = correct-replica id ≡ true
 CorrectIn correct-replica correct-client (client id) = correct-client id ≡ true
 
@@ -118,14 +116,14 @@ module _ (R : Run) where
   abbrev pub answerAt : ℕ → Outcome Answer
   answerAt t = answerTo t (event t)
 
-  abbrev pub At : ℕ → Party → Type 0
+  abbrev pub At : ℕ → Sender → Type 0
   At t party = (e : Event) × (event t ≡ some e) × (partyOf e ≡ party)
 
-  abbrev pub Correct : Party → Type 0
+  abbrev pub Correct : Sender → Type 0
   Correct party = CorrectIn (R .correct-replica) (R .correct-client) party
 
   -- "A party sent a message earlier if one of its earlier events was answered with it, all bytes before the seal being equal."
-  pub record Sent (party : Party) (bytes : List ℕ) (t : ℕ) : Type 0 where
+  pub record Sent (party : Sender) (bytes : List ℕ) (t : ℕ) : Type 0 where
     pub time : ℕ
     pub earlier : time < t
     pub by : At time party

@@ -15,7 +15,7 @@ use Rattle.base.specs.Outcome.{Outcome, accepted, refused, guard, _>>=_}
 use Rattle.base.specs.Timestamp.{number, ofNumber, isIssued}
 use Rattle.base.specs.declared.timestamp.Timestamp.{Timestamp}
 use Rattle.base.proofs.Timestamps.{number-ofNumber}
-use Rattle.wire.specs.Acceptance.{senderOf, inItsRange}
+use Rattle.wire.specs.Acceptance.{senderOf, numbered, inItsRange}
 use Rattle.wire.specs.Accepting.{opened, entryCount, signatureCount, proofBetween, Ready}
 use Rattle.wire.specs.Checks.{preparedOf, writtenOf, timestampOf, ifThere, entriesIfThere, entriesOf, oneEach, ownGenuine, issued, all, proven, proofOutcome}
 use Rattle.wire.specs.Decode.{decode, reading, fieldsIn, framed, timestampIn, readingOutcome}
@@ -42,8 +42,8 @@ abbrev pub timestampAt : List ℕ → Option ℕ
 timestampAt bytes = cond (bit (mapIn bytes) 3) (some (timestampIn bytes)) none
 
 -- What the tests look at, in the message and in its bytes.
-pub record Seen (bytes : List ℕ) (message : Message) : Type 0 where
-  pub sender : senderOf message ≡ fromBytes (field bytes 1)
+pub record Seen (party : Party) (bytes : List ℕ) (message : Message) : Type 0 where
+  pub sender : senderOf message ≡ numbered party (fromBytes (field bytes 1))
   pub prepared : preparedOf message ≡ preparedAt bytes
   pub written : writtenOf message ≡ writtenAt bytes
   pub timestamp : timestampOf message ≡ timestampAt bytes
@@ -61,7 +61,7 @@ module _ (bytes : List ℕ) where
   with-timestamp : bit (mapIn bytes) 3 ≡ true → some (timestampIn bytes) ≡ timestampAt bytes
   with-timestamp e = rw e
 
-  seen-taken : {kind : ℕ} {party : Party} (t : Taken (mapIn bytes) kind party) → Seen bytes (messageOf t bytes)
+  seen-taken : {kind : ℕ} {party : Party} (t : Taken (mapIn bytes) kind party) → Seen party bytes (messageOf t bytes)
   seen-taken (read-stamp e) = record { sender = refl; prepared = no-prepared (cc); written = no-written (cc); timestamp = no-timestamp (cc) }
   seen-taken (prepare e) = record { sender = refl; prepared = refl; written = refl; timestamp = with-timestamp (cc) }
   seen-taken (write e) = record { sender = refl; prepared = let set : bit (mapIn bytes) 6 ≡ true = cc in rw set; written = no-written (cc); timestamp = no-timestamp (cc) }
@@ -71,11 +71,11 @@ module _ (bytes : List ℕ) where
   seen-taken (written e) = record { sender = refl; prepared = no-prepared (cc); written = no-written (cc); timestamp = with-timestamp (cc) }
   seen-taken (card e) = record { sender = refl; prepared = refl; written = no-written (cc); timestamp = no-timestamp (cc) }
 
-pub seen : (party : Party) (bytes : List ℕ) (message : Message) → decode party bytes ≡ accepted message → Seen bytes message
+pub seen : (party : Party) (bytes : List ℕ) (message : Message) → decode party bytes ≡ accepted message → Seen party bytes message
 seen party bytes message e =
     let p = parsed party bytes (fieldsIn bytes) (decode-accepted party bytes message e) in
     let same : messageOf (p .taken) bytes ≡ message = cc (p .decodes) in
-    subst (λ (m : Message). Seen bytes m) same (seen-taken bytes (p .taken))
+    subst (λ (m : Message). Seen party bytes m) same (seen-taken bytes (p .taken))
 
 -- Where the proofs stand, by the fields.
 pub record Placed (bytes : List ℕ) (fields : Fields) : Type 0 where
@@ -253,7 +253,7 @@ judged f party bytes message first second e whole first-size second-size =
 
 -- Tests 2 to 8 by the bytes.
 pub opened-read : (party : Party) (f : ℕ) (bytes verdicts : List ℕ) (fields : Fields) → reading party bytes ≡ accepted fields
-    → opened party f bytes verdicts ≡ guard 6 (inItsRange party f (fields .sender)) (guard 7 (eqb (length verdicts) (signatureCount bytes) && all (λ v. leb v 1) verdicts) (guard 8 (ownGenuine verdicts) (accepted fields)))
+    → opened party f bytes verdicts ≡ guard 6 (inItsRange f (numbered party (fields .sender))) (guard 7 (eqb (length verdicts) (signatureCount bytes) && all (λ v. leb v 1) verdicts) (guard 8 (ownGenuine verdicts) (accepted fields)))
 unfolding opened
 opened-read party f bytes verdicts fields e =
     let p = parsed party bytes fields e in

@@ -1,5 +1,6 @@
 pub mod Accepted
 pub mod Accepting
+pub mod Admitted
 pub mod Carrying
 pub mod Digest
 pub mod FieldParts
@@ -10,6 +11,7 @@ pub mod KindTests
 pub mod OneForm
 pub mod Parsed
 pub mod Parts
+pub mod Passed
 pub mod Places
 pub mod ProofBytes
 pub mod Proven

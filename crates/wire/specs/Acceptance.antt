@@ -1,9 +1,11 @@
--- Document 01, "Turned down", 2 to 11 in their order: what a party makes of bytes and verdicts (marks) before its own rules.
+-- Document 01, "Turned down", 2 to 11 in their order: the message that a party is handed, or its refusal. The steps of replica and client begin with it.
 use mathlib.Core.Bool.{Bool}
 use mathlib.Core.List.{List}
 use Prim.Native.Nat.{ℕ}
 use Rattle.base.specs.Outcome.{Outcome, accepted, guard, _>>=_}
 use Rattle.base.specs.Party.{isClient, isReplica}
+use Rattle.base.specs.declared.party.ClientId.{ClientId}
+use Rattle.base.specs.declared.party.ReplicaId.{ReplicaId}
 use Rattle.wire.specs.Checks.{checked}
 use Rattle.wire.specs.Decode.{decode, fieldsIn}
 use Rattle.wire.specs.Message.{Message, READ-STAMP, PREPARE, WRITE, READ, STAMP, PREPARED, WRITTEN, CARD}
@@ -11,21 +13,42 @@ use Rattle.wire.specs.declared.message.Fields.{Fields}
 use Rattle.wire.specs.declared.message.Party.{Party}
 use Rattle.wire.specs.declared.message.Party.the-variants.{Replica, Client}
 
-abbrev pub senderOf : Message → ℕ
-senderOf (READ-STAMP client nonce) = client .0
-senderOf (PREPARE client timestamp digest proof last) = client .0
-senderOf (WRITE client card proof) = client .0
-senderOf (READ client nonce) = client .0
-senderOf (STAMP replica nonce proof client) = replica .0
-senderOf (PREPARED replica timestamp digest) = replica .0
-senderOf (WRITTEN replica timestamp) = replica .0
-senderOf (CARD replica nonce card proof client) = replica .0
+-- Who sends: "one may never be passed where the other is meant".
+pub data Sender : Type 0 where
+  replica : ReplicaId → Sender
+  client : ClientId → Sender
 
--- 6: "The sender's number is outside its range.": clients at a replica, replicas at a client.
-abbrev pub inItsRange : Party → ℕ → ℕ → Bool
-inItsRange Replica f sender = isClient (record { 0 = sender })
-inItsRange Client f sender = isReplica f (record { 0 = sender })
+abbrev pub senderOf : Message → Sender
+senderOf (READ-STAMP id nonce) = client id
+senderOf (PREPARE id timestamp digest proof last) = client id
+senderOf (WRITE id card proof) = client id
+senderOf (READ id nonce) = client id
+senderOf (STAMP id nonce proof addressed) = replica id
+senderOf (PREPARED id timestamp digest) = replica id
+senderOf (WRITTEN id timestamp) = replica id
+senderOf (CARD id nonce card proof addressed) = replica id
 
+-- The sender with a number, of a message that this party takes: a replica takes those of clients.
+abbrev pub numbered : Party → ℕ → Sender
+numbered Replica number = client (record { 0 = number })
+numbered Client number = replica (record { 0 = number })
+
+-- 6: "The sender's number is outside its range."
+abbrev pub inItsRange : ℕ → Sender → Bool
+inItsRange f (client id) = isClient id
+inItsRange f (replica id) = isReplica f id
+
+-- 6 to 11 of a message with its verdicts (marks).
+unfoldable pub admits : ℕ → List ℕ → Message → Outcome Message
+admits f verdicts message =
+    guard 6 (inItsRange f (senderOf message))
+    (checked f message verdicts
+    (accepted message))
+
+-- 2 to 11 of bytes.
+unfoldable pub admitted : Party → ℕ → List ℕ → List ℕ → Outcome Message
+admitted party f bytes verdicts = decode party bytes >>= admits f verdicts
+
+-- The same as the code answers it: the fields of the bytes.
 unfoldable pub acceptance : Party → ℕ → List ℕ → List ℕ → Outcome Fields
-acceptance party f bytes verdicts =
-    decode party bytes >>= λ message. guard 6 (inItsRange party f (senderOf message)) (checked f message verdicts (accepted (fieldsIn bytes)))
+acceptance party f bytes verdicts = admitted party f bytes verdicts >>= λ message. accepted (fieldsIn bytes)

@@ -22,7 +22,7 @@ use Rattle.wire.specs.declared.message.Party.{Party}
 abbrev pub opening : {A : Type 0} → Party → ℕ → List ℕ → List ℕ → (Message → Outcome A) → Outcome A
 opening party f bytes verdicts next =
     decode party bytes >>= λ message.
-    guard 6 (inItsRange party f (senderOf message))
+    guard 6 (inItsRange f (senderOf message))
     (guard 7 (oneEach message verdicts)
     (guard 8 (ownGenuine verdicts)
     (next message)))

@@ -16,7 +16,7 @@ ghost use mathlib.Core.Bool.{true, cond};
 ghost use Prim.Native.Nat.{_-_, _+_, _≤_, _<_};
 ghost use Rattle.base.specs.BitMap.{bit};
 ghost use Rattle.base.specs.Timestamp.{isIssued};
-ghost use Rattle.wire.specs.Acceptance.{inItsRange, acceptance};
+ghost use Rattle.wire.specs.Acceptance.{numbered, inItsRange, acceptance};
 ghost use Rattle.wire.specs.Accepting.{opened, entryCount, proofBetween, Ready, Judges};
 ghost use Rattle.wire.specs.Decode.{readingOutcome};
 ghost use Rattle.wire.specs.Judging.{proofCheckOutcome};
@@ -38,7 +38,7 @@ const ENTRY: usize = 65;
 
 // Test 6.
 fn in_range(party: Party, f: u8, sender: u8) -> bool
-    ensures { λ r. ⌜ r ≡ inItsRange party f sender ⌝ }
+    ensures { λ r. ⌜ r ≡ inItsRange f (numbered party sender) ⌝ }
 {
     match party {
         Party::Replica => is_client(ClientId(sender)),

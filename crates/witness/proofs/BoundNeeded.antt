@@ -14,6 +14,7 @@ use Rattle.base.specs.declared.party.ReplicaId.{ReplicaId}
 use Rattle.protocol.specs.Client.{send}
 use Rattle.run.specs.Claims.{Genuine, Claims}
 use Rattle.run.specs.Premises.{TrueAt, CardOfRun, preparedSignatures}
+use Rattle.wire.specs.Acceptance.{}
 use Rattle.run.specs.Run.{to-replica, Run, event}
 use Rattle.wire.specs.Message.{Message, PREPARE, PREPARED}
 use Rattle.wire.specs.Proof.{PreparedProof, preparedBytes}

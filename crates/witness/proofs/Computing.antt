@@ -6,10 +6,11 @@ use Rattle.base.specs.Range.{within}
 use Rattle.base.specs.ReplicaSet.{has, with}
 use Rattle.base.specs.Rising.{rising}
 use Rattle.base.specs.Same.{same}
-use Rattle.protocol.specs.Client.{gathered, beginWrite, beginRead, afterStamp, onStamp, afterPrepared, onPrepared, afterWritten, afterWriteBack, onWritten, afterCard, onCard, clientStep, onMessage as onMessageAtClient}
-use Rattle.protocol.specs.Replica.{freshRegister, afterPrepare, afterWrite, replicaStep, onMessage as onMessageAtReplica}
+use Rattle.protocol.specs.Client.{gathered, beginWrite, beginRead, afterStamp, onStamp, afterPrepared, onPrepared, afterWritten, afterWriteBack, onWritten, afterCard, onCard, clientStep, onReply}
+use Rattle.protocol.specs.Replica.{freshRegister, afterPrepare, afterWrite, replicaStep, onRequest}
 use Rattle.run.specs.Run.{replicaAt, clientAt, answerTo}
 use Rattle.wire.specs.Card.{table, readFields, goodMap, readCard}
+use Rattle.wire.specs.Acceptance.{admits, admitted}
 use Rattle.wire.specs.Checks.{entriesOf, all, oneEach, shaped, proven, checked, proofOutcome}
 use Rattle.wire.specs.Decode.{decode, kinds, ofKind, framed}
 use Rattle.wire.specs.Layout.{rules, place, field}
@@ -22,7 +23,7 @@ unfolding fromBytes toBytes guard within same rules place field kinds ofKind fra
 messages = tt
 
 unfoldable pub steps : Unit {0}
-unfolding messages count has with rising entriesOf all oneEach shaped proven checked proofOutcome table readFields goodMap readCard freshRegister afterPrepare afterWrite onMessageAtReplica replicaStep gathered beginWrite beginRead afterStamp onStamp afterPrepared onPrepared afterWritten afterWriteBack onWritten afterCard onCard onMessageAtClient clientStep replicaAt clientAt answerTo
+unfolding messages count has with rising entriesOf all oneEach shaped proven checked admits admitted proofOutcome table readFields goodMap readCard freshRegister afterPrepare afterWrite onRequest replicaStep gathered beginWrite beginRead afterStamp onStamp afterPrepared onPrepared afterWritten afterWriteBack onWritten afterCard onCard onReply clientStep replicaAt clientAt answerTo
 steps = tt
 
 unfoldable pub digests : Unit {0}

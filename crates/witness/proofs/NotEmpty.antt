@@ -15,7 +15,8 @@ use Rattle.protocol.specs.Client.{Answer, send, counted, done}
 use Rattle.protocol.specs.Parts.{startCard}
 use Rattle.run.specs.Claims.{Finished, Genuine}
 use Rattle.run.specs.Premises.{Premises, preparedSignatures}
-use Rattle.run.specs.Run.{Event, begins-write, begins-read, to-replica, to-client, replica, client, Run, event, answerAt, At, Correct, Sent}
+use Rattle.wire.specs.Acceptance.{replica, client}
+use Rattle.run.specs.Run.{Event, begins-write, begins-read, to-replica, to-client, Run, event, answerAt, At, Correct, Sent}
 use Rattle.wire.specs.Message.{Message, READ-STAMP, PREPARE, WRITE, READ, STAMP, PREPARED, WRITTEN, CARD}
 use Rattle.wire.specs.Proof.{PreparedProof, preparedBytes}
 use Rattle.witness.proofs.Answers.{code}

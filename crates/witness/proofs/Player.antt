@@ -19,6 +19,7 @@ use Rattle.protocol.specs.Client.{Answer, Turn, freshClient, beginWrite, beginR
 use Rattle.protocol.specs.Replica.{Reply, freshReplica, replicaStep}
 use Rattle.protocol.specs.declared.client.Client.{Client}
 use Rattle.protocol.specs.declared.replica.Replica.{Replica}
+use Rattle.wire.specs.Acceptance.{}
 use Rattle.run.specs.Run.{Event, begins-write, begins-read, to-replica, to-client, nextReplica, nextClient, afterAtReplica, afterAtClient, replicaAnswer, clientAnswer, Run, event, replicaAt, clientAt, answerTo}
 use Rattle.base.proofs.Same.{same-equal}
 use Rattle.witness.proofs.Answers.{code}

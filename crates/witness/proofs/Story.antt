@@ -22,7 +22,8 @@ use Rattle.base.specs.declared.timestamp.Timestamp.{Timestamp}
 use Rattle.protocol.specs.Client.{Answer, send, counted, done, ended}
 use Rattle.run.specs.Claims.{GoesOn}
 use Rattle.run.specs.Premises.{Signature, signaturesOf, TrueVerdicts, TrueFor, TrueAt, cardOf, Accepted, CardOfRun}
-use Rattle.run.specs.Run.{Event, begins-write, begins-read, to-replica, to-client, Party, replica, client, partyOf, HasBytes, CorrectIn, Run, event, answerTo, answerAt, At, Sent}
+use Rattle.wire.specs.Acceptance.{Sender, replica, client}
+use Rattle.run.specs.Run.{Event, begins-write, begins-read, to-replica, to-client, partyOf, HasBytes, CorrectIn, Run, event, answerTo, answerAt, At, Sent}
 use Rattle.wire.specs.Decode.{decode}
 use Rattle.wire.specs.Message.{Message, body}
 use Rattle.wire.specs.Sha256.{sha256}
@@ -119,15 +120,15 @@ has-bytes (begins-read id) h = tt
 has-bytes (to-replica id bytes verdicts) h = all-bytes bytes h
 has-bytes (to-client id bytes verdicts) h = all-bytes bytes h
 
-abbrev pub correctIn : (ReplicaId → Bool) → (ClientId → Bool) → Party → Bool
+abbrev pub correctIn : (ReplicaId → Bool) → (ClientId → Bool) → Sender → Bool
 correctIn replicas clients (replica id) = replicas id
 correctIn replicas clients (client id) = clients id
 
-pub correct-in : (replicas : ReplicaId → Bool) (clients : ClientId → Bool) (party : Party) → correctIn replicas clients party ≡ true → CorrectIn replicas clients party
+pub correct-in : (replicas : ReplicaId → Bool) (clients : ClientId → Bool) (party : Sender) → correctIn replicas clients party ≡ true → CorrectIn replicas clients party
 correct-in replicas clients (replica id) h = h
 correct-in replicas clients (client id) h = h
 
-from-correct : (replicas : ReplicaId → Bool) (clients : ClientId → Bool) (party : Party) → CorrectIn replicas clients party → correctIn replicas clients party ≡ true
+from-correct : (replicas : ReplicaId → Bool) (clients : ClientId → Bool) (party : Sender) → CorrectIn replicas clients party → correctIn replicas clients party ≡ true
 from-correct replicas clients (replica id) h = h
 from-correct replicas clients (client id) h = h
 
@@ -166,19 +167,19 @@ module _ (r c : ℕ) (at-most-four : r ≤ 4) (at-most-64 : c ≤ 64) (lines : L
 
 -- ---- Who sent what
 
-abbrev pub sameParty : Party → Party → Bool
+abbrev pub sameParty : Sender → Sender → Bool
 sameParty (replica a) (replica b) = eqb (a .0) (b .0)
 sameParty (replica a) (client b) = false
 sameParty (client a) (replica b) = false
 sameParty (client a) (client b) = eqb (a .0) (b .0)
 
-same-party : (p q : Party) → sameParty p q ≡ true → p ≡ q
+same-party : (p q : Sender) → sameParty p q ≡ true → p ≡ q
 same-party (replica a) (replica b) h = let e = eqb-true (a .0) (b .0) h in λ i. replica (record { 0 = e i })
 same-party (replica a) (client b) h = no-test h
 same-party (client a) (replica b) h = no-test h
 same-party (client a) (client b) h = let e = eqb-true (a .0) (b .0) h in λ i. client (record { 0 = e i })
 
-same-party-self : (p : Party) → sameParty p p ≡ true
+same-party-self : (p : Sender) → sameParty p p ≡ true
 same-party-self (replica a) = eq-eqb (a .0) (a .0) refl
 same-party-self (client a) = eq-eqb (a .0) (a .0) refl
 
@@ -196,23 +197,23 @@ message-sent bytes true (done timestamp card) h = no-test h
 message-sent bytes true ended h = no-test h
 message-sent bytes false answer h = no-test h
 
-abbrev sentIn : Party → List ℕ → Option Line → Bool
+abbrev sentIn : Sender → List ℕ → Option Line → Bool
 sentIn party bytes none = false
 sentIn party bytes (some line) = sends bytes (sameParty (partyOf (line .event)) party) (line .answer)
 
 -- Whether one of the first t lines is the party's and sends these bytes.
-sentBefore : List Line → Party → List ℕ → ℕ → Bool
+sentBefore : List Line → Sender → List ℕ → ℕ → Bool
 sentBefore lines party bytes zero = false
 sentBefore lines party bytes (suc t) = sentIn party bytes (getElem? lines t) || sentBefore lines party bytes t
 
 -- ---- Tests of a told run
 
 -- The party's answers between two events are good.
-abbrev pub goodBetween : (List ℕ → Bool) → Party → ℕ → ℕ → ℕ → Line → Bool
+abbrev pub goodBetween : (List ℕ → Bool) → Sender → ℕ → ℕ → ℕ → Line → Bool
 goodBetween good party begun finished t line =
     leb t begun || (leb finished t || (not (sameParty (partyOf (line .event)) party) || good (code (accepted (line .answer)))))
 
-abbrev pub AllBetween : List Line → (List ℕ → Bool) → Party → ℕ → ℕ → Type 0
+abbrev pub AllBetween : List Line → (List ℕ → Bool) → Sender → ℕ → ℕ → Type 0
 AllBetween lines good party begun finished = each (goodBetween good party begun finished) 0 lines ≡ true
 
 module _ (R : Run) (lines : List Line) where
@@ -266,11 +267,11 @@ module _ (R : Run) (lines : List Line) (told : Told R lines) where
       ap (λ (e : Option Event). code (answerTo R t e)) (event-told t line at)
       ∙ each-at (λ s l. code (answerTo R s (some (l .event))) ≡ code (accepted (l .answer))) t lines line (told .answers) at
 
-  later : {party : Party} {bytes : List ℕ} {t : ℕ} → Sent R party bytes t → Sent R party bytes (suc t)
+  later : {party : Sender} {bytes : List ℕ} {t : ℕ} → Sent R party bytes t → Sent R party bytes (suc t)
   later s =
       record { time = s .time; earlier = omega (arith, s .earlier); by = s .by; message = s .message; answered = s .answered; same-bytes = s .same-bytes }
 
-  sent : (party : Party) (bytes : List ℕ) (t : ℕ) → sentBefore lines party bytes t ≡ true → Sent R party bytes t
+  sent : (party : Sender) (bytes : List ℕ) (t : ℕ) → sentBefore lines party bytes t ≡ true → Sent R party bytes t
   unfolding sentBefore
   sent party bytes zero h = no-test h
   sent party bytes (suc t) h = go (sent party bytes t) (either (sentIn party bytes (getElem? lines t)) (sentBefore lines party bytes t) h)
@@ -344,14 +345,14 @@ module _ (R : Run) (lines : List Line) (told : Told R lines) where
 
   -- ---- Between two events
 
-  between : (good : List ℕ → Bool) (party : Party) (begun finished : ℕ) → AllBetween lines good party begun finished → (t : ℕ) → begun < t → t < finished → At R t party → good (code (answerAt R t)) ≡ true
+  between : (good : List ℕ → Bool) (party : Sender) (begun finished : ℕ) → AllBetween lines good party begun finished → (t : ℕ) → begun < t → t < finished → At R t party → good (code (answerAt R t)) ≡ true
   between good party begun finished all t after before at = ap good (answer-told t (line .0) (line .1)) ∙ tested-here
     where
       line : (line : Line) × (getElem? lines t ≡ some line) × (line .event ≡ at .0)
       line = lineOf lines t (at .0) (sym (ap (λ (es : List Event). getElem? es t) (told .events)) ∙ at .1)
 
       by-party : sameParty (partyOf (line .0 .event)) party ≡ true
-      by-party = ap (λ (e : Event). sameParty (partyOf e) party) (line .2) ∙ ap (λ (p : Party). sameParty p party) (at .2) ∙ same-party-self party
+      by-party = ap (λ (e : Event). sameParty (partyOf e) party) (line .2) ∙ ap (λ (p : Sender). sameParty p party) (at .2) ∙ same-party-self party
 
       tested-here : good (code (accepted (line .0 .answer))) ≡ true
       tested-here =

@@ -2,8 +2,7 @@
 use mathlib.Core.Path.{subst}
 use borrow.Author.Needs.{needs}
 use Rattle.wire.specs.Proof.{PreparedProof}
-use Rattle.protocol.specs.Replica.{replicaAnswers}
-use Rattle.replica.specs.Kinds.{onWrite}
+use Rattle.protocol.specs.Replica.{onWrite, replicaAnswers}
 use Rattle.replica.specs.Stepping.{Leaves}
 use Rattle.replica.proofs.Replies.{proof-parts}
 use Rattle.replica.proofs.kinds.write.Statement.{statement}

@@ -8,7 +8,7 @@ use lib.Dec.{eqb, leb}
 use lib.ListN.{length, getD}
 use Rattle.base.specs.Outcome.{accepted, guard}
 use Rattle.base.proofs.Booleans.{and-true-both}
-use Rattle.wire.specs.Acceptance.{inItsRange}
+use Rattle.wire.specs.Acceptance.{numbered, inItsRange}
 use Rattle.wire.specs.Accepting.{signatureCount}
 use Rattle.wire.specs.Checks.{all}
 use Rattle.wire.specs.Decode.{reading}
@@ -27,7 +27,7 @@ at-places : (c : tie.After-known-told) → Placed (start c .args .bytes .now) (c
 at-places c = placed-reading (start c .args .party) (start c .args .bytes .now) (c .before .fields .given .0 .0) (known c)
 
 -- Test 6 as the code does it.
-ranged : (c : tie.After-in-range) → inItsRange (start (c .before) .args .party) (start (c .before) .args .f) (c .before .before .fields .given .0 .0 .sender) ≡ c .in-range .result
+ranged : (c : tie.After-in-range) → inItsRange (start (c .before) .args .f) (numbered (start (c .before) .args .party) (c .before .before .fields .given .0 .0 .sender)) ≡ c .in-range .result
 ranged c = sym (c .in-range .ensures)
 
 -- Test 7.
