@@ -1,5 +1,6 @@
 // Lines, hex digits and numbers as text, for the programs that test the crates.
 use base::party::within;
+use libc::STDIN_FILENO;
 use libc::STDOUT_FILENO;
 ghost use mathlib.Core.Path.{_≡_};
 ghost use Prim.Native.Nat.{_+_, _<_};
@@ -86,6 +87,20 @@ pub fn print(text: &[u8]) {
 
 pub fn print_number(n: u32) {
     io::print_decimal(STDOUT_FILENO, n as u64);
+}
+
+// A program reads into a buffer of `room` bytes: if the input filled it and goes on, a line says so.
+pub fn say_rest(read: usize, room: usize) {
+    if read < room {
+        return;
+    }
+    let mut next = [0u8; 1];
+    if io::read_full(STDIN_FILENO, &mut next) == 0 {
+        return;
+    }
+    print(b"the input is longer than ");
+    io::print_decimal(STDOUT_FILENO, room as u64);
+    print(b" bytes: the rest was not read\n");
 }
 
 fn capital_digit(n: u8) -> u8
