@@ -62,4 +62,5 @@ fn main() {
     let mut input = io::large_buffer();
     let n = io::read_full(STDIN_FILENO, &mut input);
     answer_lines(&input[..n]);
+    text::say_rest(n, input.len());
 }

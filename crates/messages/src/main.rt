@@ -9,7 +9,8 @@ use wire::card_part::later_card;
 use wire::message::Fields;
 use wire::message::Party;
 use wire::message::Reading;
-ghost use Prim.Native.Nat.{_<_, _≤_};
+ghost use mathlib.Core.Path.{_≡_};
+ghost use Prim.Native.Nat.{_≤_};
 ghost use lib.ListN.{length};
 
 const NONCE: u16 = 0x004;
@@ -40,16 +41,29 @@ fn print_timestamp(timestamp: Timestamp) {
     print_byte(timestamp.client.0);
 }
 
-fn print_kind(kind: u8) {
+fn print_request(kind: u8) {
     match kind {
         1 => text::print(b"READ-STAMP"),
         2 => text::print(b"PREPARE"),
         3 => text::print(b"WRITE"),
-        4 => text::print(b"READ"),
+        _ => text::print(b"READ"),
+    }
+}
+
+fn print_reply(kind: u8) {
+    match kind {
         5 => text::print(b"STAMP"),
         6 => text::print(b"PREPARED"),
         7 => text::print(b"WRITTEN"),
         _ => text::print(b"CARD"),
+    }
+}
+
+fn print_kind(kind: u8) {
+    if kind < 5 {
+        print_request(kind);
+    } else {
+        print_reply(kind);
     }
 }
 
@@ -96,27 +110,53 @@ fn print_numbers(fields: Fields) {
     }
 }
 
+fn print_digest(bytes: &[u8], digest: usize) {
+    text::print(b" digest ");
+    text::print_hex(front(tail(bytes, digest), 32));
+}
+
+fn print_card(bytes: &[u8]) {
+    text::print(b" card ");
+    text::print_hex(wire::card_part::card_part(bytes));
+}
+
+fn print_prepared(bytes: &[u8], prepared: usize) {
+    text::print(b" prepared ");
+    print_proof(tail(bytes, prepared), 37);
+}
+
+fn print_written(bytes: &[u8], written: usize) {
+    text::print(b" written ");
+    print_proof(tail(bytes, written), 5);
+}
+
+fn print_addressed(client: u8) {
+    text::print(b" addressed ");
+    print_byte(client);
+}
+
 fn print_parts(bytes: &[u8], fields: Fields) {
-    if has(fields.map, DIGEST) {
-        text::print(b" digest ");
-        text::print_hex(front(tail(bytes, fields.digest), 32));
+    let map = fields.map;
+    if has(map, DIGEST) {
+        print_digest(bytes, fields.digest);
     }
-    if has(fields.map, CARD) {
-        text::print(b" card ");
-        text::print_hex(wire::card_part::card_part(bytes));
+    if has(map, CARD) {
+        print_card(bytes);
     }
-    if has(fields.map, PREPARED) {
-        text::print(b" prepared ");
-        print_proof(tail(bytes, fields.prepared), 37);
+    if has(map, PREPARED) {
+        print_prepared(bytes, fields.prepared);
     }
-    if has(fields.map, WRITTEN) {
-        text::print(b" written ");
-        print_proof(tail(bytes, fields.written), 5);
+    if has(map, WRITTEN) {
+        print_written(bytes, fields.written);
     }
-    if has(fields.map, ADDRESSED) {
-        text::print(b" addressed ");
-        print_byte(fields.addressed.0);
+    if has(map, ADDRESSED) {
+        print_addressed(fields.addressed.0);
     }
+}
+
+fn print_refusal(number: u8) {
+    text::print(b"refused ");
+    print_byte(number);
 }
 
 fn print_reading(party: Party, bytes: &[u8]) {
@@ -125,12 +165,21 @@ fn print_reading(party: Party, bytes: &[u8]) {
             print_numbers(fields);
             print_parts(bytes, fields);
         }
-        Reading::Refused(number) => {
-            text::print(b"refused ");
-            print_byte(number);
-        }
+        Reading::Refused(number) => print_refusal(number),
     }
     text::print(b"\n");
+}
+
+fn print_judgement(party: Party, f: u8, bytes: &[u8], verdicts: &[u8]) {
+    match wire::acceptance::accept(party, f, bytes, verdicts) {
+        Reading::Message(_) => text::print(b"accepted"),
+        Reading::Refused(number) => print_refusal(number),
+    }
+    text::print(b"\n");
+}
+
+fn unread() {
+    text::print(b"unread\n");
 }
 
 // The bytes have room for more than a message may have.
@@ -140,19 +189,8 @@ fn answer(party: Party, digits: &[u8]) {
     if digits.len() == 2 * n {
         print_reading(party, &bytes[..n]);
     } else {
-        text::print(b"unread\n");
+        unread();
     }
-}
-
-fn print_judgement(party: Party, f: u8, bytes: &[u8], verdicts: &[u8]) {
-    match wire::acceptance::accept(party, f, bytes, verdicts) {
-        Reading::Message(_) => text::print(b"accepted"),
-        Reading::Refused(number) => {
-            text::print(b"refused ");
-            print_byte(number);
-        }
-    }
-    text::print(b"\n");
 }
 
 // Where the first space stands, or the end.
@@ -169,70 +207,81 @@ fn space(line: &[u8]) -> usize
     at
 }
 
-// A message and its verdicts, both in hex, a space between them.
-fn judge(party: Party, f: u8, digits: &[u8]) {
-    let end = space(digits);
-    if digits.len() <= end {
-        text::print(b"unread\n");
-        return;
-    }
-    let behind = end + 1;
-    let mut bytes = [0u8; 4096];
-    let n = text::read_hex(&digits[0..end], &mut bytes);
-    let marks = &digits[behind..];
+fn judge_by(party: Party, f: u8, bytes: &[u8], digits: &[u8]) {
     let mut verdicts = [0u8; 64];
-    let k = text::read_hex(marks, &mut verdicts);
-    if end != 2 * n {
-        text::print(b"unread\n");
-        return;
+    let n = text::read_hex(digits, &mut verdicts);
+    if digits.len() == 2 * n {
+        print_judgement(party, f, bytes, &verdicts[..n]);
+    } else {
+        unread();
     }
-    if marks.len() != 2 * k {
-        text::print(b"unread\n");
-        return;
+}
+
+fn judge(party: Party, f: u8, message: &[u8], verdicts: &[u8]) {
+    let mut bytes = [0u8; 4096];
+    let n = text::read_hex(message, &mut bytes);
+    if message.len() == 2 * n {
+        judge_by(party, f, &bytes[..n], verdicts);
+    } else {
+        unread();
     }
-    print_judgement(party, f, &bytes[..n], &verdicts[..k]);
+}
+
+// A message and its verdicts, both in hex, a space between them.
+fn judge_words(party: Party, f: u8, words: &[u8]) {
+    let end = space(words);
+    if end < words.len() {
+        let behind = end + 1;
+        judge(party, f, &words[0..end], &words[behind..]);
+    } else {
+        unread();
+    }
+}
+
+fn print_later_of(first: &[u8], digits: &[u8]) {
+    let mut second = [0u8; 2048];
+    let n = text::read_hex(digits, &mut second);
+    text::print(b"later card ");
+    text::print_hex(later_card(first, &second[..n]));
+    text::print(b"\n");
 }
 
 // The later card of two messages, both in hex, a space between them.
-fn print_later(digits: &[u8]) {
-    let end = space(digits);
-    if digits.len() <= end {
-        text::print(b"unread\n");
-        return;
+fn print_later(words: &[u8]) {
+    let end = space(words);
+    if end < words.len() {
+        let behind = end + 1;
+        let mut first = [0u8; 2048];
+        let n = text::read_hex(&words[0..end], &mut first);
+        print_later_of(&first[..n], &words[behind..]);
+    } else {
+        unread();
     }
-    let behind = end + 1;
-    let mut first = [0u8; 2048];
-    let n = text::read_hex(&digits[0..end], &mut first);
-    let mut second = [0u8; 2048];
-    let m = text::read_hex(&digits[behind..], &mut second);
-    text::print(b"later card ");
-    text::print_hex(later_card(&first[..n], &second[..m]));
-    text::print(b"\n");
 }
 
 fn judge_line(line: &[u8]) {
     if line.len() < 3 {
-        text::print(b"unread\n");
+        unread();
         return;
     }
     let Digit::Value(f) = text::hex_value(line[1]) else {
-        text::print(b"unread\n");
+        unread();
         return;
     };
     if line[2] != b' ' {
-        text::print(b"unread\n");
+        unread();
         return;
     }
     match line[0] {
-        b'h' => judge(Party::Replica, f, &line[3..]),
-        b'd' => judge(Party::Client, f, &line[3..]),
-        _ => text::print(b"unread\n"),
+        b'h' => judge_words(Party::Replica, f, &line[3..]),
+        b'd' => judge_words(Party::Client, f, &line[3..]),
+        _ => unread(),
     }
 }
 
 fn answer_line(line: &[u8]) {
     if line.len() < 2 {
-        text::print(b"unread\n");
+        unread();
         return;
     }
     if line[1] != b' ' {
@@ -243,7 +292,7 @@ fn answer_line(line: &[u8]) {
         b'h' => answer(Party::Replica, &line[2..]),
         b'd' => answer(Party::Client, &line[2..]),
         b'l' => print_later(&line[2..]),
-        _ => text::print(b"unread\n"),
+        _ => unread(),
     }
 }
 
@@ -256,8 +305,16 @@ fn answer_lines(input: &[u8]) {
     }
 }
 
+// A function of its own, so that no other's proof has to unfold so long an array.
+fn room() -> [u8; 262144]
+    ensures { λ r. ⌜ 262144 ≡ length r ⌝ }
+{
+    [0u8; 262144]
+}
+
 fn main() {
-    let mut input = [0u8; 262144];
+    let mut input = room();
     let n = io::read_full(STDIN_FILENO, &mut input);
     answer_lines(&input[..n]);
+    text::say_rest(n, input.len());
 }
