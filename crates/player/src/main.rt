@@ -2,6 +2,9 @@
 use libc::STDIN_FILENO;
 use libc::STDOUT_FILENO;
 use play::output::Text;
+use play::world::World;
+ghost use mathlib.Core.Path.{_≡_};
+ghost use lib.ListN.{length};
 
 // How much of the input was kept: bytes, bytes of the last line, whole lines.
 struct Kept {
@@ -89,6 +92,14 @@ fn read_script(script: &mut [u8]) -> usize {
     kept.length
 }
 
+// Plays the line of this number, and prints what it says.
+fn play_line(world: World, number: u8, line: &[u8], store: &mut [u8]) -> World {
+    let turned = play::turn::play_line(world, number, line, store);
+    let text = turned.text;
+    print(text);
+    turned.world
+}
+
 fn play(script: &[u8], store: &mut [u8]) {
     let mut world = play::world::fresh();
     let mut number: u8 = 0;
@@ -100,18 +111,22 @@ fn play(script: &[u8], store: &mut [u8]) {
         }
         number += 1;
         let end = text::line_end(script, from);
-        let turned = play::turn::play_line(world, number, &script[from..end], store);
-        let text = turned.text;
-        print(text);
-        world = turned.world;
+        world = play_line(world, number, &script[from..end], store);
         from = end + 1;
     }
+}
+
+// Room for 100 messages, in a function of its own, so that no other's proof has to unfold so long an array.
+fn store() -> [u8; 157_900]
+    ensures { λ r. ⌜ 157900 ≡ length r ⌝ }
+{
+    [0u8; 157_900]
 }
 
 fn main() {
     io::write_all(STDOUT_FILENO, b"holders 4 desks 4\n");
     let mut script = [0u8; 4_000];
     let n = read_script(&mut script);
-    let mut store = [0u8; 157_900];
-    play(front(&script, n), &mut store);
+    let mut sent = store();
+    play(front(&script, n), &mut sent);
 }

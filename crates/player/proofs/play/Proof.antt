@@ -43,9 +43,6 @@ part-play-line-end c = search needs
 play-line-requires : tie.Need-play-line-requires Inv-loop μ-loop
 play-line-requires c κs = search needs
 
-print-requires : tie.Need-print-requires Inv-loop μ-loop
-print-requires c κs = search needs
-
 add-from : tie.Need-add-from Inv-loop μ-loop
 add-from c = search needs
 
@@ -77,7 +74,6 @@ play-spec =
     part-play-line-start
     part-play-line-end
     play-line-requires
-    print-requires
     add-from
     loop-less
     loop-again

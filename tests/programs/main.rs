@@ -1,0 +1,105 @@
+//! Compares the programs `cards`, `messages` and `player` with the model, on random input.
+//!
+//! `programs DIRECTORY [SEED]`: DIRECTORY has the programs. Built by
+//! `rustc -O --edition 2021 tests/programs/main.rs -o target/programs`.
+#[path = "../card.rs"]
+mod card;
+mod cards;
+#[path = "../client.rs"]
+mod client;
+#[path = "../message.rs"]
+mod message;
+mod messages;
+mod odd;
+#[path = "../../bench/plain_sha256.rs"]
+mod plain_sha256;
+mod player;
+mod plays;
+mod program;
+#[path = "../random.rs"]
+#[allow(dead_code)] // the other comparisons use more of it
+mod random;
+#[path = "../replica.rs"]
+mod replica;
+mod tally;
+
+use program::{Failure, Program};
+use random::Random;
+use std::process::ExitCode;
+use std::time::{SystemTime, UNIX_EPOCH};
+use tally::Tally;
+
+/// Compares one program on input of its own, and counts what occurred.
+struct Comparison {
+    name: &'static str,
+    run: fn(&Program, &mut Random, &mut Tally) -> Result<(), Failure>,
+    /// How often what must occur at least, for the comparison to mean something.
+    floors: &'static [(&'static str, usize)],
+}
+
+const COMPARISONS: [Comparison; 3] = [
+    Comparison {
+        name: "cards",
+        run: cards::compare,
+        floors: &cards::FLOORS,
+    },
+    Comparison {
+        name: "messages",
+        run: messages::compare,
+        floors: &messages::FLOORS,
+    },
+    Comparison {
+        name: "player",
+        run: plays::compare,
+        floors: &plays::FLOORS,
+    },
+];
+
+impl Comparison {
+    fn passes(&self, directory: &str, seed: u64) -> bool {
+        let program = Program::new(directory, self.name);
+        let mut tally = Tally::default();
+        println!("{}, seed {seed}", self.name);
+        if let Err(failure) = (self.run)(&program, &mut Random::new(seed), &mut tally) {
+            println!("{failure}");
+            return false;
+        }
+        println!("{tally}");
+        let shortfalls = tally.shortfalls(self.floors);
+        for shortfall in &shortfalls {
+            println!("too seldom: {shortfall}");
+        }
+        shortfalls.is_empty()
+    }
+}
+
+fn clock() -> u64 {
+    SystemTime::now()
+        .duration_since(UNIX_EPOCH)
+        .map_or(1, |since| since.as_secs())
+}
+
+fn main() -> ExitCode {
+    let words: Vec<String> = std::env::args().skip(1).collect();
+    let (directory, seed) = match &words[..] {
+        [directory] => (directory, Some(clock())),
+        [directory, seed] => (directory, seed.parse().ok()),
+        _ => {
+            eprintln!("programs DIRECTORY [SEED]");
+            return ExitCode::from(2);
+        }
+    };
+    let Some(seed) = seed else {
+        eprintln!("programs: the seed is a number");
+        return ExitCode::from(2);
+    };
+    let passed = COMPARISONS
+        .iter()
+        .filter(|comparison| comparison.passes(directory, seed))
+        .count();
+    if passed < COMPARISONS.len() {
+        return ExitCode::FAILURE;
+    }
+    println!("cards, messages and player compared, seed {seed}: all equal");
+    ExitCode::SUCCESS
+}
