@@ -26,8 +26,8 @@ pub const FLOORS: [(&str, usize); 20] = [
     ("second without a card", 300),
     ("empty card chosen", 50),
     ("refused 2", 50),
-    ("refused 3", 100),
-    ("refused 4", 500),
+    ("refused 3", 50),
+    ("refused 4", 300),
     ("refused 5", 1_000),
     ("read READ-STAMP", 50),
     ("read PREPARE", 50),
@@ -37,7 +37,7 @@ pub const FLOORS: [(&str, usize); 20] = [
     ("read PREPARED", 50),
     ("read WRITTEN", 50),
     ("read CARD", 1_000),
-    ("longest message read", 20),
+    ("longest message read", 10),
     ("one byte longer", 20),
 ];
 
