@@ -5,6 +5,7 @@ use crate::player::{printed, Player, Said, MOST_LINES, PARTIES};
 use crate::program::{hex, Failure, Program};
 use crate::random::Random;
 use crate::tally::Tally;
+use std::collections::BTreeMap;
 
 const SCRIPTS: usize = 2_000;
 
@@ -97,8 +98,8 @@ struct Writer {
     active: u8,
     /// What each client has begun and not finished.
     begun: [Option<Operation>; PARTIES as usize],
-    /// The client of whose operation each message is part, by number from 1.
-    clients: Vec<u8>,
+    /// The client of whose operation a message is part.
+    clients: BTreeMap<usize, u8>,
     under_way: Vec<Delivery>,
     arrived: Vec<Delivery>,
 }
@@ -110,7 +111,7 @@ impl Writer {
             input: Vec::new(),
             active: 1 + random.below(PARTIES.into()) as u8,
             begun: [None; PARTIES as usize],
-            clients: Vec::new(),
+            clients: BTreeMap::new(),
             under_way: Vec::new(),
             arrived: Vec::new(),
         }
@@ -189,14 +190,15 @@ impl Writer {
     /// What is still under way for a client that needs no more of it: most of that is lost.
     fn lose(&mut self, random: &mut Random, client: u8) {
         let clients = &self.clients;
-        self.under_way
-            .retain(|delivery| clients[delivery.message - 1] != client || random.percent(30));
+        self.under_way.retain(|delivery| {
+            clients.get(&delivery.message) != Some(&client) || random.percent(30)
+        });
     }
 
     /// A request goes to all replicas, in any order; some are lost.
     fn request(&mut self, random: &mut Random, client: u8, message: usize) {
         self.lose(random, client);
-        self.clients.push(client);
+        self.clients.insert(message, client);
         let mut ids: Vec<u8> = (1..=PARTIES).collect();
         while !ids.is_empty() {
             let to = Party::Replica(ids.swap_remove(random.below(ids.len())));
@@ -207,8 +209,10 @@ impl Writer {
     }
 
     fn reply(&mut self, random: &mut Random, request: usize, message: usize) {
-        let client = self.clients[request - 1];
-        self.clients.push(client);
+        let Some(&client) = self.clients.get(&request) else {
+            return;
+        };
+        self.clients.insert(message, client);
         let to = Party::Client(client);
         if !random.percent(3) {
             self.under_way.push(Delivery { to, message });
@@ -225,10 +229,7 @@ impl Writer {
             (Step::Deliver(Delivery { to, message }), said) => {
                 self.arrived(random, to, message, said, tally);
             }
-            (Step::Odd(name, _), said) => {
-                assert!(!matches!(said, Said::Sent(_)), "an odd line sent a message");
-                tally.count(name);
-            }
+            (Step::Odd(name, _), _) => tally.count(name),
             _ => {}
         }
     }
@@ -250,8 +251,9 @@ impl Writer {
                 self.request(random, client, request);
             }
             (Party::Client(client), Said::Done(..)) => {
-                let operation = self.begun(client).take().expect("what was done was begun");
-                tally.count(format!("done: {}", operation.name()));
+                if let Some(operation) = self.begun(client).take() {
+                    tally.count(format!("done: {}", operation.name()));
+                }
                 self.lose(random, client);
             }
             (_, Said::Unread) => tally.count("unsent message"),
@@ -320,6 +322,13 @@ fn count_printed(line: &str, tally: &mut Tally) {
     }
 }
 
+/// The first lines of a script, to be read and played again.
+fn up_to(input: &[u8], lines: usize) -> String {
+    let lines = input.split(|&byte| byte == b'\n').take(lines);
+    let shown: Vec<String> = lines.map(|line| line.escape_ascii().to_string()).collect();
+    shown.join("\n")
+}
+
 pub fn compare(program: &Program, random: &mut Random, tally: &mut Tally) -> Result<(), Failure> {
     for _ in 0..SCRIPTS {
         let input = script(random, tally);
@@ -327,7 +336,9 @@ pub fn compare(program: &Program, random: &mut Random, tally: &mut Tally) -> Res
         for line in &expected[1..] {
             count_printed(line, tally);
         }
-        program.must_print(&input, &expected, 1)?;
+        if let Some(difference) = program.difference(&input, &expected)? {
+            return Err(Failure::Differs(up_to(&input, difference.at), difference));
+        }
     }
     Ok(())
 }

@@ -13,36 +13,31 @@ pub struct Line {
     pub expected: String,
 }
 
-impl Line {
-    fn size(&self) -> usize {
-        self.text.len() + 1
-    }
+/// The first printed line, counted from 0, at which a program and the model part.
+pub struct Difference {
+    pub at: usize,
+    program: String,
+    expected: String,
+    given: String,
 }
 
 pub enum Failure {
-    Difference {
-        program: String,
-        input: Vec<u8>,
-        expected: String,
-        given: String,
-    },
+    Differs(String, Difference),
     NotRun(String),
 }
 
 impl fmt::Display for Failure {
     fn fmt(&self, to: &mut fmt::Formatter) -> fmt::Result {
         match self {
-            Failure::Difference {
-                program,
-                input,
-                expected,
-                given,
-            } => {
-                let input = input.escape_ascii().to_string().replace("\\n", "\n");
-                write!(
-                    to,
-                    "A difference. Input:\n{input}\nThe last line must print\n{expected}\nbut {program} prints\n{given}"
-                )
+            Failure::Differs(input, difference) => {
+                let Difference {
+                    program,
+                    expected,
+                    given,
+                    ..
+                } = difference;
+                writeln!(to, "A difference. The last line of\n{input}\nmust print")?;
+                write!(to, "{expected}\nbut {program} prints\n{given}")
             }
             Failure::NotRun(error) => write!(to, "{error}"),
         }
@@ -52,6 +47,13 @@ impl fmt::Display for Failure {
 /// Capital hex.
 pub fn hex(bytes: &[u8]) -> String {
     bytes.iter().map(|byte| format!("{byte:02X}")).collect()
+}
+
+fn line_at(text: &str, at: usize) -> String {
+    let line = text.split_inclusive('\n').nth(at);
+    line.map_or("(no line)".to_string(), |line| {
+        line.escape_debug().to_string()
+    })
 }
 
 impl Program {
@@ -79,64 +81,60 @@ impl Program {
         Ok(printed)
     }
 
-    /// Runs the program on an input for which it must print these lines. `before` of them stand before the first line's.
-    pub fn must_print(
+    /// Runs the program on an input for which it must print these lines.
+    pub fn difference(
         &self,
         input: &[u8],
         expected: &[String],
-        before: usize,
-    ) -> Result<(), Failure> {
+    ) -> Result<Option<Difference>, Failure> {
         let given = self
             .run(input)
             .map_err(|error| Failure::NotRun(format!("{}: {error}", self.path)))?;
-        let wanted: String = expected
-            .iter()
-            .flat_map(|line| [line.as_str(), "\n"])
-            .collect();
-        if wanted == given {
-            return Ok(());
+        let lines = expected.iter().flat_map(|line| [line.as_str(), "\n"]);
+        let expected: String = lines.collect();
+        if expected == given {
+            return Ok(None);
         }
-        let same = wanted
+        let at = expected
             .split_inclusive('\n')
             .zip(given.split_inclusive('\n'))
-            .take_while(|(wanted, given)| wanted == given)
+            .take_while(|(expected, given)| expected == given)
             .count();
-        let line_of = |text: &str| {
-            text.split('\n')
-                .nth(same)
-                .unwrap_or("(no line)")
-                .to_string()
-        };
-        let lines = input.split_inclusive(|&byte| byte == b'\n');
-        Err(Failure::Difference {
+        Ok(Some(Difference {
+            at,
             program: self.path.clone(),
-            input: lines
-                .take((same + 1).saturating_sub(before))
-                .flatten()
-                .copied()
-                .collect(),
-            expected: line_of(&wanted),
-            given: line_of(&given),
-        })
+            expected: line_at(&expected, at),
+            given: line_at(&given, at),
+        }))
     }
 
-    /// Runs the program on the lines, as many at a time as it has room for.
+    /// Runs the program on lines of which none changes what another prints.
+    fn must_answer_at_once(&self, lines: &[Line]) -> Result<(), Failure> {
+        let mut input = Vec::new();
+        for line in lines {
+            input.extend(&line.text);
+            input.push(b'\n');
+        }
+        let expected: Vec<String> = lines.iter().map(|line| line.expected.clone()).collect();
+        let Some(difference) = self.difference(&input, &expected)? else {
+            return Ok(());
+        };
+        let line = lines.get(difference.at).map_or(&[][..], |line| &line.text);
+        let shown = line.escape_ascii().to_string();
+        Err(Failure::Differs(shown, difference))
+    }
+
+    /// The same, as many lines at a time as it has room for.
     pub fn must_answer(&self, lines: &[Line], room: usize) -> Result<(), Failure> {
         let mut rest = lines;
         while !rest.is_empty() {
             let mut size = 0;
             let fitting = rest.iter().take_while(|line| {
-                size += line.size();
+                size += line.text.len() + 1;
                 size <= room
             });
-            let (batch, later) = rest.split_at(fitting.count().max(1));
-            let mut input = Vec::new();
-            for line in batch {
-                input.extend(&line.text);
-                input.push(b'\n');
-            }
-            let expected: Vec<String> = batch.iter().map(|line| line.expected.clone()).collect();
-            self.must_print(&input, &expected, 0)?;
+            let (now, later) = rest.split_at(fitting.count().max(1));
+            self.must_answer_at_once(now)?;
             rest = later;
         }
         Ok(())
@@ -144,14 +142,15 @@ impl Program {
 
     /// An input that fills the room is read whole; of a longer one the program says so.
     pub fn must_say_rest(&self, room: usize) -> Result<(), Failure> {
-        let mut input = vec![b'x'; room - 1];
-        input.push(b'\n');
-        let mut expected = vec!["unread".to_string()];
-        self.must_print(&input, &expected, 0)?;
-        input.push(b'\n');
-        expected.push(format!(
-            "the input is longer than {room} bytes: the rest was not read"
-        ));
-        self.must_print(&input, &expected, 0)
+        let line = Line {
+            text: vec![b'x'; room - 1],
+            expected: "unread".to_string(),
+        };
+        let rest = Line {
+            text: Vec::new(),
+            expected: format!("the input is longer than {room} bytes: the rest was not read"),
+        };
+        self.must_answer_at_once(std::slice::from_ref(&line))?;
+        self.must_answer_at_once(&[line, rest])
     }
 }
