@@ -281,7 +281,7 @@ fn lines(random: &mut Random) -> usize {
     }
 }
 
-/// A script; the lines behind the 100th are odd or valid like the others, but nothing plays them.
+/// A script. The lines behind the 100th are like the others, and must not be played.
 fn script(random: &mut Random, tally: &mut Tally) -> Vec<u8> {
     let lines = lines(random);
     let mut writer = Writer::new(random);

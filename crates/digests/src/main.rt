@@ -18,16 +18,20 @@ fn write_hex(bytes: &[u8; 32]) {
     io::write_all(STDOUT_FILENO, &line);
 }
 
-fn show(label: &[u8], message: &[u8]) {
+fn show_digest(message: &[u8]) {
     let digest = wire::sha256::sha256(message);
     let bytes = digest.bytes;
-    io::write_all(STDOUT_FILENO, label);
     if digest.fits {
         io::write_all(STDOUT_FILENO, b": ");
     } else {
         io::write_all(STDOUT_FILENO, b": too long ");
     }
     write_hex(&bytes);
+}
+
+fn show(label: &[u8], message: &[u8]) {
+    io::write_all(STDOUT_FILENO, label);
+    show_digest(message);
 }
 
 fn show_vectors() {
@@ -55,28 +59,29 @@ fn fill(pattern: &mut [u8]) {
 }
 
 // The pattern's first `length` bytes.
-fn show_front(label: &[u8], pattern: &[u8], length: usize) {
+fn show_front(pattern: &[u8], length: usize) {
     if length <= pattern.len() {
-        show(label, &pattern[0..length]);
+        io::print_decimal(STDOUT_FILENO, length as u64);
+        show_digest(&pattern[0..length]);
     }
 }
 
 fn show_lengths(pattern: &[u8]) {
-    show_front(b"0", pattern, 0);
-    show_front(b"1", pattern, 1);
-    show_front(b"55", pattern, 55);
-    show_front(b"56", pattern, 56);
-    show_front(b"57", pattern, 57);
-    show_front(b"63", pattern, 63);
-    show_front(b"64", pattern, 64);
-    show_front(b"65", pattern, 65);
-    show_front(b"119", pattern, 119);
-    show_front(b"120", pattern, 120);
-    show_front(b"127", pattern, 127);
-    show_front(b"128", pattern, 128);
-    show_front(b"4095", pattern, 4095);
-    show_front(b"4096", pattern, 4096);
-    show_front(b"4097", pattern, 4097);
+    show_front(pattern, 0);
+    show_front(pattern, 1);
+    show_front(pattern, 55);
+    show_front(pattern, 56);
+    show_front(pattern, 57);
+    show_front(pattern, 63);
+    show_front(pattern, 64);
+    show_front(pattern, 65);
+    show_front(pattern, 119);
+    show_front(pattern, 120);
+    show_front(pattern, 127);
+    show_front(pattern, 128);
+    show_front(pattern, 4095);
+    show_front(pattern, 4096);
+    show_front(pattern, 4097);
 }
 
 fn main() {

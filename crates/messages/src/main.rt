@@ -27,8 +27,13 @@ const WRITTEN: u16 = 0x080;
 
 const ADDRESSED: u16 = 0x100;
 
-fn has(map: u16, mask: u16) -> bool {
-    map & mask != 0
+// Prints the name of a field that is there.
+fn print_name(map: u16, mask: u16, name: &[u8]) -> bool {
+    if map & mask == 0 {
+        return false;
+    }
+    text::print(name);
+    true
 }
 
 fn print_byte(byte: u8) {
@@ -41,29 +46,16 @@ fn print_timestamp(timestamp: Timestamp) {
     print_byte(timestamp.client.0);
 }
 
-fn print_request(kind: u8) {
+fn print_kind(kind: u8) {
     match kind {
         1 => text::print(b"READ-STAMP"),
         2 => text::print(b"PREPARE"),
         3 => text::print(b"WRITE"),
-        _ => text::print(b"READ"),
-    }
-}
-
-fn print_reply(kind: u8) {
-    match kind {
+        4 => text::print(b"READ"),
         5 => text::print(b"STAMP"),
         6 => text::print(b"PREPARED"),
         7 => text::print(b"WRITTEN"),
         _ => text::print(b"CARD"),
-    }
-}
-
-fn print_kind(kind: u8) {
-    if kind < 5 {
-        print_request(kind);
-    } else {
-        print_reply(kind);
     }
 }
 
@@ -96,61 +88,35 @@ fn print_proof(proof: &[u8], number: usize) {
 }
 
 fn print_numbers(fields: Fields) {
+    let map = fields.map;
     print_kind(fields.kind);
     text::print(b" sender ");
     print_byte(fields.sender);
-    if has(fields.map, NONCE) {
-        text::print(b" nonce ");
+    if print_name(map, NONCE, b" nonce ") {
         io::print_decimal(STDOUT_FILENO, fields.nonce);
     }
-    if has(fields.map, TIMESTAMP) {
-        text::print(b" timestamp ");
+    if print_name(map, TIMESTAMP, b" timestamp ") {
         let timestamp = fields.timestamp;
         print_timestamp(timestamp);
     }
 }
 
-fn print_digest(bytes: &[u8], digest: usize) {
-    text::print(b" digest ");
-    text::print_hex(front(tail(bytes, digest), 32));
-}
-
-fn print_card(bytes: &[u8]) {
-    text::print(b" card ");
-    text::print_hex(wire::card_part::card_part(bytes));
-}
-
-fn print_prepared(bytes: &[u8], prepared: usize) {
-    text::print(b" prepared ");
-    print_proof(tail(bytes, prepared), 37);
-}
-
-fn print_written(bytes: &[u8], written: usize) {
-    text::print(b" written ");
-    print_proof(tail(bytes, written), 5);
-}
-
-fn print_addressed(client: u8) {
-    text::print(b" addressed ");
-    print_byte(client);
-}
-
 fn print_parts(bytes: &[u8], fields: Fields) {
     let map = fields.map;
-    if has(map, DIGEST) {
-        print_digest(bytes, fields.digest);
+    if print_name(map, DIGEST, b" digest ") {
+        text::print_hex(front(tail(bytes, fields.digest), 32));
     }
-    if has(map, CARD) {
-        print_card(bytes);
+    if print_name(map, CARD, b" card ") {
+        text::print_hex(wire::card_part::card_part(bytes));
     }
-    if has(map, PREPARED) {
-        print_prepared(bytes, fields.prepared);
+    if print_name(map, PREPARED, b" prepared ") {
+        print_proof(tail(bytes, fields.prepared), 37);
     }
-    if has(map, WRITTEN) {
-        print_written(bytes, fields.written);
+    if print_name(map, WRITTEN, b" written ") {
+        print_proof(tail(bytes, fields.written), 5);
     }
-    if has(map, ADDRESSED) {
-        print_addressed(fields.addressed.0);
+    if print_name(map, ADDRESSED, b" addressed ") {
+        print_byte(fields.addressed.0);
     }
 }
 
