@@ -1,4 +1,5 @@
 // The parties: replicas and clients, how many there are, and how many make a quorum.
+use crate::refusal::SET_UP;
 ghost use mathlib.Core.Path.{_≡_};
 ghost use Prim.Native.Nat.{min};
 ghost use Rattle.base.specs.Range.{within};
@@ -21,8 +22,6 @@ pub enum Setup {
 const LARGEST_FAULT_BOUND: u8 = 5;
 
 const CLIENTS: u8 = 64;
-
-const OUT_OF_RANGE: u8 = 16;
 
 // The fault bound that counts: no larger than the largest.
 fn bounded(f: u8) -> u8
@@ -81,10 +80,10 @@ pub fn replica_setup(f: u8, id: ReplicaId) -> Setup
     ensures { λ r. ⌜ setupOutcome r ≡ replicaSetup f id ⌝ }
 {
     if !is_fault_bound(f) {
-        return Setup::Refused(OUT_OF_RANGE);
+        return Setup::Refused(SET_UP);
     }
     if !is_replica(f, id) {
-        return Setup::Refused(OUT_OF_RANGE);
+        return Setup::Refused(SET_UP);
     }
     Setup::Good
 }
@@ -94,13 +93,13 @@ pub fn client_setup(f: u8, id: ClientId, first_nonce: u64) -> Setup
     ensures { λ r. ⌜ setupOutcome r ≡ clientSetup f id «first_nonce» ⌝ }
 {
     if !is_fault_bound(f) {
-        return Setup::Refused(OUT_OF_RANGE);
+        return Setup::Refused(SET_UP);
     }
     if !is_client(id) {
-        return Setup::Refused(OUT_OF_RANGE);
+        return Setup::Refused(SET_UP);
     }
     if first_nonce == 0 {
-        return Setup::Refused(OUT_OF_RANGE);
+        return Setup::Refused(SET_UP);
     }
     Setup::Good
 }

@@ -6,14 +6,13 @@ use base::timestamp::Timestamp;
 use protocol::client::Client;
 use protocol::client::ClientAnswer;
 use protocol::client::Phase;
+use wire::layout::LONGEST_CARD;
 use wire::writer::Encoded;
 ghost use mathlib.Core.Path.{_≡_};
 ghost use Prim.Native.Nat.{min};
 ghost use Rattle.wire.specs.Sha256.{sha256};
 ghost use Rattle.protocol.specs.Client.{currentCard, withPhase};
 ghost use Rattle.client.specs.Stepping.{plain, doneWith, sentAs};
-
-const LONGEST_CARD: u8 = 17;
 
 // An answer with no card beside it.
 pub(super) fn plain(answer: ClientAnswer, client: Client) -> Stepped

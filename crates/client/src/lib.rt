@@ -13,26 +13,21 @@ mod written;
 use answers::refused;
 use base::party::ClientId;
 use base::party::Setup;
+use base::refusal::BAD_CARD;
+use base::refusal::BUSY;
+use base::refusal::OUTPUT_TOO_SHORT;
 use base::timestamp::Timestamp;
 use protocol::client::Client;
 use protocol::client::ClientAnswer;
 use protocol::client::Phase;
 use wire::card::CardCheck;
+use wire::layout::LONGEST_MESSAGE;
 use wire::message::Party;
 use wire::message::Reading;
 ghost use mathlib.Core.Path.{_≡_};
 ghost use Rattle.protocol.specs.Client.{idleClient, beginWrite, beginRead, clientStep, beginWriteCall, beginReadCall, clientCall};
 ghost use Rattle.protocol.specs.Replica.{withOutput};
 ghost use Rattle.client.specs.Stepping.{Made, Calls};
-
-// The longest message.
-const LONGEST: usize = 1_579;
-
-const TOO_SHORT: u8 = 1;
-
-const BAD_CARD: u8 = 14;
-
-const BUSY: u8 = 17;
 
 // A client that is set up; a record of no client where it is refused.
 pub struct NewClient {
@@ -89,8 +84,8 @@ pub fn fresh(f: u8, id: ClientId, first_nonce: u64) -> NewClient
 pub fn begin_write(client: Client, card: &[u8], out: &mut [u8]) -> Stepped
     ensures { λ r. ⌜ Calls (beginWriteCall client (now (card .entry)) (now (out .entry))) (withOutput (now (out .entry)) (beginWrite client (now (card .entry)))) r (now (out .exit)) ⌝ }
 {
-    if out.len() < LONGEST {
-        return refused(TOO_SHORT, client);
+    if out.len() < LONGEST_MESSAGE {
+        return refused(OUTPUT_TOO_SHORT, client);
     }
     let CardCheck::Good = wire::card::check(card) else {
         return refused(BAD_CARD, client);
@@ -105,8 +100,8 @@ pub fn begin_write(client: Client, card: &[u8], out: &mut [u8]) -> Stepped
 pub fn begin_read(client: Client, out: &mut [u8]) -> Stepped
     ensures { λ r. ⌜ Calls (beginReadCall client (now (out .entry))) (withOutput (now (out .entry)) (beginRead client)) r (now (out .exit)) ⌝ }
 {
-    if out.len() < LONGEST {
-        return refused(TOO_SHORT, client);
+    if out.len() < LONGEST_MESSAGE {
+        return refused(OUTPUT_TOO_SHORT, client);
     }
     if !begin::may_begin(client) {
         return refused(BUSY, client);
@@ -119,8 +114,8 @@ pub fn step(client: Client, message: &[u8], verdicts: &[u8], out: &mut [u8]) -> 
     ensures { λ r. ⌜ Calls (clientCall client (now (message .entry)) (now (verdicts .entry)) (now (out .entry)))
         (withOutput (now (out .entry)) (clientStep client (now (message .entry)) (now (verdicts .entry)))) r (now (out .exit)) ⌝ }
 {
-    if out.len() < LONGEST {
-        return refused(TOO_SHORT, client);
+    if out.len() < LONGEST_MESSAGE {
+        return refused(OUTPUT_TOO_SHORT, client);
     }
     match wire::acceptance::accept(Party::Client, client.f, message, verdicts) {
         Reading::Message(fields) => messages::take(client, message, fields, out),

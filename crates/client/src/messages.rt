@@ -7,6 +7,7 @@ use crate::write::on_prepared;
 use crate::write::on_stamp;
 use crate::written::on_written;
 use base::party::ReplicaId;
+use base::refusal::BAD_CARD;
 use protocol::client::Client;
 use wire::message::Fields;
 ghost use mathlib.Core.Path.{_≡_};
@@ -17,8 +18,6 @@ ghost use Rattle.wire.specs.Message.{longest};
 ghost use Rattle.protocol.specs.Client.{clientAnswers};
 ghost use Rattle.client.specs.Messages.{Passing, afterTests};
 ghost use Rattle.client.specs.Stepping.{callOf};
-
-const BAD_CARD: u8 = 14;
 
 fn take_stamp(client: Client, message: &[u8], fields: Fields, out: &mut [u8]) -> Stepped
     requires { ⌜ (longest ≤ length (now out)) × Passing (now message) fields × (fields .kind ≡ 5) ⌝ }

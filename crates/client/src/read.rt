@@ -11,6 +11,7 @@ use crate::replies::keep_better_card;
 use crate::replies::showed_by;
 use base::party::ClientId;
 use base::party::ReplicaId;
+use base::refusal::NOT_AWAITED;
 use base::replica_set::ReplicaSet;
 use base::timestamp::Timestamp;
 use protocol::client::Client;
@@ -23,8 +24,6 @@ ghost use Rattle.wire.specs.Message.{longest, WRITE};
 ghost use Rattle.protocol.specs.Client.{clientAnswers, currentCard, bestProof, withPhase, turn, send, afterCard, onCard, afterWriteBack};
 ghost use Rattle.client.specs.Arrays.{proofIn, IfProof};
 ghost use Rattle.client.specs.Stepping.{callOf, Takes, TakesAny};
-
-const NOT_AWAITED: u8 = 18;
 
 // WRITE the best card with its proof; the replicas that showed it count.
 fn write_back(client: Client, best: Timestamp, showed: ReplicaSet, out: &mut [u8]) -> Stepped

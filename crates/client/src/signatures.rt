@@ -2,6 +2,9 @@
 use crate::arrays::put;
 use base::party::ReplicaId;
 use base::replica_set::ReplicaSet;
+use wire::layout::ENTRY;
+use wire::layout::MOST_ENTRIES;
+use wire::layout::SIGNATURE;
 ghost use mathlib.Core.Path.{_≡_};
 ghost use Prim.Native.Nat.{_≤_};
 ghost use lib.ListN.{length, take};
@@ -13,14 +16,6 @@ pub struct Built {
     pub count: u8,
     pub entries: [u8; 715],
 }
-
-const SIGNATURE: usize = 64;
-
-// Signer and signature.
-const ENTRY: usize = 65;
-
-// The largest quorum.
-const MOST_ENTRIES: u8 = 11;
 
 // A replica's signature in its place.
 pub(super) fn with_signature(signatures: [u8; 1024], id: ReplicaId, mark: &[u8]) -> [u8; 1024]

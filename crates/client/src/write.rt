@@ -17,6 +17,7 @@ use crate::replies::keep_better;
 use crate::signatures::with_signature;
 use base::party::ClientId;
 use base::party::ReplicaId;
+use base::refusal::NOT_AWAITED;
 use base::replica_set::ReplicaSet;
 use base::timestamp::Successor;
 use base::timestamp::Timestamp;
@@ -32,8 +33,6 @@ ghost use Rattle.wire.specs.Message.{longest};
 ghost use Rattle.protocol.specs.Client.{clientAnswers, toPrepare, afterStamp, onStamp, afterPrepared, onPrepared, afterWritten, withSignature, withSignatures};
 ghost use Rattle.client.specs.Arrays.{proofIn, IfProof};
 ghost use Rattle.client.specs.Stepping.{callOf, Takes, TakesAny};
-
-const NOT_AWAITED: u8 = 18;
 
 // PREPARE the successor of the largest timestamp. The last count has none: the write ends.
 fn to_prepare(client: Client, best: Timestamp, out: &mut [u8]) -> Stepped

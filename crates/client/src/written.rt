@@ -5,6 +5,7 @@ use crate::read::after_write_back;
 use crate::replies::is_awaited_written;
 use crate::write::count_written;
 use base::party::ReplicaId;
+use base::refusal::NOT_AWAITED;
 use base::timestamp::Timestamp;
 use protocol::client::Client;
 use protocol::client::Phase;
@@ -15,8 +16,6 @@ ghost use lib.ListN.{length};
 ghost use Rattle.base.specs.Timestamp.{number};
 ghost use Rattle.protocol.specs.Client.{clientAnswers, onWritten};
 ghost use Rattle.client.specs.Stepping.{callOf};
-
-const NOT_AWAITED: u8 = 18;
 
 pub(super) fn on_written(
     client: Client,

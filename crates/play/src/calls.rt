@@ -5,6 +5,7 @@ use crate::log::front;
 use client::Stepped;
 use protocol::client::Client;
 use protocol::replica::Replica;
+use wire::layout::LONGEST_MESSAGE;
 use wire::message::Party;
 ghost use mathlib.Core.Path.{_≡_};
 ghost use mathlib.Core.List.{[]};
@@ -60,7 +61,7 @@ pub(super) fn replica_does(
 ) -> replica::Stepped
     ensures { λ r. ⌜ ReplicaLeaves (replicaDoes replica log (now (store .entry)) m) (sentBefore log (now (store .entry))) r (now (store .exit)) ⌝ }
 {
-    let mut message = [0u8; 1_579];
+    let mut message = [0u8; LONGEST_MESSAGE];
     let n = crate::log::copy_message(log, before(m), store, &mut message);
     let at = crate::log::start(log.count as usize, store.len());
     hand_replica(replica, front(&message, n), &mut store[at..])
@@ -69,7 +70,7 @@ pub(super) fn replica_does(
 fn deliver(client: Client, log: Log, m: usize, store: &mut [u8]) -> Stepped
     ensures { λ r. ⌜ ClientLeaves (clientDoes client log (now (store .entry)) [] (Call.Deliver m)) (sentBefore log (now (store .entry))) r (now (store .exit)) ⌝ }
 {
-    let mut message = [0u8; 1_579];
+    let mut message = [0u8; LONGEST_MESSAGE];
     let n = crate::log::copy_message(log, before(m), store, &mut message);
     let at = crate::log::start(log.count as usize, store.len());
     hand_client(client, front(&message, n), &mut store[at..])

@@ -1,5 +1,6 @@
 // The messages sent: how many, and how long each is. Their bytes stand in a borrowed store, 1,579 for each.
 use crate::grammar::behind;
+use wire::layout::LONGEST_MESSAGE;
 ghost use mathlib.Core.Path.{_≡_};
 ghost use Prim.Native.Nat.{_≤_};
 ghost use lib.ListN.{length, take, drop};
@@ -12,9 +13,6 @@ pub struct Log {
 
 // A line sends at most one message, and 100 lines are read.
 const MOST: usize = 100;
-
-// The longest message.
-const SLOT: usize = 1_579;
 
 pub fn empty() -> Log
     ensures { λ r. ⌜ r ≡ emptyLog ⌝ }
@@ -54,10 +52,10 @@ fn length_of(log: Log, before: usize) -> usize
 pub fn start(before: usize, size: usize) -> usize
     ensures { λ r. ⌜ (r ≡ start before size) × (r ≤ size) ⌝ }
 {
-    if size / SLOT < before {
+    if size / LONGEST_MESSAGE < before {
         return size;
     }
-    SLOT * before
+    LONGEST_MESSAGE * before
 }
 
 // As many bytes as there is room for; answers how many.

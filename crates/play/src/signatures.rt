@@ -1,4 +1,7 @@
 // How many signatures a message has, and so how many verdicts come with it.
+use wire::layout::ENTRY;
+use wire::layout::PREPARED_HEAD;
+use wire::layout::WRITTEN_HEAD;
 use wire::message::Fields;
 use wire::message::Party;
 use wire::message::Reading;
@@ -8,14 +11,6 @@ ghost use Prim.Native.Nat.{_+_, _-_, _≤_};
 ghost use Rattle.base.specs.BitMap.{bit};
 ghost use Rattle.wire.specs.Accepting.{entryCount};
 ghost use Rattle.play.specs.Calls.{signaturesTo};
-
-// The bytes of a proof before its entries.
-const PREPARED_HEAD: usize = 38;
-
-const WRITTEN_HEAD: usize = 6;
-
-// Signer and signature.
-const ENTRY: usize = 65;
 
 // The entries of a proof from one place to another.
 fn entry_count(at: usize, head: usize, end: usize) -> usize

@@ -6,6 +6,10 @@ use crate::register::slot_admits;
 use crate::register::slot_of;
 use crate::register::with_slot;
 use base::party::ClientId;
+use base::refusal::BAD_CARD;
+use base::refusal::NOT_OWN;
+use base::refusal::NOT_SUCCESSOR;
+use base::refusal::NOT_TAKEN;
 use base::timestamp::Successor;
 use base::timestamp::Timestamp;
 use protocol::replica::Held;
@@ -25,14 +29,6 @@ ghost use Rattle.wire.specs.Writing.{encodedOutcome};
 ghost use Rattle.protocol.specs.Replica.{answerOutcome, isTimestamp, withSlots, withHeld, onReadStamp, onWrite, onRead, replicaAnswers};
 ghost use Rattle.replica.specs.Kinds.{proofOf, ownOrMissing, standsFor, prepareWith};
 ghost use Rattle.replica.specs.Stepping.{keeping, Leaves};
-
-const NOT_OWN: u8 = 12;
-
-const NOT_SUCCESSOR: u8 = 13;
-
-const WRONG_CARD: u8 = 14;
-
-const NOT_TAKEN: u8 = 15;
 
 // A refusal, which leaves the record as it was.
 pub(super) fn refuse(replica: Replica, number: u8) -> Stepped
@@ -214,7 +210,7 @@ fn write_parts(
     ensures { λ r. ⌜ Leaves replica (replicaAnswers replica (now (out .entry)) (onWrite replica (now (card .entry)) (proofOf timestamp (now (digest .entry)) «entry_count» (now (entries .entry))))) r (now (out .exit)) ⌝ }
 {
     if !stands_for(card, digest) {
-        return refuse(replica, WRONG_CARD);
+        return refuse(replica, BAD_CARD);
     }
     let encoded = wire::writer::write_written(out, replica.id, timestamp);
     let answer = answer_of(encoded);

@@ -8,6 +8,7 @@ mod requests;
 use base::party::ReplicaId;
 use base::party::Setup;
 use base::party::replica_setup;
+use base::refusal::OUTPUT_TOO_SHORT;
 use base::timestamp::Timestamp;
 use protocol::replica::Held;
 use protocol::replica::Register;
@@ -15,6 +16,7 @@ use protocol::replica::Replica;
 use protocol::replica::ReplicaAnswer;
 use protocol::replica::Slots;
 use wire::acceptance::accept;
+use wire::layout::LONGEST_MESSAGE;
 use wire::message::Party;
 use wire::message::Reading;
 ghost use mathlib.Core.Path.{_≡_};
@@ -83,17 +85,12 @@ pub fn fresh(f: u8, id: ReplicaId) -> NewReplica
     }
 }
 
-// The length of the longest message: a shorter output is refused.
-const LONGEST: usize = 1_579;
-
-const TOO_SHORT: u8 = 1;
-
 // A message is handed to a replica, with a verdict for each signature and an output for the reply.
 pub fn step(replica: Replica, message: &[u8], verdicts: &[u8], out: &mut [u8]) -> Stepped
     ensures { λ r. ⌜ Steps replica (now (message .entry)) (now (verdicts .entry)) (now (out .entry)) (r .answer) (r .replica) (now (out .exit)) × Changes replica r ⌝ }
 {
-    if out.len() < LONGEST {
-        return kinds::refuse(replica, TOO_SHORT);
+    if out.len() < LONGEST_MESSAGE {
+        return kinds::refuse(replica, OUTPUT_TOO_SHORT);
     }
     match accept(Party::Replica, replica.f, message, verdicts) {
         Reading::Message(fields) => requests::on_message(replica, message, fields, out),

@@ -3,6 +3,9 @@ use crate::checks::ProofCheck;
 use crate::checks::check_proof;
 use crate::checks::first_refusal;
 use crate::checks::verdicts_fit;
+use crate::layout::ENTRY;
+use crate::layout::PREPARED_HEAD;
+use crate::layout::WRITTEN_HEAD;
 use crate::message::Fields;
 use crate::message::Party;
 use crate::message::Reading;
@@ -10,6 +13,9 @@ use base::party::ClientId;
 use base::party::ReplicaId;
 use base::party::is_client;
 use base::party::is_replica;
+use base::refusal::NOT_GENUINE;
+use base::refusal::SENDER;
+use base::refusal::VERDICTS;
 use base::timestamp::Timestamp;
 ghost use mathlib.Core.Path.{_≡_};
 ghost use mathlib.Core.Bool.{true, cond};
@@ -21,20 +27,6 @@ ghost use Rattle.wire.specs.Accepting.{opened, entryCount, proofBetween,
 ghost use Rattle.wire.specs.Decode.{readingOutcome};
 ghost use Rattle.wire.specs.Judging.{proofCheckOutcome};
 ghost use Rattle.wire.specs.Places.{Room};
-
-const OUT_OF_RANGE: u8 = 6;
-
-const NOT_ONE_EACH: u8 = 7;
-
-const NOT_GENUINE: u8 = 8;
-
-// The bytes of a proof before its entries.
-const PREPARED_HEAD: usize = 38;
-
-const WRITTEN_HEAD: usize = 6;
-
-// Signer and signature.
-const ENTRY: usize = 65;
 
 // Test 6.
 fn in_range(party: Party, f: u8, sender: u8) -> bool
@@ -75,13 +67,13 @@ fn open(party: Party, f: u8, bytes: &[u8], verdicts: &[u8]) -> Reading
     match crate::reader::read(party, bytes) {
         Reading::Message(fields) => {
             if !in_range(party, f, fields.sender) {
-                return Reading::Refused(OUT_OF_RANGE);
+                return Reading::Refused(SENDER);
             }
             let end = written_end(fields.map, fields.signature);
             let prepared = entry_count(fields.prepared, PREPARED_HEAD, fields.written);
             let written = entry_count(fields.written, WRITTEN_HEAD, end);
             if !verdicts_fit(verdicts, 1 + prepared + written) {
-                return Reading::Refused(NOT_ONE_EACH);
+                return Reading::Refused(VERDICTS);
             }
             if verdicts[0] != 1 {
                 return Reading::Refused(NOT_GENUINE);

@@ -1,4 +1,5 @@
 // Cards: the value of the register.
+use base::refusal::BAD_CARD;
 ghost use mathlib.Core.Path.{_≡_};
 ghost use mathlib.Core.Option.{none};
 ghost use Prim.Native.Nat.{_+_, _≤_, _<_};
@@ -44,8 +45,6 @@ enum FieldRead {
 const BITS: usize = 7;
 
 const MAP_BYTES: usize = 2;
-
-const BREAKS_TABLE: u8 = 14;
 
 fn row_of(bit: usize) -> Row
     requires { ⌜ bit < 7 ⌝ }
@@ -117,7 +116,7 @@ fn refused() -> CardRead
     ensures { λ r. ⌜ r ≡ readAnswer none ⌝ }
 {
     CardRead {
-        check: CardCheck::Refused(BREAKS_TABLE),
+        check: CardCheck::Refused(BAD_CARD),
         fields: CardFields {
             map: 0,
             values: [0; 7],
@@ -195,7 +194,7 @@ pub fn digest(card: &[u8]) -> CardDigest
 {
     let CardCheck::Good = check(card) else {
         return CardDigest {
-            check: CardCheck::Refused(BREAKS_TABLE),
+            check: CardCheck::Refused(BAD_CARD),
             bytes: [0; 32],
         };
     };

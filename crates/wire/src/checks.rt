@@ -1,7 +1,11 @@
 // Tests 7 and 9 to 11: verdicts (document 01: marks) and the proofs that they judge.
+use crate::layout::ENTRY;
 use base::party::quorum_size;
 use base::party::replica_count;
 use base::party::within;
+use base::refusal::ENTRY_NOT_GENUINE;
+use base::refusal::NOT_A_QUORUM;
+use base::refusal::NOT_ISSUED;
 use base::timestamp::Timestamp;
 ghost use mathlib.Core.Path.{_≡_};
 ghost use mathlib.Core.Bool.{_&&_};
@@ -19,15 +23,6 @@ pub enum ProofCheck {
     Good,
     Refused(u8),
 }
-
-const NOT_A_QUORUM: u8 = 9;
-
-const NOT_GENUINE: u8 = 10;
-
-const NOT_ISSUED: u8 = 11;
-
-// Signer and signature.
-const ENTRY: usize = 65;
 
 fn all_within(low: u8, high: u8, numbers: &[u8]) -> bool
     ensures { λ r. ⌜ r ≡ all (within low high) (now (numbers .entry)) ⌝ }
@@ -98,7 +93,7 @@ pub fn check_proof(f: u8, entries: &[u8], verdicts: &[u8], timestamp: Timestamp)
         return ProofCheck::Refused(NOT_A_QUORUM);
     }
     if !all_genuine(verdicts) {
-        return ProofCheck::Refused(NOT_GENUINE);
+        return ProofCheck::Refused(ENTRY_NOT_GENUINE);
     }
     if !timestamp.is_issued() {
         return ProofCheck::Refused(NOT_ISSUED);

@@ -1,4 +1,9 @@
 // Tests 2 to 4: a message's length, its bit map, and where its fields end.
+use crate::layout::LONGEST_MESSAGE;
+use crate::layout::SIGNATURE;
+use base::refusal::BIT_MAP;
+use base::refusal::FIELD_LENGTHS;
+use base::refusal::MESSAGE_LENGTH;
 ghost use mathlib.Core.Path.{_≡_};
 ghost use Prim.Native.Nat.{suc, _+_, _*_, _≤_, _<_};
 ghost use lib.Dec.{eqb};
@@ -7,10 +12,6 @@ ghost use Rattle.base.specs.Outcome.{accepted, guard};
 ghost use Rattle.wire.specs.Layout.{counted, extent, mapIn, place};
 ghost use Rattle.wire.specs.Decode.{framed};
 ghost use Rattle.wire.specs.Places.{Takes, Fronted, placesIn, frameOutcome};
-
-const LONGEST: usize = 1579;
-
-const SIGNATURE: usize = 64;
 
 // The bit map, and where each field starts, or would start if it were there.
 pub struct Places {
@@ -96,19 +97,19 @@ fn lay_back(
     ensures { λ r. ⌜ frameOutcome r ≡ guard 4 (eqb (place (now (bytes .entry)) 9 + 64) (length (now (bytes .entry)))) (accepted (placesIn (now (bytes .entry)))) ⌝ }
 {
     let Taken::Next(prepared) = take_field(bytes, map, 5, card) else {
-        return Framing::Refused(4);
+        return Framing::Refused(FIELD_LENGTHS);
     };
     let Taken::Next(written) = take_field(bytes, map, 6, prepared) else {
-        return Framing::Refused(4);
+        return Framing::Refused(FIELD_LENGTHS);
     };
     let Taken::Next(addressed) = take_field(bytes, map, 7, written) else {
-        return Framing::Refused(4);
+        return Framing::Refused(FIELD_LENGTHS);
     };
     let Taken::Next(signature) = take_field(bytes, map, 8, addressed) else {
-        return Framing::Refused(4);
+        return Framing::Refused(FIELD_LENGTHS);
     };
     if bytes.len() - signature != SIGNATURE {
-        return Framing::Refused(4);
+        return Framing::Refused(FIELD_LENGTHS);
     }
     Framing::Whole(Places {
         map: map,
@@ -129,19 +130,19 @@ fn lay(bytes: &[u8], map: u16) -> Framing
     ensures { λ r. ⌜ frameOutcome r ≡ guard 4 (eqb (place (now (bytes .entry)) 9 + 64) (length (now (bytes .entry)))) (accepted (placesIn (now (bytes .entry)))) ⌝ }
 {
     let Taken::Next(sender) = take_field(bytes, map, 0, 2) else {
-        return Framing::Refused(4);
+        return Framing::Refused(FIELD_LENGTHS);
     };
     let Taken::Next(nonce) = take_field(bytes, map, 1, sender) else {
-        return Framing::Refused(4);
+        return Framing::Refused(FIELD_LENGTHS);
     };
     let Taken::Next(timestamp) = take_field(bytes, map, 2, nonce) else {
-        return Framing::Refused(4);
+        return Framing::Refused(FIELD_LENGTHS);
     };
     let Taken::Next(digest) = take_field(bytes, map, 3, timestamp) else {
-        return Framing::Refused(4);
+        return Framing::Refused(FIELD_LENGTHS);
     };
     let Taken::Next(card) = take_field(bytes, map, 4, digest) else {
-        return Framing::Refused(4);
+        return Framing::Refused(FIELD_LENGTHS);
     };
     lay_back(bytes, map, nonce, timestamp, digest, card)
 }
@@ -151,17 +152,17 @@ pub fn frame(bytes: &[u8]) -> Framing
     ensures { λ r. ⌜ frameOutcome r ≡ framed (now (bytes .entry)) (accepted (placesIn (now (bytes .entry)))) ⌝ }
 {
     if bytes.len() < 2 {
-        return Framing::Refused(2);
+        return Framing::Refused(MESSAGE_LENGTH);
     }
-    if LONGEST < bytes.len() {
-        return Framing::Refused(2);
+    if LONGEST_MESSAGE < bytes.len() {
+        return Framing::Refused(MESSAGE_LENGTH);
     }
     let map = base::big_endian::from_two(bytes[0], bytes[1]) as u16;
     if map % 4 != 3 {
-        return Framing::Refused(3);
+        return Framing::Refused(BIT_MAP);
     }
     if 512 <= map {
-        return Framing::Refused(3);
+        return Framing::Refused(BIT_MAP);
     }
     lay(bytes, map)
 }

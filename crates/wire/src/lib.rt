@@ -4,6 +4,7 @@ pub mod card;
 pub mod card_part;
 pub mod checks;
 mod frame;
+pub mod layout;
 pub mod message;
 pub mod numbers;
 pub mod reader;

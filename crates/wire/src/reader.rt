@@ -5,6 +5,7 @@ use crate::message::Fields;
 use crate::message::Party;
 use crate::message::Reading;
 use base::party::ClientId;
+use base::refusal::KIND;
 ghost use mathlib.Core.Path.{_≡_};
 ghost use mathlib.Core.List.{_∷_, []};
 ghost use Prim.Native.Nat.{_<_};
@@ -91,7 +92,7 @@ pub fn read(party: Party, bytes: &[u8]) -> Reading
     match crate::frame::frame(bytes) {
         Framing::Whole(places) => {
             if !suits(party, bytes[2], places.map) {
-                return Reading::Refused(5);
+                return Reading::Refused(KIND);
             }
             Reading::Message(fields(bytes, places))
         }

@@ -2,8 +2,10 @@
 mod fields;
 mod proof;
 
+use crate::layout::LONGEST_MESSAGE;
 use base::party::ClientId;
 use base::party::ReplicaId;
+use base::refusal::OUTPUT_TOO_SHORT;
 use base::timestamp::Timestamp;
 use fields::put_addressed;
 use fields::put_card;
@@ -26,11 +28,6 @@ pub enum Encoded {
     Refused(u8),
 }
 
-// The longest message.
-const LONGEST: usize = 1_579;
-
-const TOO_SHORT: u8 = 1;
-
 // Bit maps by the fields' bits.
 const WITH_NONCE: u16 = 0b0_0000_0111;
 
@@ -52,8 +49,8 @@ const WRITTEN_PROOF: u16 = 0b0_1000_0000;
 fn write_question(out: &mut [u8], kind: u8, client: ClientId, nonce: u64) -> Encoded
     ensures { λ r. ⌜ Wrote (now (out .entry)) (question kind client nonce) r (now (out .exit)) ⌝ }
 {
-    if out.len() < LONGEST {
-        return Encoded::Refused(TOO_SHORT);
+    if out.len() < LONGEST_MESSAGE {
+        return Encoded::Refused(OUTPUT_TOO_SHORT);
     }
     let a = put_head(out, WITH_NONCE, kind, client.0);
     let b = put_nonce(out, a, nonce);
@@ -91,8 +88,8 @@ pub fn write_prepare<'a>(
         (unless (missing «last_timestamp») (keptWritten «last_timestamp» «last_count» (now («last_entries» .entry))))))
         r (now (out .exit)) ⌝ }
 {
-    if out.len() < LONGEST {
-        return Encoded::Refused(TOO_SHORT);
+    if out.len() < LONGEST_MESSAGE {
+        return Encoded::Refused(OUTPUT_TOO_SHORT);
     }
     let map = WITH_DIGEST
         + bit_unless_missing(PREPARED_PROOF, proof_timestamp)
@@ -126,8 +123,8 @@ pub fn write_write<'a>(
         (keptPrepared timestamp (now (digest .entry)) «entry_count» (now (entries .entry)))))
         r (now (out .exit)) ⌝ }
 {
-    if out.len() < LONGEST {
-        return Encoded::Refused(TOO_SHORT);
+    if out.len() < LONGEST_MESSAGE {
+        return Encoded::Refused(OUTPUT_TOO_SHORT);
     }
     let a = put_head(out, WITH_CARD_AND_PROOF, 3, client.0);
     let b = put_card(out, a, card, card_length);
@@ -151,8 +148,8 @@ pub fn write_stamp<'a>(
         client))
         r (now (out .exit)) ⌝ }
 {
-    if out.len() < LONGEST {
-        return Encoded::Refused(TOO_SHORT);
+    if out.len() < LONGEST_MESSAGE {
+        return Encoded::Refused(OUTPUT_TOO_SHORT);
     }
     let map = ADDRESSED + bit_unless_missing(PREPARED_PROOF, timestamp);
     let a = put_head(out, map, 5, replica.0);
@@ -169,8 +166,8 @@ pub fn write_prepared(
 ) -> Encoded
     ensures { λ r. ⌜ Wrote (now (out .entry)) (unsigned (PREPARED replica (number timestamp) (now (digest .entry)))) r (now (out .exit)) ⌝ }
 {
-    if out.len() < LONGEST {
-        return Encoded::Refused(TOO_SHORT);
+    if out.len() < LONGEST_MESSAGE {
+        return Encoded::Refused(OUTPUT_TOO_SHORT);
     }
     let a = put_head(out, WITH_DIGEST, 6, replica.0);
     let b = put_timestamp_and_digest(out, a, timestamp, digest);
@@ -180,8 +177,8 @@ pub fn write_prepared(
 pub fn write_written(out: &mut [u8], replica: ReplicaId, timestamp: Timestamp) -> Encoded
     ensures { λ r. ⌜ Wrote (now (out .entry)) (unsigned (WRITTEN replica (number timestamp))) r (now (out .exit)) ⌝ }
 {
-    if out.len() < LONGEST {
-        return Encoded::Refused(TOO_SHORT);
+    if out.len() < LONGEST_MESSAGE {
+        return Encoded::Refused(OUTPUT_TOO_SHORT);
     }
     let a = put_head(out, WITH_TIMESTAMP, 7, replica.0);
     let b = put_timestamp(out, a, timestamp);
@@ -206,8 +203,8 @@ pub fn write_card<'a>(
         client))
         r (now (out .exit)) ⌝ }
 {
-    if out.len() < LONGEST {
-        return Encoded::Refused(TOO_SHORT);
+    if out.len() < LONGEST_MESSAGE {
+        return Encoded::Refused(OUTPUT_TOO_SHORT);
     }
     let map = ADDRESSED_WITH_CARD + bit_unless_missing(PREPARED_PROOF, timestamp);
     let a = put_head(out, map, 8, replica.0);

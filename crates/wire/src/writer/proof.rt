@@ -4,6 +4,8 @@ use super::fields::put_byte;
 use super::fields::put_bytes;
 use super::fields::put_timestamp;
 use super::fields::put_timestamp_and_digest;
+use crate::layout::ENTRY;
+use crate::layout::MOST_ENTRIES;
 use base::timestamp::Timestamp;
 ghost use mathlib.Core.Path.{_≡_};
 ghost use mathlib.Core.Bool.{cond};
@@ -11,10 +13,6 @@ ghost use Prim.Native.Nat.{_+_, _≤_};
 ghost use lib.ListN.{length};
 ghost use Rattle.wire.specs.Proof.{countedEntries, preparedBytes, writtenBytes};
 ghost use Rattle.wire.specs.Writing.{Put, keptEntries, keptPrepared, keptWritten, missing, bytesUnless};
-
-const MOST_ENTRIES: u8 = 11;
-
-const ENTRY: usize = 65;
 
 // The number of entries, and the entries.
 fn put_entries(out: &mut [u8], at: usize, entry_count: u8, entries: &[u8; 715]) -> usize

@@ -1,0 +1,36 @@
+// The refusals by name, each with document 01's number ("Turned down, in checking order"). What each tests, the definitions say.
+pub const OUTPUT_TOO_SHORT: u8 = 1;
+
+pub const MESSAGE_LENGTH: u8 = 2;
+
+pub const BIT_MAP: u8 = 3;
+
+pub const FIELD_LENGTHS: u8 = 4;
+
+pub const KIND: u8 = 5;
+
+pub const SENDER: u8 = 6;
+
+pub const VERDICTS: u8 = 7;
+
+pub const NOT_GENUINE: u8 = 8;
+
+pub const NOT_A_QUORUM: u8 = 9;
+
+pub const ENTRY_NOT_GENUINE: u8 = 10;
+
+pub const NOT_ISSUED: u8 = 11;
+
+pub const NOT_OWN: u8 = 12;
+
+pub const NOT_SUCCESSOR: u8 = 13;
+
+pub const BAD_CARD: u8 = 14;
+
+pub const NOT_TAKEN: u8 = 15;
+
+pub const SET_UP: u8 = 16;
+
+pub const BUSY: u8 = 17;
+
+pub const NOT_AWAITED: u8 = 18;
