@@ -1,97 +1,19 @@
-//! Times the proved replica's step beside a plain Rust one, after comparing them on many messages.
-//! Run by `bench/run`, which links the static library of `replica`.
+//! Compares the proved replica with the plain one on many requests, and prints for each step of `steps` what it costs
+//! either: time, instructions (by callgrind) and bytes copied (listed by `copies`, whose output is the standard input).
+//! With the argument `rows` it prints the rows of docs/SPEED.md's table. Run by `bench/run`.
 #[path = "../tests/card.rs"]
 mod card;
 mod plain_replica;
 mod plain_sha256;
 #[path = "../rust/replica.rs"]
 mod replica;
+mod steps;
 
 use plain_sha256::unrolled as sha256;
-use replica::Answer;
-use std::hint::black_box;
-use std::time::Instant;
-
-const F: u8 = 5;
-const QUORUM: u8 = 2 * F + 1;
-const OUTPUT: usize = replica::LONGEST_MESSAGE;
-
-/// A card with all fields, 17 bytes.
-const CARD: [u8; 17] = [
-    0x00, 0x7f, 0x1c, 0x20, 0x1c, 0x1f, 0x01, 0x18, 0x01, 0x17, 0x00, 0x01, 0xe2, 0x40, 0x01, 0x25,
-    0x80,
-];
-
-/// A proof's timestamp, digest and entries, for a quorum of the first replicas.
-fn prepared_proof(count: u32, client: u8, digest: [u8; 32]) -> Vec<u8> {
-    let mut proof = Vec::new();
-    proof.extend(count.to_be_bytes());
-    proof.push(client);
-    proof.extend(digest);
-    proof.push(QUORUM);
-    for id in 1..=QUORUM {
-        proof.push(id);
-        proof.extend([id ^ 0x5a; 64]);
-    }
-    proof
-}
-
-fn message(map: u16, kind: u8, sender: u8, fields: &[&[u8]]) -> Vec<u8> {
-    let mut message = Vec::from(map.to_be_bytes());
-    message.extend([kind, sender]);
-    for field in fields {
-        message.extend(*field);
-    }
-    message.extend([0; 64]);
-    message
-}
-
-fn write(count: u32, client: u8, card: &[u8]) -> Vec<u8> {
-    let proof = prepared_proof(count, client, sha256(card));
-    message(0x63, 3, client, &[&[card.len() as u8], card, &proof])
-}
-
-/// Where the timestamp's count stands in such a WRITE.
-const WRITE_COUNT: usize = 2 + 2 + 1 + CARD.len();
-
-fn read() -> Vec<u8> {
-    message(0x07, 4, 1, &[&7u64.to_be_bytes()])
-}
-
-fn verdicts(entries: u8) -> Vec<u8> {
-    vec![1; 1 + usize::from(entries)]
-}
-
-/// A replica of either kind.
-trait Served {
-    fn made() -> Self;
-    fn hand(&mut self, message: &[u8], verdicts: &[u8], out: &mut [u8]) -> Result<usize, u8>;
-}
-
-impl Served for replica::Replica {
-    fn made() -> Self {
-        replica::Replica::fresh(F, replica::ReplicaId(1)).unwrap()
-    }
-
-    #[inline(never)]
-    fn hand(&mut self, message: &[u8], verdicts: &[u8], out: &mut [u8]) -> Result<usize, u8> {
-        match self.step(message, verdicts, out) {
-            Answer::Send(length) => Ok(length),
-            Answer::Refused(number) => Err(number),
-        }
-    }
-}
-
-impl Served for plain_replica::Replica {
-    fn made() -> Self {
-        plain_replica::Replica::fresh(F, 1).unwrap()
-    }
-
-    #[inline(never)]
-    fn hand(&mut self, message: &[u8], verdicts: &[u8], out: &mut [u8]) -> Result<usize, u8> {
-        self.step(message, verdicts, out)
-    }
-}
+use std::process::Command;
+use std::time::{Duration, Instant};
+use std::{env, io};
+use steps::*;
 
 /// Numbers that look random, the same in each run (xorshift).
 struct Numbers(u64);
@@ -106,159 +28,199 @@ impl Numbers {
 }
 
 /// A request with few clients and timestamps, so that some are taken; each third has a byte changed, or is cut.
-fn request(numbers: &mut Numbers) -> (Vec<u8>, Vec<u8>) {
+fn any_request(numbers: &mut Numbers) -> Request {
     let client = 1 + numbers.below(3) as u8;
     let count = 1 + numbers.below(4) as u32;
     let card: &[u8] = [&CARD[..], &[0, 0]][numbers.below(2)];
     let digest = [sha256(card), [9; 32]][numbers.below(2)];
     let shown = prepared_proof(count, 1 + numbers.below(3) as u8, digest);
-    let mut last = prepared_proof(count, client, [0; 32]);
-    last.drain(5..37);
-    let timestamp = [&(count + 1).to_be_bytes()[..], &[client]].concat();
-    let first = [&1u32.to_be_bytes()[..], &[client]].concat();
-    let (mut message, entries) = match numbers.below(6) {
-        0 => (message(0x07, 1, client, &[&7u64.to_be_bytes()]), 0),
-        1 => (read(), 0),
-        2 => (message(0x1b, 2, client, &[&first, &digest]), 0),
-        3 => (
-            message(0x5b, 2, client, &[&timestamp, &digest, &shown]),
-            QUORUM,
-        ),
-        4 => (
-            message(0xdb, 2, client, &[&timestamp, &digest, &shown, &last]),
+    let last = written_proof(count, client);
+    let (first, next) = (timestamp(1, client), timestamp(count + 1, client));
+    let mut any = match numbers.below(6) {
+        0 => read_stamp(client),
+        1 => read(client),
+        2 => request(0x1b, 2, client, &[&first, &digest], 0),
+        3 => request(0x5b, 2, client, &[&next, &digest, &shown], QUORUM),
+        4 => request(
+            0xdb,
+            2,
+            client,
+            &[&next, &digest, &shown, &last],
             2 * QUORUM,
         ),
-        _ => (write(count, client, card), QUORUM),
+        _ => write(count, client, card),
     };
-    let mut verdicts = verdicts(entries);
     match numbers.below(9) {
         0 => {
-            let at = numbers.below(message.len());
-            message[at] ^= 1 << numbers.below(8);
+            let at = numbers.below(any.message.len());
+            any.message[at] ^= 1 << numbers.below(8);
         }
-        1 => message.truncate(numbers.below(message.len() + 1)),
+        1 => any.message.truncate(numbers.below(any.message.len() + 1)),
         2 => {
-            let at = numbers.below(verdicts.len());
-            verdicts[at] = numbers.below(3) as u8;
+            let at = numbers.below(any.verdicts.len());
+            any.verdicts[at] = numbers.below(3) as u8;
         }
         _ => {}
     }
-    (message, verdicts)
+    any
 }
 
 /// Both are handed the same requests, and must answer and write the same.
 fn compare() {
     let mut numbers = Numbers(0x9e37_79b9_7f4a_7c15);
-    let mut answers = [0u32; 17];
+    let mut answers = [0u32; 16];
     for _ in 0..2_000 {
         let (mut proved, mut plain) = (replica::Replica::made(), plain_replica::Replica::made());
         for _ in 0..50 {
-            let (message, verdicts) = request(&mut numbers);
+            let request = any_request(&mut numbers);
             let length = OUTPUT + 9 - numbers.below(11);
             let (mut one, mut other) = ([1; OUTPUT + 19], [1; OUTPUT + 19]);
-            let answer = proved.hand(&message, &verdicts, &mut one[..length]);
-            assert_eq!(
-                answer,
-                plain.hand(&message, &verdicts, &mut other[..length]),
-                "{message:02x?} {verdicts:?}"
-            );
-            assert_eq!(one, other, "{message:02x?}");
+            let answer = proved.hand(&request, &mut one[..length]);
+            let expected = plain.hand(&request, &mut other[..length]);
+            assert_eq!(answer, expected, "{request:02x?}");
+            assert_eq!(one, other, "{request:02x?}");
             answers[answer.err().map_or(0, usize::from)] += 1;
         }
     }
-    println!(
-        "100,000 requests are answered alike; sent, then refused 1 to 15: {:?}",
-        &answers[..16]
-    );
+    println!("100,000 requests are answered alike; sent, then refused 1 to 15: {answers:?}");
 }
 
 const ROUNDS: usize = 400;
-const BATCH: u32 = 250;
+const BATCH: usize = 250;
 
-/// Nanoseconds a step, in one batch; `change` is done to the message before each.
-fn batch<R: Served>(
-    replica: &mut R,
-    message: &mut [u8],
-    verdicts: &[u8],
-    change: impl Fn(&mut [u8], u32),
-) -> f64 {
-    let mut out = [0; OUTPUT];
+fn take<R: Served>(step: &Step, count: usize) -> Duration {
+    let mut taking = Taking::<R>::new(step);
     let began = Instant::now();
-    for i in 1..=BATCH {
-        change(message, i);
-        let answer = replica.hand(black_box(message), black_box(verdicts), &mut out);
-        assert!(black_box(answer).is_ok());
-        black_box(&mut out);
+    for _ in 0..count {
+        taking.again();
     }
-    began.elapsed().as_nanos() as f64 / f64::from(BATCH)
+    began.elapsed()
 }
 
-/// Best and median of the batches of both, in turn. Each batch has a replica that took `first`.
-fn measure(
-    name: &str,
-    first: &[u8],
-    message: &[u8],
-    verdicts_of: &[u8],
-    change: impl Fn(&mut [u8], u32) + Copy,
-) {
-    fn prepared<R: Served>(first: &[u8]) -> R {
-        let mut replica = R::made();
-        replica
-            .hand(first, &verdicts(QUORUM), &mut [0; OUTPUT])
-            .unwrap();
-        replica
+/// Nanoseconds a step: of the best batch, and of the median one.
+struct Times {
+    best: f64,
+    median: f64,
+}
+
+impl Times {
+    fn of(mut batches: Vec<Duration>) -> Times {
+        batches.sort();
+        let of_step = |batch: Duration| batch.as_nanos() as f64 / BATCH as f64;
+        Times {
+            best: of_step(batches[0]),
+            median: of_step(batches[batches.len() / 2]),
+        }
     }
+}
+
+/// The times of both sides, whose batches take turns.
+fn times(step: &Step) -> [Times; 2] {
     let (mut proved, mut plain) = (Vec::new(), Vec::new());
-    let mut message = message.to_vec();
     for _ in 0..ROUNDS {
-        proved.push(batch(
-            &mut prepared::<replica::Replica>(first),
-            &mut message,
-            verdicts_of,
-            change,
-        ));
-        plain.push(batch(
-            &mut prepared::<plain_replica::Replica>(first),
-            &mut message,
-            verdicts_of,
-            change,
-        ));
+        proved.push(take::<replica::Replica>(step, BATCH));
+        plain.push(take::<plain_replica::Replica>(step, BATCH));
     }
-    proved.sort_by(f64::total_cmp);
-    plain.sort_by(f64::total_cmp);
-    println!("{name}: {ROUNDS} batches of {BATCH} each, in turn; ns a step:");
-    for (side, times) in [("proved", &proved), ("plain", &plain)] {
+    [Times::of(proved), Times::of(plain)]
+}
+
+const SIDES: [&str; 2] = ["proved", "plain"];
+
+/// Instructions a step, by callgrind on this very program; none where valgrind is missing.
+fn instructions(place: usize, side: &str) -> Option<usize> {
+    let output = Command::new("valgrind")
+        .args(["--tool=callgrind", "--callgrind-out-file=/dev/null"])
+        .arg("--toggle-collect=*measured_step*")
+        .arg(env::current_exe().unwrap())
+        .args(["take", &place.to_string(), side])
+        .output()
+        .ok()?;
+    let said = String::from_utf8_lossy(&output.stderr);
+    let (_, collected) = said
+        .split_once("Collected : ")
+        .unwrap_or_else(|| panic!("callgrind collected nothing: {said}"));
+    let count: usize = collected.lines().next().unwrap().trim().parse().unwrap();
+    Some(count / BATCH)
+}
+
+/// What a step costs one side.
+struct Cost {
+    times: Times,
+    instructions: Option<usize>,
+    copied: String,
+    copies: String,
+}
+
+/// The costs of both sides; `copies` is the step's line of the list of copies.
+fn costs(place: usize, step: &Step, copies: &str) -> [Cost; 2] {
+    let mut copies = copies.split('\t').map(String::from);
+    assert_eq!(copies.next().as_deref(), Some(step.name));
+    let mut times = times(step).into_iter();
+    SIDES.map(|side| Cost {
+        times: times.next().unwrap(),
+        instructions: instructions(place, side),
+        copied: copies.next().unwrap(),
+        copies: copies.next().unwrap(),
+    })
+}
+
+fn or_none(count: Option<usize>) -> String {
+    count.map_or(String::from("?"), |count| count.to_string())
+}
+
+fn print_costs(step: &Step, costs: &[Cost; 2]) {
+    println!("{}", step.name);
+    for (side, cost) in SIDES.iter().zip(costs) {
         println!(
-            "  {side:8} best {:7.1}  median {:7.1}",
-            times[0],
-            times[ROUNDS / 2]
+            "  {side:8} best {:7.1} ns  median {:7.1} ns  {:>6} instructions  {:>6} bytes copied  {}",
+            cost.times.best,
+            cost.times.median,
+            or_none(cost.instructions),
+            cost.copied,
+            cost.copies,
         );
     }
+    let [proved, plain] = costs;
     println!(
-        "  proved / plain: best {:.3}  median {:.3}",
-        proved[0] / plain[0],
-        proved[ROUNDS / 2] / plain[ROUNDS / 2]
+        "  proved / plain: best {:.2}  median {:.2}",
+        proved.times.best / plain.times.best,
+        proved.times.median / plain.times.median
+    );
+}
+
+fn print_row(step: &Step, [proved, plain]: &[Cost; 2]) {
+    println!(
+        "| {} | {:.0} | {:.0} | {:.2} | {:.2} | {} | {} | {} | {} |",
+        step.name,
+        proved.times.best,
+        plain.times.best,
+        proved.times.best / plain.times.best,
+        proved.times.median / plain.times.median,
+        or_none(proved.instructions),
+        or_none(plain.instructions),
+        proved.copied,
+        plain.copied,
     );
 }
 
 fn main() {
+    let arguments: Vec<String> = env::args().skip(1).collect();
+    let steps = steps::all();
+    if let [_, place, side] = &arguments[..] {
+        let step = &steps[place.parse::<usize>().unwrap()];
+        match side.as_str() {
+            "proved" => take::<replica::Replica>(step, BATCH),
+            _ => take::<plain_replica::Replica>(step, BATCH),
+        };
+        return;
+    }
     compare();
-    let held = write(1, 1, &CARD);
-    measure(
-        "WRITE, stored",
-        &held,
-        &held,
-        &verdicts(QUORUM),
-        |message, i| {
-            message[WRITE_COUNT..][..4].copy_from_slice(&(1 + i).to_be_bytes());
-        },
-    );
-    measure(
-        "WRITE, not stored",
-        &held,
-        &held,
-        &verdicts(QUORUM),
-        |_, _| {},
-    );
-    measure("READ", &held, &read(), &verdicts(0), |_, _| {});
+    let print = match arguments.first() {
+        Some(_) => print_row,
+        None => print_costs,
+    };
+    let copies = io::read_to_string(io::stdin()).unwrap();
+    for (place, (step, copies)) in steps.iter().zip(copies.lines()).enumerate() {
+        print(step, &costs(place, step, copies));
+    }
 }

@@ -1,8 +1,9 @@
-//! Times the proved SHA-256 of the crate `wire` beside a plain Rust one, after comparing their digests.
-//! Run by `bench/run`, which links the static library of `wire`.
+//! Times the proved SHA-256 of the crate `wire` beside a plain Rust one, after comparing their digests. With the argument
+//! `rows` it prints the rows of docs/SPEED.md's table. Run by `bench/run`, which links the static library of `wire`.
 mod plain_sha256;
 
-use plain_sha256::{looped, unrolled};
+use plain_sha256::unrolled;
+use std::env;
 use std::hint::black_box;
 use std::time::Instant;
 
@@ -20,22 +21,25 @@ fn proved(message: &[u8]) -> [u8; 32] {
     out
 }
 
+#[inline(never)]
+fn plain(message: &[u8]) -> [u8; 32] {
+    unrolled(message)
+}
+
+fn bytes(length: usize) -> Vec<u8> {
+    (0..length).map(|i| (7 * i + 3) as u8).collect()
+}
+
 fn compare() {
-    let message: Vec<u8> = (0..=LONGEST_MESSAGE).map(|i| (7 * i + 3) as u8).collect();
+    let message = bytes(LONGEST_MESSAGE + 1);
     for length in 0..=message.len() {
         let part = &message[..length];
         let mut out = [1; 32];
         let fits = unsafe { wire_sha256(part.as_ptr(), part.len(), &mut out) };
-        assert_eq!(
-            looped(part),
-            unrolled(part),
-            "the two plain shapes at {length} bytes"
-        );
         assert_eq!(fits, length <= LONGEST_MESSAGE, "at {length} bytes");
-        let expected = if fits { looped(part) } else { [0; 32] };
+        let expected = if fits { plain(part) } else { [0; 32] };
         assert_eq!(out, expected, "at {length} bytes");
     }
-    println!("the digests of all lengths 0 to {} agree", message.len());
 }
 
 /// Nanoseconds a digest, in one batch.
@@ -47,39 +51,49 @@ fn batch(digest: fn(&[u8]) -> [u8; 32], message: &[u8], count: u32) -> f64 {
     began.elapsed().as_nanos() as f64 / f64::from(count)
 }
 
-/// Best and median of the batches, in turn with the others'.
-fn measure(length: usize, count: u32, rounds: usize) {
-    let message: Vec<u8> = (0..length).map(|i| (7 * i + 3) as u8).collect();
-    let digests: [(&str, fn(&[u8]) -> [u8; 32]); 3] = [
-        ("proved", proved),
-        ("plain, looped", looped),
-        ("plain, unrolled", unrolled),
-    ];
-    let mut times = [const { Vec::new() }; 3];
-    for _ in 0..rounds {
-        for (of_one, (_, digest)) in times.iter_mut().zip(digests) {
-            of_one.push(batch(digest, &message, count));
-        }
+const ROUNDS: usize = 400;
+
+/// The batches' times of both, which take turns, each from the best to the worst.
+fn measure(length: usize, count: u32) -> [Vec<f64>; 2] {
+    let message = bytes(length);
+    let mut times = [Vec::new(), Vec::new()];
+    for _ in 0..ROUNDS {
+        times[0].push(batch(proved, &message, count));
+        times[1].push(batch(plain, &message, count));
     }
-    println!("{length} bytes, {rounds} batches of {count} each, in turn; ns a digest:");
-    for (of_one, (name, _)) in times.iter_mut().zip(digests) {
+    for of_one in &mut times {
         of_one.sort_by(f64::total_cmp);
-        println!(
-            "  {name:16} best {:8.1}  median {:8.1}",
-            of_one[0],
-            of_one[rounds / 2]
-        );
     }
-    let ratio = |at: usize| times[0][at] / times[1][at].min(times[2][at]);
-    println!(
-        "  proved / faster plain: best {:.3}  median {:.3}",
-        ratio(0),
-        ratio(rounds / 2)
-    );
+    times
 }
 
 fn main() {
     compare();
-    measure(17, 2000, 400);
-    measure(LONGEST_MESSAGE, 50, 400);
+    let rows = env::args().count() > 1;
+    if !rows {
+        println!(
+            "the digests of all lengths 0 to {} agree",
+            LONGEST_MESSAGE + 1
+        );
+    }
+    for (length, count) in [(17, 2000), (LONGEST_MESSAGE, 50)] {
+        let [proved, plain] = measure(length, count);
+        let [best, median] = [0, ROUNDS / 2].map(|at| proved[at] / plain[at]);
+        if rows {
+            println!(
+                "| {length} bytes | {:.0} | {:.0} | {best:.2} | {median:.2} |",
+                proved[0], plain[0]
+            );
+            continue;
+        }
+        println!("SHA-256 of {length} bytes");
+        for (side, times) in [("proved", &proved), ("plain", &plain)] {
+            println!(
+                "  {side:8} best {:7.1} ns  median {:7.1} ns",
+                times[0],
+                times[ROUNDS / 2]
+            );
+        }
+        println!("  proved / plain: best {best:.2}  median {median:.2}");
+    }
 }

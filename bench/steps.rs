@@ -1,0 +1,220 @@
+//! The steps that are measured, and the replicas that take them: the proved one, through its Rust wrapper, and the plain
+//! one. All at f = 5, with a card of 17 bytes and proofs of 11 entries.
+use crate::plain_sha256::unrolled as sha256;
+use crate::{plain_replica, replica};
+use std::hint::black_box;
+
+const F: u8 = 5;
+pub const QUORUM: u8 = 2 * F + 1;
+pub const OUTPUT: usize = replica::LONGEST_MESSAGE;
+
+/// A card with all fields, 17 bytes.
+pub const CARD: [u8; 17] = [
+    0x00, 0x7f, 0x1c, 0x20, 0x1c, 0x1f, 0x01, 0x18, 0x01, 0x17, 0x00, 0x01, 0xe2, 0x40, 0x01, 0x25,
+    0x80,
+];
+
+/// A replica of either kind.
+pub trait Served {
+    fn made() -> Self;
+    fn hand(&mut self, request: &Request, out: &mut [u8]) -> Result<usize, u8>;
+}
+
+impl Served for replica::Replica {
+    fn made() -> Self {
+        replica::Replica::fresh(F, replica::ReplicaId(1)).unwrap()
+    }
+
+    #[inline(always)]
+    fn hand(&mut self, request: &Request, out: &mut [u8]) -> Result<usize, u8> {
+        match self.step(&request.message, &request.verdicts, out) {
+            replica::Answer::Send(length) => Ok(length),
+            replica::Answer::Refused(number) => Err(number),
+        }
+    }
+}
+
+impl Served for plain_replica::Replica {
+    fn made() -> Self {
+        plain_replica::Replica::fresh(F, 1).unwrap()
+    }
+
+    #[inline(always)]
+    fn hand(&mut self, request: &Request, out: &mut [u8]) -> Result<usize, u8> {
+        self.step(&request.message, &request.verdicts, out)
+    }
+}
+
+/// A message with a verdict for each signature.
+#[derive(Clone, Debug)]
+pub struct Request {
+    pub message: Vec<u8>,
+    pub verdicts: Vec<u8>,
+}
+
+/// A message with `entries` entries in its proofs, and all signatures genuine.
+pub fn request(map: u16, kind: u8, sender: u8, fields: &[&[u8]], entries: u8) -> Request {
+    let parts: [&[u8]; 4] = [
+        &map.to_be_bytes(),
+        &[kind, sender],
+        &fields.concat(),
+        &[0; 64],
+    ];
+    Request {
+        message: parts.concat(),
+        verdicts: vec![1; 1 + usize::from(entries)],
+    }
+}
+
+pub fn timestamp(count: u32, client: u8) -> Vec<u8> {
+    [&count.to_be_bytes()[..], &[client]].concat()
+}
+
+/// A quorum of entries, of the first replicas, behind their number.
+fn entries() -> Vec<u8> {
+    let mut bytes = vec![QUORUM];
+    for id in 1..=QUORUM {
+        bytes.push(id);
+        bytes.extend([id ^ 0x5a; 64]);
+    }
+    bytes
+}
+
+pub fn prepared_proof(count: u32, client: u8, digest: [u8; 32]) -> Vec<u8> {
+    [timestamp(count, client), digest.to_vec(), entries()].concat()
+}
+
+pub fn written_proof(count: u32, client: u8) -> Vec<u8> {
+    [timestamp(count, client), entries()].concat()
+}
+
+pub fn read_stamp(client: u8) -> Request {
+    request(0x07, 1, client, &[&7u64.to_be_bytes()], 0)
+}
+
+pub fn read(client: u8) -> Request {
+    request(0x07, 4, client, &[&7u64.to_be_bytes()], 0)
+}
+
+pub fn write(count: u32, client: u8, card: &[u8]) -> Request {
+    let proof = prepared_proof(count, client, sha256(card));
+    let fields: [&[u8]; 3] = [&[card.len() as u8], card, &proof];
+    request(0x63, 3, client, &fields, QUORUM)
+}
+
+/// A PREPARE with both proofs, as a client's second and later writes send it.
+fn prepare(count: u32) -> Request {
+    let digest = sha256(&CARD);
+    let fields: [&[u8]; 4] = [
+        &timestamp(count, 1),
+        &digest,
+        &prepared_proof(count - 1, 1, digest),
+        &written_proof(count - 1, 1),
+    ];
+    request(0xdb, 2, 1, &fields, 2 * QUORUM)
+}
+
+/// Where the timestamps' counts stand in a WRITE of the card, and in a PREPARE with both proofs.
+const WRITE_COUNT: usize = 4 + 1 + CARD.len();
+const PREPARE_COUNTS: [usize; 3] = [4, 41, 41 + 38 + 65 * QUORUM as usize];
+
+/// A request that is handed again and again to a replica which has taken those of `before`.
+pub struct Step {
+    pub name: &'static str,
+    before: Vec<Request>,
+    request: Request,
+    /// Where the counts stand that rise by one with each step.
+    rising: Vec<usize>,
+    /// The number of the refusal that must come; none where a message must be sent.
+    refused: Option<u8>,
+}
+
+pub fn all() -> Vec<Step> {
+    let held = write(1, 1, &CARD);
+    let step = |name, request: &Request| Step {
+        name,
+        before: vec![held.clone(), prepare(2)],
+        request: request.clone(),
+        rising: Vec::new(),
+        refused: None,
+    };
+    let mut unknown_bit = read(1);
+    unknown_bit.message[0] = 0x80;
+    let mut not_genuine = held.clone();
+    not_genuine.verdicts[usize::from(QUORUM)] = 0;
+    vec![
+        Step {
+            rising: vec![WRITE_COUNT],
+            ..step("WRITE, stored", &held)
+        },
+        step("WRITE, not stored", &held),
+        step("READ", &read(1)),
+        step("READ-STAMP", &read_stamp(1)),
+        Step {
+            rising: PREPARE_COUNTS.to_vec(),
+            ..step("PREPARE, new slot", &prepare(2))
+        },
+        step("PREPARE, again", &prepare(2)),
+        Step {
+            refused: Some(3),
+            ..step("refused 3", &unknown_bit)
+        },
+        Step {
+            refused: Some(10),
+            ..step("WRITE, refused 10", &not_genuine)
+        },
+    ]
+}
+
+/// A replica that takes a step again and again.
+pub struct Taking<'a, R> {
+    step: &'a Step,
+    replica: R,
+    request: Request,
+    out: [u8; OUTPUT],
+}
+
+impl<'a, R: Served> Taking<'a, R> {
+    pub fn new(step: &'a Step) -> Self {
+        let mut replica = R::made();
+        let mut out = [0; OUTPUT];
+        for request in &step.before {
+            replica.hand(request, &mut out).unwrap();
+        }
+        Taking {
+            step,
+            replica,
+            request: step.request.clone(),
+            out,
+        }
+    }
+
+    #[inline(always)]
+    pub fn again(&mut self) {
+        for &at in &self.step.rising {
+            raise(&mut self.request.message[at..at + 4]);
+        }
+        let answer = measured_step(
+            &mut self.replica,
+            black_box(&self.request),
+            black_box(&mut self.out),
+        );
+        assert_eq!(answer.err(), self.step.refused);
+    }
+}
+
+#[inline(always)]
+fn raise(count: &mut [u8]) {
+    let raised = 1 + u32::from_be_bytes((&*count).try_into().unwrap());
+    count.copy_from_slice(&raised.to_be_bytes());
+}
+
+/// A function of its own, so that callgrind can count what it executes and nothing else.
+#[inline(never)]
+fn measured_step<R: Served>(
+    replica: &mut R,
+    request: &Request,
+    out: &mut [u8],
+) -> Result<usize, u8> {
+    replica.hand(request, out)
+}
