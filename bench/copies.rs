@@ -3,8 +3,6 @@
 //!
 //! The three functions are defined here, so that the linker takes them and not the C library's. Copies of up to about a
 //! hundred bytes of known length are no calls, and are not counted: the compiler writes them out.
-#[path = "../tests/card.rs"]
-mod card;
 mod plain_replica;
 mod plain_sha256;
 #[path = "../rust/replica.rs"]

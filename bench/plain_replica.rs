@@ -1,6 +1,6 @@
 //! A plain Rust replica, to measure the proved one by: slices and fixed arrays, no heap.
-use crate::card::{keeps_table, STARTING_CARD};
 use crate::plain_sha256::unrolled as sha256;
+use std::ops::RangeInclusive;
 
 const LONGEST_MESSAGE: usize = 1_579;
 const SIGNATURE: usize = 64;
@@ -11,29 +11,36 @@ const CLIENTS: u8 = 64;
 /// The length of a sent message, or the refusal's number.
 pub type Answer = Result<usize, u8>;
 
+/// Count and client as one number, so that order is the number's.
 #[derive(Clone, Copy, PartialEq, Eq, PartialOrd, Ord)]
-struct Timestamp {
-    count: u32,
-    client: u8,
-}
+struct Timestamp(u64);
 
 impl Timestamp {
-    const START: Timestamp = Timestamp {
-        count: 0,
-        client: 0,
-    };
+    const START: Timestamp = Timestamp(0);
 
-    fn read(bytes: &[u8]) -> Timestamp {
-        Timestamp {
-            count: u32::from_be_bytes(bytes[..4].try_into().unwrap()),
-            client: bytes[4],
-        }
+    fn new(count: u32, client: u8) -> Timestamp {
+        Timestamp(u64::from(count) << 8 | u64::from(client))
+    }
+
+    fn read(bytes: &[u8; 5]) -> Timestamp {
+        let [count @ .., client] = *bytes;
+        Timestamp::new(u32::from_be_bytes(count), client)
+    }
+
+    fn count(self) -> u32 {
+        (self.0 >> 8) as u32
+    }
+
+    fn client(self) -> u8 {
+        self.0 as u8
     }
 
     fn is_issued(self) -> bool {
-        self.count != 0 && is_client(self.client)
+        self.count() != 0 && is_client(self.client())
     }
 }
+
+const NO_DIGEST: &[u8; 32] = &[0; 32];
 
 fn is_client(number: u8) -> bool {
     (1..=CLIENTS).contains(&number)
@@ -42,7 +49,7 @@ fn is_client(number: u8) -> bool {
 #[derive(Clone, Copy)]
 struct Proof<'a> {
     timestamp: Timestamp,
-    digest: &'a [u8],
+    digest: &'a [u8; 32],
     entries: &'a [u8],
 }
 
@@ -51,9 +58,9 @@ struct Request<'a> {
     map: u16,
     kind: u8,
     sender: u8,
-    nonce: &'a [u8],
+    nonce: [u8; 8],
     timestamp: Timestamp,
-    digest: &'a [u8],
+    digest: &'a [u8; 32],
     card: &'a [u8],
     prepared: Option<Proof<'a>>,
     written: Option<Proof<'a>>,
@@ -69,19 +76,30 @@ impl<'a> Reader<'a> {
         Ok(part)
     }
 
-    fn byte(&mut self) -> Result<u8, u8> {
-        Ok(self.take(1)?[0])
+    fn array<const N: usize>(&mut self) -> Result<&'a [u8; N], u8> {
+        let (part, rest) = self.0.split_first_chunk().ok_or(4)?;
+        self.0 = rest;
+        Ok(part)
     }
 
-    fn proof(&mut self, digest: usize) -> Result<Proof<'a>, u8> {
-        let timestamp = Timestamp::read(self.take(5)?);
-        let digest = self.take(digest)?;
+    fn byte(&mut self) -> Result<u8, u8> {
+        let [byte] = self.array()?;
+        Ok(*byte)
+    }
+
+    fn timestamp(&mut self) -> Result<Timestamp, u8> {
+        self.array().map(Timestamp::read)
+    }
+
+    /// Whether a number of two bytes is there, and in a range.
+    fn number_in(&mut self, range: RangeInclusive<u16>) -> bool {
+        let in_range = |&number| range.contains(&u16::from_be_bytes(number));
+        self.array().is_ok_and(in_range)
+    }
+
+    fn entries(&mut self) -> Result<&'a [u8], u8> {
         let count = self.byte()?;
-        Ok(Proof {
-            timestamp,
-            digest,
-            entries: self.take(ENTRY * usize::from(count))?,
-        })
+        self.take(ENTRY * usize::from(count))
     }
 }
 
@@ -99,31 +117,39 @@ fn read(message: &[u8]) -> Result<Request<'_>, u8> {
         map,
         kind: rest.byte()?,
         sender: rest.byte()?,
-        nonce: &[],
+        nonce: [0; 8],
         timestamp: Timestamp::START,
-        digest: &[],
+        digest: NO_DIGEST,
         card: &[],
         prepared: None,
         written: None,
     };
     if has(2) {
-        request.nonce = rest.take(8)?;
+        request.nonce = *rest.array()?;
     }
     if has(3) {
-        request.timestamp = Timestamp::read(rest.take(5)?);
+        request.timestamp = rest.timestamp()?;
     }
     if has(4) {
-        request.digest = rest.take(32)?;
+        request.digest = rest.array()?;
     }
     if has(5) {
         let length = rest.byte()?;
         request.card = rest.take(usize::from(length))?;
     }
     if has(6) {
-        request.prepared = Some(rest.proof(32)?);
+        request.prepared = Some(Proof {
+            timestamp: rest.timestamp()?,
+            digest: rest.array()?,
+            entries: rest.entries()?,
+        });
     }
     if has(7) {
-        request.written = Some(rest.proof(0)?);
+        request.written = Some(Proof {
+            timestamp: rest.timestamp()?,
+            digest: NO_DIGEST,
+            entries: rest.entries()?,
+        });
     }
     if has(8) {
         rest.byte()?;
@@ -150,7 +176,13 @@ fn read(message: &[u8]) -> Result<Request<'_>, u8> {
 fn check(request: &Request, f: u8, verdicts: &[u8]) -> Result<(), u8> {
     let proofs = || request.prepared.iter().chain(&request.written);
     let signatures = 1 + proofs().map(|p| p.entries.len() / ENTRY).sum::<usize>();
-    if verdicts.len() != signatures || verdicts.iter().any(|&v| v > 1) {
+    // the bits that some verdict has, and those that all have
+    let (mut some, mut all) = (0, 1);
+    for verdict in verdicts {
+        some |= verdict;
+        all &= verdict;
+    }
+    if verdicts.len() != signatures || some > 1 {
         return Err(7);
     }
     if verdicts[0] == 0 {
@@ -159,7 +191,7 @@ fn check(request: &Request, f: u8, verdicts: &[u8]) -> Result<(), u8> {
     if !proofs().all(|p| is_quorum(p.entries, f)) {
         return Err(9);
     }
-    if verdicts[1..].contains(&0) {
+    if all == 0 {
         return Err(10);
     }
     let issued = request.map & 8 == 0 || request.timestamp.is_issued();
@@ -169,14 +201,38 @@ fn check(request: &Request, f: u8, verdicts: &[u8]) -> Result<(), u8> {
     Ok(())
 }
 
+/// A quorum of replicas that rise; of those only the last can be too large.
 fn is_quorum(entries: &[u8], f: u8) -> bool {
     let mut last = 0;
     entries.len() == ENTRY * usize::from(2 * f + 1)
         && entries.chunks_exact(ENTRY).all(|entry| {
-            let rises = last < entry[0] && entry[0] <= 3 * f + 1;
+            let rises = last < entry[0];
             last = entry[0];
             rises
         })
+        && last <= 3 * f + 1
+}
+
+/// Whether the bytes are a card that keeps its table. Written out, since a loop over a table takes 12 ns more.
+fn keeps_table(card: &[u8]) -> bool {
+    let Some((&[0, map], fields)) = card.split_first_chunk() else {
+        return false;
+    };
+    let has = |bit: u32| map >> bit & 1 == 1;
+    let mut rest = Reader(fields);
+    has(0) == has(1)
+        && !has(7)
+        && (!has(0) || rest.number_in(4_000..=9_000))
+        && (!has(1) || rest.number_in(4_000..=9_000))
+        && (!has(2) || rest.number_in(150..=350))
+        && (!has(3) || rest.number_in(150..=350))
+        && (!has(4)
+            || rest
+                .array()
+                .is_ok_and(|&km| u32::from_be_bytes(km) <= 2_000_000))
+        && (!has(5) || rest.byte().is_ok_and(|state| (1..=4).contains(&state)))
+        && (!has(6) || rest.take(2).is_ok())
+        && rest.0.is_empty()
 }
 
 /// Writes a reply into the front of the output.
@@ -198,9 +254,10 @@ impl<'a> Writer<'a> {
         self.length += bytes.len();
     }
 
+    #[inline(always)]
     fn timestamp(&mut self, timestamp: Timestamp) {
-        self.put(&timestamp.count.to_be_bytes());
-        self.put(&[timestamp.client]);
+        self.put(&timestamp.count().to_be_bytes());
+        self.put(&[timestamp.client()]);
     }
 
     fn sealed(mut self) -> Answer {
@@ -233,7 +290,7 @@ impl Replica {
             digests: [[0; 32]; 64],
             written: Timestamp::START,
             timestamp: Timestamp::START,
-            card_length: STARTING_CARD.len() as u8,
+            card_length: 2,
             card: [0; 17],
             digest: [0; 32],
             entry_count: 0,
@@ -255,6 +312,7 @@ impl Replica {
         }
     }
 
+    #[inline(always)]
     fn put_proof(&self, reply: &mut Writer) {
         if self.timestamp > Timestamp::START {
             reply.timestamp(self.timestamp);
@@ -270,7 +328,7 @@ impl Replica {
 
     fn read_stamp(&self, request: &Request, out: &mut [u8]) -> Answer {
         let mut reply = Writer::new(out, 0x107 | self.proof_bit(), 5, self.id);
-        reply.put(request.nonce);
+        reply.put(&request.nonce);
         self.put_proof(&mut reply);
         reply.put(&[request.sender]);
         reply.sealed()
@@ -280,29 +338,26 @@ impl Replica {
         let client = request.sender;
         if request
             .written
-            .is_some_and(|p| p.timestamp.client != client)
+            .is_some_and(|p| p.timestamp.client() != client)
         {
             return Err(12);
         }
         let shown = request.prepared.map_or(Timestamp::START, |p| p.timestamp);
-        let successor = shown.count.checked_add(1).ok_or(13)?;
+        let successor = shown.count().checked_add(1).ok_or(13)?;
         let new = request.timestamp;
-        if (new.count, new.client) != (successor, client) {
+        if new != Timestamp::new(successor, client) {
             return Err(13);
         }
         let last = request.written.map_or(Timestamp::START, |p| p.timestamp);
         let written = self.written.max(last);
         let at = usize::from(client) - 1;
-        let slot = Timestamp {
-            count: self.counts[at],
-            client,
-        };
-        if slot != new || self.digests[at] != request.digest {
-            if slot.count != 0 && (slot > written || slot >= new) {
+        let slot = Timestamp::new(self.counts[at], client);
+        if slot != new || self.digests[at] != *request.digest {
+            if slot.count() != 0 && (slot > written || slot >= new) {
                 return Err(15);
             }
-            self.counts[at] = new.count;
-            self.digests[at].copy_from_slice(request.digest);
+            self.counts[at] = new.count();
+            self.digests[at] = *request.digest;
         }
         self.written = written;
         let mut reply = Writer::new(out, 0x1b, 6, self.id);
@@ -314,7 +369,7 @@ impl Replica {
     fn write(&mut self, request: &Request, out: &mut [u8]) -> Answer {
         let proof = request.prepared.ok_or(5)?;
         let card = request.card;
-        if !keeps_table(card) || sha256(card) != proof.digest {
+        if !keeps_table(card) || sha256(card) != *proof.digest {
             return Err(14);
         }
         if proof.timestamp > self.timestamp {
@@ -322,7 +377,7 @@ impl Replica {
             self.card_length = card.len() as u8;
             self.card = [0; 17];
             self.card[..card.len()].copy_from_slice(card);
-            self.digest.copy_from_slice(proof.digest);
+            self.digest = *proof.digest;
             self.entry_count = (proof.entries.len() / ENTRY) as u8;
             self.entries[..proof.entries.len()].copy_from_slice(proof.entries);
         }
@@ -333,7 +388,7 @@ impl Replica {
 
     fn read(&self, request: &Request, out: &mut [u8]) -> Answer {
         let mut reply = Writer::new(out, 0x127 | self.proof_bit(), 8, self.id);
-        reply.put(request.nonce);
+        reply.put(&request.nonce);
         reply.put(&[self.card_length]);
         reply.put(&self.card[..usize::from(self.card_length)]);
         self.put_proof(&mut reply);

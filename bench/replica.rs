@@ -1,8 +1,6 @@
 //! Compares the proved replica with the plain one on many requests, and prints for each step of `steps` what it costs
 //! either: time, instructions (by callgrind) and bytes copied (listed by `copies`, whose output is the standard input).
 //! With the argument `rows` it prints the rows of docs/SPEED.md's table. Run by `bench/run`.
-#[path = "../tests/card.rs"]
-mod card;
 mod plain_replica;
 mod plain_sha256;
 #[path = "../rust/replica.rs"]
@@ -27,12 +25,27 @@ impl Numbers {
     }
 }
 
+/// A card, damaged in each second case: a bit is changed, or it is cut, or has a byte more.
+fn any_card(numbers: &mut Numbers) -> Vec<u8> {
+    let mut card = [&CARD[..], &[0, 0]][numbers.below(2)].to_vec();
+    match numbers.below(6) {
+        0 => {
+            let at = numbers.below(card.len());
+            card[at] ^= 1 << numbers.below(8);
+        }
+        1 => card.truncate(numbers.below(card.len())),
+        2 => card.push(0),
+        _ => {}
+    }
+    card
+}
+
 /// A request with few clients and timestamps, so that some are taken; each third has a byte changed, or is cut.
 fn any_request(numbers: &mut Numbers) -> Request {
     let client = 1 + numbers.below(3) as u8;
     let count = 1 + numbers.below(4) as u32;
-    let card: &[u8] = [&CARD[..], &[0, 0]][numbers.below(2)];
-    let digest = [sha256(card), [9; 32]][numbers.below(2)];
+    let card = any_card(numbers);
+    let digest = [sha256(&card), [9; 32]][numbers.below(2)];
     let shown = prepared_proof(count, 1 + numbers.below(3) as u8, digest);
     let last = written_proof(count, client);
     let (first, next) = (timestamp(1, client), timestamp(count + 1, client));
@@ -48,7 +61,7 @@ fn any_request(numbers: &mut Numbers) -> Request {
             &[&next, &digest, &shown, &last],
             2 * QUORUM,
         ),
-        _ => write(count, client, card),
+        _ => write(count, client, &card),
     };
     match numbers.below(9) {
         0 => {
