@@ -78,8 +78,8 @@ fn any_request(numbers: &mut Numbers) -> Request {
     any
 }
 
-/// Both are handed the same requests, and must answer and write the same.
-fn compare() {
+/// Both are handed the same requests, and must answer and write the same. How many were sent, then refused 1 to 15.
+fn compare() -> [u32; 16] {
     let mut numbers = Numbers(0x9e37_79b9_7f4a_7c15);
     let mut answers = [0u32; 16];
     for _ in 0..2_000 {
@@ -95,10 +95,10 @@ fn compare() {
             answers[answer.err().map_or(0, usize::from)] += 1;
         }
     }
-    println!("100,000 requests are answered alike; sent, then refused 1 to 15: {answers:?}");
+    answers
 }
 
-const ROUNDS: usize = 400;
+const ROUNDS: usize = 4_000;
 const BATCH: usize = 250;
 
 fn take<R: Served>(step: &Step, count: usize) -> Duration {
@@ -127,17 +127,24 @@ impl Times {
     }
 }
 
-/// The times of both sides, whose batches take turns.
-fn times(step: &Step) -> [Times; 2] {
-    let (mut proved, mut plain) = (Vec::new(), Vec::new());
+/// The times of both sides for each step. All take turns, so that a slow spell of the machine meets all of them.
+fn times(steps: &[Step]) -> Vec<[Times; 2]> {
+    let mut batches = vec![[const { Vec::new() }; 2]; steps.len()];
     for _ in 0..ROUNDS {
-        proved.push(take::<replica::Replica>(step, BATCH));
-        plain.push(take::<plain_replica::Replica>(step, BATCH));
+        for (step, [proved, plain]) in steps.iter().zip(&mut batches) {
+            proved.push(take::<replica::Replica>(step, BATCH));
+            plain.push(take::<plain_replica::Replica>(step, BATCH));
+        }
     }
-    [Times::of(proved), Times::of(plain)]
+    let of_step = |batches: [Vec<Duration>; 2]| batches.map(Times::of);
+    batches.into_iter().map(of_step).collect()
 }
 
 const SIDES: [&str; 2] = ["proved", "plain"];
+
+fn take_at<R: Served>(steps: &[Step], place: &str) {
+    take::<R>(&steps[place.parse::<usize>().unwrap()], BATCH);
+}
 
 /// Instructions a step, by callgrind on this very program; none where valgrind is missing.
 fn instructions(place: usize, side: &str) -> Option<usize> {
@@ -160,80 +167,94 @@ fn instructions(place: usize, side: &str) -> Option<usize> {
 struct Cost {
     times: Times,
     instructions: Option<usize>,
-    copied: String,
+    copied: usize,
     copies: String,
 }
 
+impl Cost {
+    /// The instructions as text.
+    fn counted(&self) -> String {
+        self.instructions.map_or(String::from("?"), grouped)
+    }
+}
+
 /// The costs of both sides; `copies` is the step's line of the list of copies.
-fn costs(place: usize, step: &Step, copies: &str) -> [Cost; 2] {
-    let mut copies = copies.split('\t').map(String::from);
-    assert_eq!(copies.next().as_deref(), Some(step.name));
-    let mut times = times(step).into_iter();
+fn costs(place: usize, times: [Times; 2], copies: &str) -> [Cost; 2] {
+    let mut copies = copies.split('\t').skip(1);
+    let mut times = times.into_iter();
     SIDES.map(|side| Cost {
         times: times.next().unwrap(),
         instructions: instructions(place, side),
-        copied: copies.next().unwrap(),
-        copies: copies.next().unwrap(),
+        copied: copies.next().unwrap().parse().unwrap(),
+        copies: copies.next().unwrap().to_string(),
     })
 }
 
-fn or_none(count: Option<usize>) -> String {
-    count.map_or(String::from("?"), |count| count.to_string())
+/// A number below a million, with a comma.
+fn grouped(number: usize) -> String {
+    match (number / 1_000, number % 1_000) {
+        (0, number) => number.to_string(),
+        (thousands, rest) => format!("{thousands},{rest:03}"),
+    }
 }
 
-fn print_costs(step: &Step, costs: &[Cost; 2]) {
+/// The cost with the medians and the copies' sizes.
+fn print_costs(step: &Step, costs: &[Cost; 2], [best, median]: [f64; 2]) {
     println!("{}", step.name);
     for (side, cost) in SIDES.iter().zip(costs) {
         println!(
             "  {side:8} best {:7.1} ns  median {:7.1} ns  {:>6} instructions  {:>6} bytes copied  {}",
             cost.times.best,
             cost.times.median,
-            or_none(cost.instructions),
-            cost.copied,
+            cost.counted(),
+            grouped(cost.copied),
             cost.copies,
         );
     }
-    let [proved, plain] = costs;
-    println!(
-        "  proved / plain: best {:.2}  median {:.2}",
-        proved.times.best / plain.times.best,
-        proved.times.median / plain.times.median
-    );
+    println!("  proved / plain: best {best:.2}  median {median:.2}");
 }
 
-fn print_row(step: &Step, [proved, plain]: &[Cost; 2]) {
+/// The cost as a row of the table.
+fn print_row(step: &Step, [proved, plain]: &[Cost; 2], [best, median]: [f64; 2]) {
     println!(
-        "| {} | {:.0} | {:.0} | {:.2} | {:.2} | {} | {} | {} | {} |",
+        "| {} | {:.0} | {:.0} | {best:.2} | {median:.2} | {} | {} | {} | {} |",
         step.name,
         proved.times.best,
         plain.times.best,
-        proved.times.best / plain.times.best,
-        proved.times.median / plain.times.median,
-        or_none(proved.instructions),
-        or_none(plain.instructions),
-        proved.copied,
-        plain.copied,
+        proved.counted(),
+        plain.counted(),
+        grouped(proved.copied),
+        grouped(plain.copied),
     );
+}
+
+fn print_all(steps: &[Step], print: impl Fn(&Step, &[Cost; 2], [f64; 2])) {
+    let copies = io::read_to_string(io::stdin()).unwrap();
+    let measured = steps.iter().zip(times(steps)).zip(copies.lines());
+    for (place, ((step, times), copies)) in measured.enumerate() {
+        let ratios = [
+            times[0].best / times[1].best,
+            times[0].median / times[1].median,
+        ];
+        print(step, &costs(place, times, copies), ratios);
+    }
 }
 
 fn main() {
     let arguments: Vec<String> = env::args().skip(1).collect();
     let steps = steps::all();
-    if let [_, place, side] = &arguments[..] {
-        let step = &steps[place.parse::<usize>().unwrap()];
-        match side.as_str() {
-            "proved" => take::<replica::Replica>(step, BATCH),
-            _ => take::<plain_replica::Replica>(step, BATCH),
-        };
-        return;
-    }
-    compare();
-    let print = match arguments.first() {
-        Some(_) => print_row,
-        None => print_costs,
-    };
-    let copies = io::read_to_string(io::stdin()).unwrap();
-    for (place, (step, copies)) in steps.iter().zip(copies.lines()).enumerate() {
-        print(step, &costs(place, step, copies));
+    match arguments.iter().map(String::as_str).collect::<Vec<_>>()[..] {
+        [] => {
+            println!(
+                "100,000 requests are answered alike; sent, then refused 1 to 15: {:?}",
+                compare()
+            );
+            print_all(&steps, print_costs);
+        }
+        ["rows"] => print_all(&steps, print_row),
+        // What callgrind runs.
+        ["take", place, "proved"] => take_at::<replica::Replica>(&steps, place),
+        ["take", place, "plain"] => take_at::<plain_replica::Replica>(&steps, place),
+        _ => panic!("usage: replica [rows] <COPIES, or replica take PLACE proved|plain"),
     }
 }

@@ -8,9 +8,9 @@ const F: u8 = 5;
 pub const QUORUM: u8 = 2 * F + 1;
 pub const OUTPUT: usize = replica::LONGEST_MESSAGE;
 
-/// A card with all fields, 17 bytes.
+/// A card with all fields, 17 bytes, each as large as it may be: one bit more is a bad card.
 pub const CARD: [u8; 17] = [
-    0x00, 0x7f, 0x1c, 0x20, 0x1c, 0x1f, 0x01, 0x18, 0x01, 0x17, 0x00, 0x01, 0xe2, 0x40, 0x01, 0x25,
+    0x00, 0x7f, 0x23, 0x28, 0x23, 0x28, 0x01, 0x5e, 0x01, 0x5e, 0x00, 0x1e, 0x84, 0x80, 0x04, 0x25,
     0x80,
 ];
 
@@ -70,10 +70,10 @@ pub fn timestamp(count: u32, client: u8) -> Vec<u8> {
     [&count.to_be_bytes()[..], &[client]].concat()
 }
 
-/// A quorum of entries, of the first replicas, behind their number.
+/// A quorum of entries, of the last replicas, behind their number.
 fn entries() -> Vec<u8> {
     let mut bytes = vec![QUORUM];
-    for id in 1..=QUORUM {
+    for id in F + 1..=3 * F + 1 {
         bytes.push(id);
         bytes.extend([id ^ 0x5a; 64]);
     }
