@@ -8,6 +8,7 @@ mod replica;
 mod steps;
 
 use plain_sha256::unrolled as sha256;
+use std::hint::black_box;
 use std::process::Command;
 use std::time::{Duration, Instant};
 use std::{env, io};
@@ -100,14 +101,26 @@ fn compare() -> [u32; 16] {
 
 const ROUNDS: usize = 4_000;
 const BATCH: usize = 250;
+const DEPTHS: usize = 32;
 
-fn take<R: Served>(step: &Step, count: usize) -> Duration {
-    let mut taking = Taking::<R>::new(step);
+fn take<R: Served>(step: &Step) -> Duration {
+    let mut taking = Box::new(Taking::<R>::new(step));
     let began = Instant::now();
-    for _ in 0..count {
+    for _ in 0..BATCH {
         taking.again();
     }
     began.elapsed()
+}
+
+/// Does something at so many levels deeper in the stack.
+#[inline(never)]
+fn deeper(levels: usize, run: &mut dyn FnMut()) {
+    let room = black_box([0u8; 32]);
+    match levels {
+        0 => run(),
+        _ => deeper(levels - 1, run),
+    }
+    black_box(room);
 }
 
 /// Nanoseconds a step: of the best batch, and of the median one.
@@ -127,14 +140,17 @@ impl Times {
     }
 }
 
-/// The times of both sides for each step. All take turns, so that a slow spell of the machine meets all of them.
+/// The times of both sides for each step. All take turns, so that a slow spell of the machine meets all of them, and each
+/// round has another place in the stack: the time of a copy depends on where its two ends lie in a page.
 fn times(steps: &[Step]) -> Vec<[Times; 2]> {
     let mut batches = vec![[const { Vec::new() }; 2]; steps.len()];
-    for _ in 0..ROUNDS {
-        for (step, [proved, plain]) in steps.iter().zip(&mut batches) {
-            proved.push(take::<replica::Replica>(step, BATCH));
-            plain.push(take::<plain_replica::Replica>(step, BATCH));
-        }
+    for round in 0..ROUNDS {
+        deeper(round % DEPTHS, &mut || {
+            for (step, [proved, plain]) in steps.iter().zip(&mut batches) {
+                proved.push(take::<replica::Replica>(step));
+                plain.push(take::<plain_replica::Replica>(step));
+            }
+        });
     }
     let of_step = |batches: [Vec<Duration>; 2]| batches.map(Times::of);
     batches.into_iter().map(of_step).collect()
@@ -143,7 +159,7 @@ fn times(steps: &[Step]) -> Vec<[Times; 2]> {
 const SIDES: [&str; 2] = ["proved", "plain"];
 
 fn take_at<R: Served>(steps: &[Step], place: &str) {
-    take::<R>(&steps[place.parse::<usize>().unwrap()], BATCH);
+    take::<R>(&steps[place.parse::<usize>().unwrap()]);
 }
 
 /// Instructions a step, by callgrind on this very program; none where valgrind is missing.
@@ -217,7 +233,7 @@ fn print_costs(step: &Step, costs: &[Cost; 2], [best, median]: [f64; 2]) {
 /// The cost as a row of the table.
 fn print_row(step: &Step, [proved, plain]: &[Cost; 2], [best, median]: [f64; 2]) {
     println!(
-        "| {} | {:.0} | {:.0} | {best:.2} | {median:.2} | {} | {} | {} | {} |",
+        "| {} | {:.1} | {:.1} | {best:.2} | {median:.2} | {} | {} | {} | {} |",
         step.name,
         proved.times.best,
         plain.times.best,
