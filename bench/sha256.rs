@@ -12,7 +12,7 @@ extern "C" {
     fn wire_sha256(message: *const u8, length: usize, out: *mut [u8; 32]) -> bool;
 }
 
-const LONGEST_MESSAGE: usize = 4096;
+const LONGEST_MESSAGE: usize = 4_096;
 
 #[inline(never)]
 fn proved(message: &[u8]) -> [u8; 32] {
@@ -76,17 +76,17 @@ fn main() {
             LONGEST_MESSAGE + 1
         );
     }
-    for (length, count) in [(17, 2000), (LONGEST_MESSAGE, 50)] {
+    for (name, length, count) in [("17 bytes", 17, 2000), ("4,096 bytes", LONGEST_MESSAGE, 50)] {
         let [proved, plain] = measure(length, count);
         let [best, median] = [0, ROUNDS / 2].map(|at| proved[at] / plain[at]);
         if rows {
             println!(
-                "| {length} bytes | {:.0} | {:.0} | {best:.2} | {median:.2} |",
+                "| {name} | {:.0} | {:.0} | {best:.2} | {median:.2} |",
                 proved[0], plain[0]
             );
             continue;
         }
-        println!("SHA-256 of {length} bytes");
+        println!("SHA-256 of {name}");
         for (side, times) in [("proved", &proved), ("plain", &plain)] {
             println!(
                 "  {side:8} best {:7.1} ns  median {:7.1} ns",
