@@ -62,7 +62,7 @@ fn sizes<R: Served>(step: &Step) -> Vec<usize> {
         .collect()
 }
 
-/// Bytes of a client's counts, and of all that a record holds beside the slots.
+/// Bytes of all slots' counts, and of what a record holds beside the slots.
 const COUNTS: usize = 256;
 const HELD: usize = 776;
 
