@@ -267,7 +267,10 @@ fn main() {
             );
             print_all(&steps, print_costs);
         }
-        ["rows"] => print_all(&steps, print_row),
+        ["rows"] => {
+            compare();
+            print_all(&steps, print_row);
+        }
         // What callgrind runs.
         ["take", place, "proved"] => take_at::<replica::Replica>(&steps, place),
         ["take", place, "plain"] => take_at::<plain_replica::Replica>(&steps, place),
