@@ -5,6 +5,7 @@ use crate::plain_sha256::unrolled as sha256;
 use std::collections::{BTreeMap, BTreeSet};
 
 /// What a replica showed in a TIMESTAMP or a CARD.
+#[derive(Clone)]
 struct Shown {
     replica: u8,
     proof: Option<PreparedProof>,
@@ -19,6 +20,7 @@ impl Shown {
     }
 }
 
+#[derive(Clone)]
 enum Phase {
     Idle,
     /// The replies are kept in the order in which they came.
@@ -46,6 +48,7 @@ enum Phase {
     },
 }
 
+#[derive(Clone)]
 pub struct Client {
     f: u8,
     id: u8,

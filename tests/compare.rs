@@ -13,9 +13,9 @@ mod plain_sha256;
 mod random;
 mod replica;
 mod script;
+mod tally;
 
 use script::{Output, Player};
-use std::collections::BTreeMap;
 use std::io::{self, Write};
 use std::process::{Command, ExitCode, Stdio};
 
@@ -66,13 +66,10 @@ fn first_difference(expected: &[Output], given: &[String]) -> Option<Difference>
     None
 }
 
-/// Plays a shrunk script anew in both. A script with a line of open meaning shows no difference.
+/// Plays a shrunk script anew in both.
 fn difference(program: &str, lines: &[String]) -> Option<Difference> {
     let mut player = Player::default();
     let expected: Vec<Output> = lines.iter().map(|line| player.play(line)).collect();
-    if player.unclear {
-        return None;
-    }
     first_difference(&expected, &run_program(program, lines).ok()?)
 }
 
@@ -154,79 +151,10 @@ impl Failure<'_> {
     }
 }
 
-/// How often each answer and each refusal occurred.
-#[derive(Default)]
-struct Tally {
-    calls: usize,
-    refused: usize,
-    occurred: BTreeMap<String, usize>,
-}
-
-impl Tally {
-    fn count(&mut self, line: &str, output: &Output) {
-        let name = match output {
-            Output::Refused(refusal) => format!("refused {refusal:2}"),
-            Output::Sent(..) => "sent".to_string(),
-            Output::Done(..) => "done".to_string(),
-            Output::Comment(_) => return,
-            other => other.to_string(),
-        };
-        *self.occurred.entry(name).or_default() += 1;
-        let line = line.strip_prefix("short ").unwrap_or(line);
-        let command = line.split(' ').next().unwrap_or(line);
-        let is_call = ["write", "read", "to-replica", "to-client"].contains(&command);
-        if is_call && *output != Output::Unread {
-            self.calls += 1;
-            self.refused += usize::from(matches!(output, Output::Refused(_)));
-        }
-    }
-
-    fn accepted(&self) -> usize {
-        self.calls - self.refused
-    }
-
-    fn print(&self) {
-        for (name, times) in &self.occurred {
-            println!("{name:12}{times:8}");
-        }
-        println!(
-            "{} calls, {} accepted, {} refused",
-            self.calls,
-            self.accepted(),
-            self.refused
-        );
-    }
-
-    /// What occurred too seldom for the comparison to mean much.
-    fn shortfalls(&self) -> Vec<String> {
-        let answers = ["sent", "counted", "done", "ended", "ready"].map(String::from);
-        let refusals = (1..=18).map(|refusal| format!("refused {refusal:2}"));
-        let mut short = Vec::new();
-        for name in answers.into_iter().chain(refusals) {
-            let seldom = ["ended", "refused 16", "refused 17"].contains(&name.as_str());
-            let least = if seldom { 10 } else { 100 };
-            let times = self.occurred.get(&name).copied().unwrap_or(0);
-            if times < least {
-                short.push(format!(
-                    "{name} occurred {times} times, wanted at least {least}"
-                ));
-            }
-        }
-        if 3 * self.accepted() < self.calls {
-            short.push(format!(
-                "{} of {} calls accepted, wanted a third",
-                self.accepted(),
-                self.calls
-            ));
-        }
-        short
-    }
-}
-
 /// Compares until `calls` calls were made. `Ok(false)` where the comparison failed.
 fn compare(program: &str, seed: u64, calls: usize) -> io::Result<bool> {
     let mut random = random::Random::new(seed);
-    let mut tally = Tally::default();
+    let mut tally = tally::Tally::default();
     while tally.calls < calls {
         let script = generate::script(&mut random);
         let given = run_program(program, &script.lines)?;

@@ -5,13 +5,22 @@ use crate::plain_sha256::unrolled as sha256;
 use crate::random::Random;
 
 /// A script takes messages up to this length.
-const LONGEST_SCRIPTED: usize = 2000;
+const LONGEST_SCRIPTED: usize = 4000;
+/// Proofs are forged with up to so many entries: more than fit into the longest message.
+const MOST_ENTRIES: usize = 24;
 
-/// What a party is handed, and whether its output is too short.
+/// What a party is handed.
 pub struct Delivery {
     pub message: Vec<u8>,
     pub verdicts: Vec<u8>,
-    pub short: bool,
+}
+
+/// The length of an output that a call is lent: around the shortest that is taken, or much too short.
+pub fn room(random: &mut Random) -> usize {
+    let near = 1560 + random.below(41);
+    let any = random.below(1601);
+    let tiny = random.below(4);
+    random.pick(&[1579, 1579, 1579, 1578, near, near, near, near, any, tiny])
 }
 
 /// A card with these bits: all values in their ranges, except that the field of bit `wrong.0` has the value `wrong.1`.
@@ -107,8 +116,8 @@ pub fn written_proof(random: &mut Random, timestamp: Timestamp, f: u8) -> Writte
 /// Puts a defect into a field, or answers false where the message has nothing of that sort.
 type Spoiler = fn(&mut Random, &mut Message, u8) -> bool;
 
-/// The ones that need a proof or a card stand twice, as many messages have none.
-const SPOILERS: [Spoiler; 18] = [
+/// Those that need a proof or a card stand twice, as many messages have none.
+const SPOILERS: [Spoiler; 20] = [
     spoil_kind,
     drop_field,
     add_field,
@@ -116,6 +125,8 @@ const SPOILERS: [Spoiler; 18] = [
     change_sender,
     spoil_entries,
     spoil_entries,
+    lengthen_proofs,
+    lengthen_proofs,
     spoil_timestamp,
     spoil_timestamp,
     change_written_client,
@@ -179,11 +190,16 @@ fn change_sender(random: &mut Random, message: &mut Message, f: u8) -> bool {
     true
 }
 
-fn spoil_entries(random: &mut Random, message: &mut Message, f: u8) -> bool {
+/// The entries of each proof that is there.
+fn quorums(message: &mut Message) -> Vec<&mut Vec<Entry>> {
     let prepared = message.prepared.iter_mut().map(|proof| &mut proof.entries);
-    let mut quorums: Vec<_> = prepared
+    prepared
         .chain(message.written.iter_mut().map(|proof| &mut proof.entries))
-        .collect();
+        .collect()
+}
+
+fn spoil_entries(random: &mut Random, message: &mut Message, f: u8) -> bool {
+    let mut quorums = quorums(message);
     if quorums.is_empty() {
         return false;
     }
@@ -203,6 +219,35 @@ fn spoil_entries(random: &mut Random, message: &mut Message, f: u8) -> bool {
         5 => entries[last].replica = replicas(f) + 1,
         6 => entries[last].replica = random.pick(&[17, 255]),
         _ => entries.clear(),
+    }
+    true
+}
+
+/// Proofs of any number of entries, most often about as many as the longest message has room for.
+fn lengthen_proofs(random: &mut Random, message: &mut Message, _: u8) -> bool {
+    let any = random.below(MOST_ENTRIES + 1);
+    let mut left = random.pick(&[any, 20, 21, 22, 22, 23, 24]);
+    let mut quorums = quorums(message);
+    if quorums.is_empty() {
+        return false;
+    }
+    if random.percent(30) {
+        quorums.swap_remove(random.below(quorums.len()));
+    }
+    while let Some(entries) = quorums.pop() {
+        let part = random.below(left + 1);
+        let number = if quorums.is_empty() {
+            left
+        } else {
+            random.pick(&[11, 11, part]).min(left)
+        };
+        left -= number;
+        *entries = (1..=number as u8)
+            .map(|replica| Entry {
+                replica,
+                signature: random.bytes(),
+            })
+            .collect();
     }
     true
 }
@@ -354,22 +399,20 @@ pub fn whole(message: &Message) -> Delivery {
     Delivery {
         message: message.encode(),
         verdicts: vec![1; message.signatures()],
-        short: false,
     }
 }
 
 /// The message with one to three defects, so that the order of the tests shows.
 pub fn spoiled(random: &mut Random, mut message: Message, f: u8) -> Delivery {
-    let mut of_sort = [0; 4];
+    let mut of_sort = [0; 3];
     for _ in 0..1 + random.weighted(&[60, 30, 10]) {
-        of_sort[random.weighted(&[65, 20, 12, 3])] += 1;
+        of_sort[random.weighted(&[66, 21, 13])] += 1;
     }
-    let [fields, verdicts, bytes, short] = of_sort;
+    let [fields, verdicts, bytes] = of_sort;
     for _ in 0..fields {
         while !random.pick(&SPOILERS)(random, &mut message, f) {}
     }
     let mut delivery = whole(&message);
-    delivery.short = short > 0;
     for _ in 0..verdicts {
         spoil_verdicts(random, &mut delivery.verdicts);
     }
@@ -392,9 +435,5 @@ pub fn garbage(random: &mut Random) -> Delivery {
         message[1] |= 3;
     }
     let verdicts = random.pick(&[vec![], vec![1], vec![0], vec![1, 1]]);
-    Delivery {
-        message,
-        verdicts,
-        short: random.percent(3),
-    }
+    Delivery { message, verdicts }
 }

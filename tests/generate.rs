@@ -5,9 +5,9 @@ use crate::message::*;
 use crate::plain_sha256::unrolled as sha256;
 use crate::random::Random;
 use crate::script::{all_genuine, hex, Output, Player, KEPT_MESSAGES};
-use std::collections::BTreeSet;
+use std::collections::{BTreeMap, BTreeSet};
 
-/// Below the 1,000,000 bytes that the proved program reads, with room for the longest line.
+/// Below the 1,048,576 bytes that the proved program reads, with room for the longest line.
 const SCRIPT_BYTES: usize = 990_000;
 
 #[derive(Default)]
@@ -75,8 +75,8 @@ const LEGAL: Style = Style {
 };
 const DAMAGED: Style = Style {
     garbage: 5,
-    disk: 1,
-    set_up: 1,
+    disk: 3,
+    set_up: 2,
     stray: 1,
     defects: 30,
     forge_request: 3,
@@ -105,6 +105,7 @@ const FAULTY_CLIENTS: Style = Style {
 };
 
 /// What the generator knows of a client from its answers.
+#[derive(Clone)]
 struct ClientView {
     id: u8,
     busy: bool,
@@ -163,7 +164,8 @@ struct Run<'a> {
     mail: Vec<Mail>,
     proofs: Vec<(PreparedProof, Vec<u8>)>,
     written: Vec<WrittenProof>,
-    kept: BTreeSet<u8>,
+    kept_replicas: BTreeSet<u8>,
+    kept_clients: BTreeMap<u8, ClientView>,
 }
 
 /// A script of runs, one after the other.
@@ -172,10 +174,6 @@ pub fn script(random: &mut Random) -> Script {
     while !script.is_full() {
         Run::new(random, &mut script).play();
     }
-    assert!(
-        !script.player.unclear,
-        "a generated line has an open meaning"
-    );
     script
 }
 
@@ -219,7 +217,8 @@ impl<'a> Run<'a> {
             mail: Vec::new(),
             proofs: Vec::new(),
             written: Vec::new(),
-            kept: BTreeSet::new(),
+            kept_replicas: BTreeSet::new(),
+            kept_clients: BTreeMap::new(),
             random,
             script,
         }
@@ -299,13 +298,9 @@ impl<'a> Run<'a> {
             true => return self.deliver(),
         };
         let id = self.clients[at].id;
-        let short = if with_defects && self.random.percent(4) {
-            "short "
-        } else {
-            ""
-        };
+        let lent = self.lent(40);
         if self.random.percent(40) {
-            return self.play_line(Party::Client(id), format!("{short}read {id}"), None);
+            return self.play_line(Party::Client(id), format!("{lent}read {id}"), None);
         }
         let card = match self.random.below(10) {
             0 if with_defects => bad_card(self.random),
@@ -314,9 +309,23 @@ impl<'a> Run<'a> {
         };
         self.play_line(
             Party::Client(id),
-            format!("{short}write {id} {}", hex(&card)),
+            format!("{lent}write {id} {}", hex(&card)),
             None,
         );
+    }
+
+    /// How a call's line begins: so many of 100 say how long an output the call is lent. Where nothing is damaged none is too short.
+    fn lent(&mut self, percent: usize) -> String {
+        if !self.random.percent(percent) {
+            return String::new();
+        }
+        let room = room(self.random);
+        let room = if self.style.defects > 0 {
+            room
+        } else {
+            room.max(LONGEST_MESSAGE)
+        };
+        format!("lent {room} ")
     }
 
     /// Plays one of the four calls and takes note of its answer. `asking` is the client that a replica answers.
@@ -398,13 +407,9 @@ impl<'a> Run<'a> {
 
     /// Hands over a message; `number` names one that was sent, with zeros for its signature.
     fn hand(&mut self, party: Party, delivery: Delivery, number: Option<usize>) {
-        let Delivery {
-            message,
-            verdicts,
-            short,
-        } = delivery;
+        let Delivery { message, verdicts } = delivery;
         let asking = message.get(3).copied();
-        let short = if short { "short " } else { "" };
+        let lent = self.lent(14);
         let genuine = verdicts == all_genuine(&message) && self.random.percent(70);
         let verdicts = if genuine {
             "+".to_string()
@@ -413,8 +418,8 @@ impl<'a> Run<'a> {
         };
         let message = number.map_or(hex(&message), |number| format!("@{number}"));
         let line = match party {
-            Party::Replica(id) => format!("{short}to-replica {id} {message} {verdicts}"),
-            Party::Client(id) => format!("{short}to-client {id} {message} {verdicts}"),
+            Party::Replica(id) => format!("{lent}to-replica {id} {message} {verdicts}"),
+            Party::Client(id) => format!("{lent}to-client {id} {message} {verdicts}"),
         };
         self.play_line(party, line, asking);
     }
@@ -636,14 +641,39 @@ impl<'a> Run<'a> {
     }
 
     fn keep_or_restore(&mut self) {
+        if self.random.percent(50) {
+            self.keep_or_restore_client();
+        } else {
+            self.keep_or_restore_replica();
+        }
+    }
+
+    fn keep_or_restore_replica(&mut self) {
         let id = self.favoured_replica();
-        let command = if self.kept.contains(&id) && self.random.percent(60) {
+        let command = if self.kept_replicas.contains(&id) && self.random.percent(60) {
             "restore"
         } else {
             "keep"
         };
-        self.kept.insert(id);
-        self.script.add(format!("{command} {id}"));
+        self.kept_replicas.insert(id);
+        self.script.add(format!("{command} replica {id}"));
+    }
+
+    /// What the generator knows of the client goes with the record.
+    fn keep_or_restore_client(&mut self) {
+        let at = self.random.below(self.clients.len());
+        let client = &mut self.clients[at];
+        let id = client.id;
+        match self.kept_clients.get(&id) {
+            Some(kept) if self.random.percent(60) => {
+                *client = kept.clone();
+                self.script.add(format!("restore client {id}"));
+            }
+            _ => {
+                self.kept_clients.insert(id, client.clone());
+                self.script.add(format!("keep client {id}"));
+            }
+        }
     }
 
     /// Mostly out of range; else the party starts afresh.
@@ -653,7 +683,7 @@ impl<'a> Run<'a> {
             let n = replicas(f.clamp(1, 5));
             let id = self.random.pick(&[0, 1, n, n + 1, n + 1, 17, 65, 255]);
             if *self.script.add(format!("replica {f} {id}")) == Output::Ready {
-                self.kept.remove(&id);
+                self.kept_replicas.remove(&id);
             }
         } else {
             let id = self.random.pick(&[0, 1, 64, 65, 65, 128, 255]);
@@ -671,7 +701,10 @@ impl<'a> Run<'a> {
             "read 40",
             "to-replica 17 - -",
             "to-client 65 - -",
-            "keep 17",
+            "keep replica 17",
+            "restore client 65",
+            "lent 1601 read 1",
+            "lent 1579 new",
             "what",
         ];
         let line = self.random.pick(&lines);

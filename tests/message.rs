@@ -236,7 +236,13 @@ impl Message {
 
     /// Tests 2 to 4: the bit map and the fields' own lengths.
     pub fn decode(bytes: &[u8]) -> Result<Message, Refusal> {
-        refuse_if(2, bytes.len() < 2 || bytes.len() > LONGEST_MESSAGE)?;
+        refuse_if(2, bytes.len() > LONGEST_MESSAGE)?;
+        Message::decode_any_length(bytes)
+    }
+
+    /// The same of a message that may be longer than the longest.
+    pub fn decode_any_length(bytes: &[u8]) -> Result<Message, Refusal> {
+        refuse_if(2, bytes.len() < 2)?;
         let map = u16::from_be_bytes([bytes[0], bytes[1]]);
         refuse_if(3, map & 0b11 != 0b11 || map >> 9 != 0)?;
         let mut reader = Reader(&bytes[2..]);

@@ -7,8 +7,8 @@ use std::fmt;
 
 /// A script may name the first messages alone by their number.
 pub const KEPT_MESSAGES: usize = 200;
-const FULL_OUTPUT: usize = 1600;
-const SHORT_OUTPUT: usize = 1578;
+/// The output that a call is lent if its line does not say.
+pub const FULL_OUTPUT: usize = 1600;
 
 /// What a script line prints.
 #[derive(Debug, PartialEq)]
@@ -78,14 +78,64 @@ pub fn all_genuine(message: &[u8]) -> Vec<u8> {
     vec![1; Message::decode(message).map_or(1, |message| message.signatures())]
 }
 
+/// The call of a line and the length of the output that it is lent: `lent N CALL` says it.
+pub fn lent(line: &str) -> Option<(&str, usize)> {
+    let Some(words) = line.strip_prefix("lent ") else {
+        return Some((line, FULL_OUTPUT));
+    };
+    let (room, call) = words.split_once(' ')?;
+    let room = room.parse().ok().filter(|room| *room <= FULL_OUTPUT)?;
+    Some((call, room))
+}
+
+/// Parties by number, and the records of some that were kept aside.
+struct Parties<T> {
+    present: BTreeMap<u8, T>,
+    kept: BTreeMap<u8, T>,
+}
+
+impl<T> Default for Parties<T> {
+    fn default() -> Parties<T> {
+        Parties {
+            present: BTreeMap::new(),
+            kept: BTreeMap::new(),
+        }
+    }
+}
+
+impl<T: Clone> Parties<T> {
+    fn set_up(&mut self, id: u8, party: Result<T, Refusal>) -> Output {
+        match party {
+            Ok(party) => {
+                self.present.insert(id, party);
+                Output::Ready
+            }
+            Err(refusal) => Output::Refused(refusal),
+        }
+    }
+
+    fn get(&mut self, id: &str) -> Option<&mut T> {
+        self.present.get_mut(&id.parse().ok()?)
+    }
+
+    fn keep(&mut self, id: &str) -> Option<Output> {
+        let id = id.parse().ok()?;
+        self.kept.insert(id, self.present.get(&id)?.clone());
+        Some(Output::Kept)
+    }
+
+    fn restore(&mut self, id: &str) -> Option<Output> {
+        let id = id.parse().ok()?;
+        self.present.insert(id, self.kept.get(&id)?.clone());
+        Some(Output::Restored)
+    }
+}
+
 #[derive(Default)]
 pub struct Player {
-    replicas: BTreeMap<u8, Replica>,
-    kept_replicas: BTreeMap<u8, Replica>,
-    clients: BTreeMap<u8, Client>,
+    replicas: Parties<Replica>,
+    clients: Parties<Client>,
     sent: Vec<Vec<u8>>,
-    /// Set by a line whose meaning the script's format leaves open; such a script is no evidence.
-    pub unclear: bool,
 }
 
 impl Player {
@@ -93,13 +143,9 @@ impl Player {
         if line.starts_with("# ") {
             return Output::Comment(line.to_string());
         }
-        let (call, room) = match line.strip_prefix("short ") {
-            Some(call) => (call, SHORT_OUTPUT),
-            None => (line, FULL_OUTPUT),
-        };
-        let words: Vec<&str> = call.split(' ').collect();
-        let output = match self.call(&words, room) {
-            None if room == FULL_OUTPUT => self.arrange(&words),
+        let words: Vec<&str> = line.split(' ').collect();
+        let output = match self.arrange(&words) {
+            None => lent(line).and_then(|(call, room)| self.call(call, room)),
             output => output,
         };
         output.unwrap_or(Output::Unread)
@@ -109,79 +155,42 @@ impl Player {
     fn arrange(&mut self, words: &[&str]) -> Option<Output> {
         match *words {
             ["new"] => {
-                *self = Player {
-                    unclear: self.unclear,
-                    ..Player::default()
-                };
+                *self = Player::default();
                 Some(Output::New)
             }
-            ["replica", f, id] => self.set_up_replica(f.parse().ok()?, id.parse().ok()?),
+            ["replica", f, id] => {
+                let (f, id) = (f.parse().ok()?, id.parse().ok()?);
+                Some(self.replicas.set_up(id, Replica::new(f, id)))
+            }
             ["client", f, id, nonce] => {
-                self.set_up_client(f.parse().ok()?, id.parse().ok()?, nonce.parse().ok()?)
+                let (f, id, nonce) = (f.parse().ok()?, id.parse().ok()?, nonce.parse().ok()?);
+                Some(self.clients.set_up(id, Client::new(f, id, nonce)))
             }
-            ["keep", id] => {
-                let id = id.parse().ok()?;
-                self.kept_replicas
-                    .insert(id, self.replicas.get(&id)?.clone());
-                Some(Output::Kept)
-            }
-            ["restore", id] => self.restore(id.parse().ok()?),
+            ["keep", "replica", id] => self.replicas.keep(id),
+            ["keep", "client", id] => self.clients.keep(id),
+            ["restore", "replica", id] => self.replicas.restore(id),
+            ["restore", "client", id] => self.clients.restore(id),
             _ => None,
         }
     }
 
-    fn set_up_replica(&mut self, f: u8, id: u8) -> Option<Output> {
-        Some(match Replica::new(f, id) {
-            Ok(replica) => {
-                self.replicas.insert(id, replica);
-                self.kept_replicas.remove(&id);
-                Output::Ready
-            }
-            Err(refusal) => Output::Refused(refusal),
-        })
-    }
-
-    fn set_up_client(&mut self, f: u8, id: u8, first_nonce: u64) -> Option<Output> {
-        Some(match Client::new(f, id, first_nonce) {
-            Ok(client) => {
-                self.clients.insert(id, client);
-                Output::Ready
-            }
-            Err(refusal) => Output::Refused(refusal),
-        })
-    }
-
-    fn restore(&mut self, id: u8) -> Option<Output> {
-        let Some(kept) = self.kept_replicas.get(&id) else {
-            self.unclear = true;
-            return None;
-        };
-        self.replicas.insert(id, kept.clone());
-        Some(Output::Restored)
-    }
-
     /// The four calls of document 01.
-    fn call(&mut self, words: &[&str], room: usize) -> Option<Output> {
+    fn call(&mut self, call: &str, room: usize) -> Option<Output> {
+        let words: Vec<&str> = call.split(' ').collect();
         let answer = match *words {
-            ["write", id, card] => self.client(id)?.begin_write(&unhex(card)?, room),
-            ["read", id] => self.client(id)?.begin_read(room),
+            ["write", id, card] => self.clients.get(id)?.begin_write(&unhex(card)?, room),
+            ["read", id] => self.clients.get(id)?.begin_read(room),
             ["to-replica", id, message, verdicts] => {
                 let (message, verdicts) = self.delivery(message, verdicts)?;
-                self.replicas
-                    .get_mut(&id.parse().ok()?)?
-                    .receive(&message, &verdicts, room)
+                self.replicas.get(id)?.receive(&message, &verdicts, room)
             }
             ["to-client", id, message, verdicts] => {
                 let (message, verdicts) = self.delivery(message, verdicts)?;
-                self.client(id)?.receive(&message, &verdicts, room)
+                self.clients.get(id)?.receive(&message, &verdicts, room)
             }
             _ => return None,
         };
         Some(self.output(answer))
-    }
-
-    fn client(&mut self, id: &str) -> Option<&mut Client> {
-        self.clients.get_mut(&id.parse().ok()?)
     }
 
     fn delivery(&mut self, message: &str, verdicts: &str) -> Option<(Vec<u8>, Vec<u8>)> {
@@ -199,11 +208,8 @@ impl Player {
             return unhex(word);
         };
         let number: usize = number.parse().ok()?;
-        if !(1..=self.sent.len().min(KEPT_MESSAGES)).contains(&number) {
-            self.unclear = true;
-            return None;
-        }
-        Some(self.sent[number - 1].clone())
+        let kept = self.sent.iter().take(KEPT_MESSAGES);
+        kept.skip(number.checked_sub(1)?).next().cloned()
     }
 
     fn output(&mut self, answer: Result<Answer, Refusal>) -> Output {

@@ -2,21 +2,37 @@
 use crate::log::Store;
 use crate::words::behind;
 use crate::words::front;
+use crate::words::word;
 use base::timestamp::Timestamp;
+use libc::STDOUT_FILENO;
 ghost use mathlib.Core.Path.{_≡_};
 ghost use lib.ListN.{length};
 
 pub enum Outcome {
-    Unread,
-    Ready,
-    Kept,
-    Restored,
+    // One of the words below.
+    Said(u8),
     Sent(usize),
-    Counted,
     Done(Timestamp),
-    Ended,
     Refused(u8),
 }
+
+// The places of the words in their list.
+pub const UNREAD: u8 = 0;
+
+pub const NEW: u8 = 1;
+
+pub const READY: u8 = 2;
+
+pub const KEPT: u8 = 3;
+
+pub const RESTORED: u8 = 4;
+
+pub const COUNTED: u8 = 5;
+
+pub const ENDED: u8 = 6;
+
+// The line itself is said.
+pub const COMMENT: u8 = 7;
 
 // An outcome, with the card of Done beside it.
 pub struct Answer {
@@ -29,9 +45,6 @@ pub struct Answer {
 const UNTOUCHED: u8 = 165;
 
 const OUTPUT: usize = 1_600;
-
-// Room for a number, the digits of the longest message and the words around them.
-const LINE: usize = 3_300;
 
 pub fn untouched() -> [u8; OUTPUT]
     ensures { λ r. ⌜ 1600 ≡ length r ⌝ }
@@ -47,14 +60,6 @@ pub fn plain(outcome: Outcome) -> Answer {
     }
 }
 
-// How many bytes of the output are the message's.
-fn sent_length(outcome: Outcome) -> usize {
-    match outcome {
-        Outcome::Sent(n) => n,
-        _ => 0,
-    }
-}
-
 fn touched(rest: &[u8]) -> bool {
     let mut i = 0;
     while i < rest.len() {
@@ -66,76 +71,93 @@ fn touched(rest: &[u8]) -> bool {
     false
 }
 
-fn put_sent(line: &mut [u8], number: u64, message: &[u8]) -> usize {
-    let mut at = text::put(line, 0, b"sent ");
-    at = text::put_number(line, at, number);
-    at = text::put(line, at, b" ");
-    text::put_hex(line, at, message)
+fn print_number(n: usize) {
+    io::print_decimal(STDOUT_FILENO, n as u64);
 }
 
-fn put_done(line: &mut [u8], timestamp: Timestamp, card: &[u8]) -> usize {
-    let mut at = text::put(line, 0, b"done ");
-    at = text::put_number(line, at, timestamp.count as u64);
-    at = text::put(line, at, b".");
-    at = text::put_number(line, at, timestamp.client.0 as u64);
-    at = text::put(line, at, b" ");
-    text::put_hex(line, at, card)
+// In one write, as text::print_hex writes each byte by itself.
+fn print_hex(bytes: &[u8]) {
+    let mut digits = [0u8; 3_200];
+    let n = text::put_hex(&mut digits, 0, bytes);
+    text::print(front(&digits, n));
 }
 
-fn put_refused(line: &mut [u8], number: u8) -> usize {
-    let at = text::put(line, 0, b"refused ");
-    text::put_number(line, at, number as u64)
+fn print_sent(number: usize, message: &[u8]) {
+    text::print(b"sent ");
+    print_number(number);
+    text::print(b" ");
+    print_hex(message);
 }
 
-// An outcome that is a word.
-fn put_word(line: &mut [u8], outcome: Outcome) -> usize {
-    match outcome {
-        Outcome::Ready => text::put(line, 0, b"ready"),
-        Outcome::Kept => text::put(line, 0, b"kept"),
-        Outcome::Restored => text::put(line, 0, b"restored"),
-        Outcome::Counted => text::put(line, 0, b"counted"),
-        Outcome::Ended => text::put(line, 0, b"ended"),
-        _ => text::put(line, 0, b"unread"),
+fn print_done(timestamp: Timestamp, card: &[u8]) {
+    text::print(b"done ");
+    print_number(timestamp.count as usize);
+    text::print(b".");
+    print_number(timestamp.client.0 as usize);
+    text::print(b" ");
+    print_hex(card);
+}
+
+fn print_refused(number: u8) {
+    text::print(b"refused ");
+    print_number(number as usize);
+}
+
+fn print_said(said: u8, line: &[u8]) {
+    if said == COMMENT {
+        text::print(line);
+        return;
     }
-}
-
-fn put_answer(line: &mut [u8], answer: Answer, number: u64, out: &[u8]) -> usize {
-    let outcome = answer.outcome;
-    let card = answer.card;
-    match outcome {
-        Outcome::Sent(n) => put_sent(line, number, front(out, n)),
-        Outcome::Done(timestamp) => {
-            put_done(line, timestamp, front(&card, answer.card_length as usize))
-        }
-        Outcome::Refused(refusal) => put_refused(line, refusal),
-        _ => put_word(line, outcome),
-    }
+    text::print(word(
+        b"unread new ready kept restored counted ended",
+        said as usize,
+    ));
 }
 
 // The line's end, behind `touched` where the call changed a byte of the output that is not the message's.
-fn put_end(line: &mut [u8], at: usize, touched: bool) -> usize {
-    if touched {
-        return text::put(line, at, b" touched\n");
+fn print_end(rest: &[u8]) {
+    if touched(rest) {
+        text::print(b" touched");
     }
-    text::put(line, at, b"\n")
+    text::print(b"\n");
 }
 
-fn print(answer: Answer, number: u64, out: &[u8], length: usize) {
-    let mut line = [0u8; LINE];
-    let at = put_answer(&mut line, answer, number, out);
-    let end = put_end(&mut line, at, touched(behind(out, length)));
-    text::print(front(&line, end));
+fn print(answer: Answer, line: &[u8], number: usize, out: &[u8]) {
+    let outcome = answer.outcome;
+    let card = answer.card;
+    match outcome {
+        Outcome::Said(said) => print_said(said, line),
+        Outcome::Sent(n) => print_sent(number, front(out, n)),
+        Outcome::Done(timestamp) => {
+            print_done(timestamp, front(&card, answer.card_length as usize));
+        }
+        Outcome::Refused(refusal) => print_refused(refusal),
+    }
 }
 
-// Prints an answer and keeps the message; `sent` came before it. Answers how many were sent with it.
-pub fn report(answer: Answer, out: &[u8; OUTPUT], store: &mut Store, sent: usize) -> usize {
+// How many bytes of the output are the message's.
+fn sent_length(outcome: Outcome) -> usize {
+    match outcome {
+        Outcome::Sent(n) => n,
+        _ => 0,
+    }
+}
+
+// How many messages were sent with this answer, after `sent` before it.
+pub fn sent_after(answer: Answer, sent: usize) -> usize {
+    let outcome = answer.outcome;
+    match outcome {
+        Outcome::Sent(_) => std::num::wrapping_add_usize(sent, 1),
+        Outcome::Said(said) => if said == NEW { 0 } else { sent },
+        _ => sent,
+    }
+}
+
+// Prints the answer to a line and keeps the message, if any; `sent` came before it.
+pub fn report(answer: Answer, line: &[u8], out: &[u8; OUTPUT], store: &mut Store, sent: usize) {
     let outcome = answer.outcome;
     let length = sent_length(outcome);
-    let number = std::num::wrapping_add_usize(sent, 1);
-    print(answer, number as u64, out, length);
-    if length == 0 {
-        return sent;
-    }
+    print(answer, line, std::num::wrapping_add_usize(sent, 1), out);
+    print_end(behind(out, length));
     crate::log::keep(store, sent, front(out, length));
-    number
 }

@@ -1,11 +1,11 @@
 // The messages sent since `new`, and what lines hand over.
 use crate::words::Numeral;
 use crate::words::behind;
-use crate::words::first;
 use crate::words::front;
 use crate::words::hex;
 use crate::words::number;
 use crate::words::rest;
+use crate::words::word;
 use wire::message::Party;
 use wire::message::Reading;
 ghost use Prim.Native.Nat.{_*_, _≤_, _<_};
@@ -16,6 +16,11 @@ const KEPT: usize = 200;
 const ROOM: usize = 1_600;
 
 pub type Store = [u8; 320_000];
+
+// What a line hands over has so much room.
+pub type Message = [u8; 4_096];
+
+pub type Verdicts = [u8; 400];
 
 // A proof's entry: signer and signature.
 const ENTRY: usize = 65;
@@ -36,7 +41,7 @@ pub fn empty() -> Store {
     [0; 320_000]
 }
 
-// Keeps a message; `sent` were sent before it.
+// Keeps a message; `sent` were sent before it. An empty one was not sent, and the next takes its place.
 pub fn keep(store: &mut Store, sent: usize, message: &[u8]) {
     if sent < KEPT {
         let at = sent * ROOM;
@@ -57,11 +62,11 @@ fn fetch(number: usize, store: &Store, to: &mut [u8]) -> Numeral
 }
 
 // The message that a word is: `@M` for one that was sent, or hex.
-fn message(word: &[u8], store: &Store, sent: usize, to: &mut [u8]) -> Numeral {
-    if !check::same(front(word, 1), b"@") {
-        return hex(word, to);
+fn message(name: &[u8], store: &Store, sent: usize, to: &mut [u8]) -> Numeral {
+    if !check::same(front(name, 1), b"@") {
+        return hex(name, to);
     }
-    let n = number(behind(word, 1));
+    let n = number(behind(name, 1));
     if n == 0 {
         return Numeral::Nothing;
     }
@@ -97,11 +102,11 @@ fn signatures(party: Party, message: &[u8]) -> u64 {
 }
 
 // The verdicts that a word is: `+` for a 1 per signature, which are there already, or hex.
-fn verdicts(word: &[u8], party: Party, message: &[u8], ones: &mut [u8]) -> Numeral {
-    if check::same(word, b"+") {
+fn verdicts(name: &[u8], party: Party, message: &[u8], ones: &mut [u8]) -> Numeral {
+    if check::same(name, b"+") {
         return Numeral::Value(signatures(party, message));
     }
-    hex(word, ones)
+    hex(name, ones)
 }
 
 // Stores the message and the verdicts that words are, and answers how many bytes each has.
@@ -110,13 +115,13 @@ pub fn handed(
     party: Party,
     store: &Store,
     sent: usize,
-    bytes: &mut [u8],
-    ones: &mut [u8],
+    bytes: &mut Message,
+    ones: &mut Verdicts,
 ) -> Lengths {
-    let Numeral::Value(n) = message(first(words), store, sent, bytes) else {
+    let Numeral::Value(n) = message(word(words, 0), store, sent, bytes) else {
         return Lengths::Nothing;
     };
-    let Numeral::Value(m) = verdicts(rest(words), party, front(bytes, n as usize), ones) else {
+    let Numeral::Value(m) = verdicts(rest(words, 1), party, front(bytes, n as usize), ones) else {
         return Lengths::Nothing;
     };
     Lengths::Both(n as usize, m as usize)

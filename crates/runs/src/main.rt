@@ -4,127 +4,65 @@
 //   write ID CARD, read ID             begin a client's write or read
 //   to-replica ID MESSAGE VERDICTS     hand a message over, `@M` for the M-th that was sent;
 //   to-client ID MESSAGE VERDICTS      as verdicts `+` for a 1 per signature
-//   short CALL                         the same with an output that is one byte too short
-//   keep ID, restore ID                copy a replica's record aside, and put it back
+//   lent N CALL                        the same with an output of N bytes, 0 to 1,600, in place of 1,600
+//   keep replica ID, keep client ID    copy a party's record aside
+//   restore replica ID, and so on      put it back
 //   # TEXT                             is printed as it stands
 // Any other line, and one about a party that is not set up, is unread.
 mod answers;
 mod clients;
 mod log;
 mod replicas;
+mod tasks;
 mod words;
 
 use libc::STDIN_FILENO;
-use words::Command;
-use words::call;
-use words::first;
+use protocol::client::Client;
+use protocol::replica::Replica;
+use tasks::place;
+use wire::message::Party;
 use words::front;
-use words::number;
-use words::rest;
-ghost use Prim.Native.Nat.{_≤_};
-
-// Whom a line is about, by the party's number, and what it asks.
-enum Subject {
-    Everyone,
-    Replica(Command, u64),
-    Client(Command, u64),
-    Nobody,
-}
 
 const SCRIPT: usize = 1_048_576;
 
-// A party's place in its table, 0 for a number that no party has.
-fn place(id: u64, last: u64) -> usize
-    ensures { λ r. ⌜ r ≤ last ⌝ }
-{
-    if id <= last {
-        return id as usize;
-    }
-    0
-}
-
-fn about_call(line: &[u8]) -> Subject {
-    let word = first(line);
-    let words = rest(line);
-    if check::same(word, b"to-replica") {
-        return Subject::Replica(Command::HandOver, number(first(words)));
-    }
-    if check::same(word, b"to-client") {
-        return Subject::Client(Command::HandOver, number(first(words)));
-    }
-    if check::same(word, b"write") {
-        return Subject::Client(Command::Write, number(first(words)));
-    }
-    if check::same(word, b"read") {
-        return Subject::Client(Command::Read, number(words));
-    }
-    Subject::Nobody
-}
-
-fn about(line: &[u8]) -> Subject {
-    let word = first(line);
-    let words = rest(line);
-    if check::same(word, b"replica") {
-        return Subject::Replica(Command::SetUp, number(rest(words)));
-    }
-    if check::same(word, b"client") {
-        return Subject::Client(Command::SetUp, number(first(rest(words))));
-    }
-    if check::same(word, b"keep") {
-        return Subject::Replica(Command::Keep, number(words));
-    }
-    if check::same(word, b"restore") {
-        return Subject::Replica(Command::Restore, number(words));
-    }
-    if check::same(line, b"new") {
-        return Subject::Everyone;
-    }
-    about_call(call(line))
-}
-
-// A line about nobody is printed if it is a comment.
-fn print_other(line: &[u8]) {
-    if check::same(front(line, 2), b"# ") {
-        text::print(line);
-        text::print(b"\n");
-        return;
-    }
-    text::print(b"unread\n");
-}
-
-fn play_lines(script: &[u8]) {
-    let mut replicas = replicas::nobody();
-    let mut clients = clients::nobody();
+fn play_lines(script: &[u8], mut replicas: [Replica; 130], mut clients: [Client; 130]) {
+    let mut held = tasks::nothing_held();
     let mut store = log::empty();
     let mut sent = 0;
     let mut from = 0;
     while from < script.len() {
         let end = text::line_end(script, from);
         let line = &script[from..end];
-        match about(line) {
-            Subject::Replica(command, id) => {
-                let at = place(id, 16);
-                let turn = replicas::turn(replicas[at], command, line, &mut store, sent);
-                let server = turn.server;
-                replicas[at] = server;
-                sent = turn.sent;
-            }
-            Subject::Client(command, id) => {
-                let at = place(id, 64);
-                let turn = clients::turn(clients[at], command, line, &mut store, sent);
-                let server = turn.server;
-                clients[at] = server;
-                sent = turn.sent;
-            }
-            Subject::Everyone => {
-                replicas = replicas::nobody();
-                clients = clients::nobody();
-                sent = 0;
-                text::print(b"new\n");
-            }
-            Subject::Nobody => print_other(line),
-        }
         from = end + 1;
+        let mut message = [0u8; 4_096];
+        let mut verdicts = [1u8; 400];
+        let mut out = answers::untouched();
+        let room = tasks::lent(line);
+        let task = tasks::of_line(line, &held, &store, sent, &mut message, &mut verdicts);
+        let party = task.party;
+        let call = task.call;
+        let taken = place(task.taken, 129);
+        let left = place(task.left, 129);
+        let lent = &mut out[0..room];
+        let answer = match party {
+            Party::Replica => {
+                let called = replicas::call(replicas[taken], call, &message, &verdicts, lent);
+                let replica = called.replica;
+                let outcome = called.outcome;
+                replicas[left] = replica;
+                answers::plain(outcome)
+            }
+            Party::Client => {
+                let called = clients::call(clients[taken], call, &message, &verdicts, lent);
+                let client = called.client;
+                let answer = called.answer;
+                clients[left] = client;
+                answer
+            }
+        };
+        answers::report(answer, line, &out, &mut store, sent);
+        sent = answers::sent_after(answer, sent);
+        held = tasks::held_after(held, task, answer);
     }
 }
 
@@ -137,7 +75,7 @@ fn read(script: &mut [u8; SCRIPT]) -> usize {
 }
 
 fn play(script: &[u8; SCRIPT], n: usize) {
-    play_lines(front(script, n));
+    play_lines(front(script, n), replicas::nobody(), clients::nobody());
 }
 
 fn main() {

@@ -1,16 +1,5 @@
 // The words of a line, parted by one space each, and what they write.
 use base::party::within;
-ghost use Prim.Native.Nat.{_≤_};
-
-// What a line asks of a party.
-pub enum Command {
-    SetUp,
-    Keep,
-    Restore,
-    Write,
-    Read,
-    HandOver,
-}
 
 // A number, which other text lacks.
 pub enum Numeral {
@@ -23,11 +12,6 @@ pub enum Byte {
     Value(u8),
     Nothing,
 }
-
-// The bytes of output that a call is lent, and those behind `short`: one less than the longest message has.
-const OUTPUT: usize = 1_600;
-
-const SHORT: usize = 1_578;
 
 const LARGEST: u64 = 18_446_744_073_709_551_615;
 
@@ -47,9 +31,9 @@ pub fn behind(bytes: &[u8], at: usize) -> &[u8] {
     &bytes[0..0]
 }
 
-// Where the first space stands, or the end.
-fn space(line: &[u8]) -> usize {
-    let mut at = 0;
+// Where the first space from a place on stands, or the end.
+fn space(line: &[u8], from: usize) -> usize {
+    let mut at = from;
     while at < line.len() {
         if line[at] == b' ' {
             return at;
@@ -59,39 +43,25 @@ fn space(line: &[u8]) -> usize {
     at
 }
 
-pub fn first(line: &[u8]) -> &[u8] {
-    front(line, space(line))
-}
-
-// What stands behind the first word.
-pub fn rest(line: &[u8]) -> &[u8] {
-    let at = space(line);
-    if at < line.len() {
-        return behind(line, at + 1);
+// Where the word with a number starts, from 0.
+fn start(line: &[u8], number: usize) -> usize {
+    let mut at = 0;
+    let mut n = 0;
+    while n < number {
+        at = std::num::wrapping_add_usize(space(line, at), 1);
+        n += 1;
     }
-    behind(line, at)
+    at
 }
 
-fn is_short(line: &[u8]) -> bool {
-    check::same(first(line), b"short")
+// A line from the word with a number on.
+pub fn rest(line: &[u8], number: usize) -> &[u8] {
+    behind(line, start(line, number))
 }
 
-// The call of a line, behind `short`.
-pub fn call(line: &[u8]) -> &[u8] {
-    if is_short(line) {
-        return rest(line);
-    }
-    line
-}
-
-// How many bytes of output the call is lent.
-pub fn lent(line: &[u8]) -> usize
-    ensures { λ r. ⌜ r ≤ 1600 ⌝ }
-{
-    if is_short(line) {
-        return SHORT;
-    }
-    OUTPUT
+pub fn word(line: &[u8], number: usize) -> &[u8] {
+    let from = rest(line, number);
+    front(from, space(from, 0))
 }
 
 pub fn decimal(word: &[u8]) -> Numeral {
@@ -142,10 +112,7 @@ pub fn hex(word: &[u8], to: &mut [u8]) -> Numeral {
         return Numeral::Nothing;
     }
     let n = text::read_hex(word, to);
-    if word.len() / 2 != n {
-        return Numeral::Nothing;
-    }
-    if word.len() % 2 != 0 {
+    if word.len() != 2 * n {
         return Numeral::Nothing;
     }
     Numeral::Value(n as u64)

@@ -6,12 +6,10 @@ use Rattle.runs.proofs.play_lines.Statement.{statement}
 use Rattle.runs.proofs.play_lines.Tie as tie
 
 abbrev Inv-loop : tie.InvT-loop
-Inv-loop script replicas₀ clients₀ store₀ sent₀ from₀ t19 replicas clients store sent from =
-    Unit {0}
+Inv-loop script replicas₀ clients₀ held₀ store₀ sent₀ from₀ replicas clients held store sent from = Unit {0}
 
 abbrev μ-loop : tie.MeasureT-loop
-μ-loop script replicas₀ clients₀ store₀ sent₀ from₀ t19 replicas clients store sent from =
-    length script - from
+μ-loop script replicas₀ clients₀ held₀ store₀ sent₀ from₀ replicas clients held store sent from = length script - from
 
 pub play-lines-spec : {M : Type 1} → statement M
 play-lines-spec =
@@ -21,35 +19,36 @@ play-lines-spec =
     μ-loop
     (λ c κs. search needs)
     (λ c κs. search needs)
-    (λ c κs. search needs)
     (λ c. search needs)
     (λ c κs. search needs)
     (λ c. search needs)
     (λ c. search needs)
     (λ c. search needs)
-    (λ c κs. search needs)
     (λ c. search needs)
     (λ c κs. search needs)
-    (λ c. search needs)
-    (λ c. search needs)
     (λ c κs. search needs)
-    (λ c. search needs)
-    (λ c. search needs)
-    (λ c. search needs)
     (λ c κs. search needs)
-    (λ c. search needs)
-    (λ c. search needs)
+    (λ c κs. search needs)
     (λ c κs. search needs)
     (λ c. search needs)
     (λ c. search needs)
     (λ c. search needs)
-    (λ c κs. search needs)
-    (λ c κs. search needs)
+    (λ c. search needs)
+    (λ c. search needs)
     (λ c. search needs)
     (λ c κs. search needs)
     (λ c. search needs)
+    (λ c. search needs)
     (λ c κs. search needs)
     (λ c. search needs)
+    (λ c. search needs)
+    (λ c. search needs)
+    (λ c κs. search needs)
+    (λ c. search needs)
+    (λ c. search needs)
+    (λ c κs. search needs)
+    (λ c κs. search needs)
+    (λ c κs. search needs)
     (λ c. search needs)
     (λ c. search needs)
     (λ c. search needs))

@@ -6,10 +6,10 @@ use Rattle.runs.proofs.words.space.Statement.{statement}
 use Rattle.runs.proofs.words.space.Tie as tie
 
 abbrev Inv-loop : tie.InvT-loop
-Inv-loop line at₀ at = Unit {0}
+Inv-loop line from at₀ at = Unit {0}
 
 abbrev μ-loop : tie.MeasureT-loop
-μ-loop line at₀ at = length line - at
+μ-loop line from at₀ at = length line - at
 
 pub space-spec : {M : Type 1} → statement M
 space-spec =

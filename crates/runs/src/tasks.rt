@@ -1,0 +1,303 @@
+// Lines as tasks: all that a line says is read here, before a record is touched.
+use crate::answers::Answer;
+use crate::answers::COMMENT;
+use crate::answers::KEPT;
+use crate::answers::NEW;
+use crate::answers::Outcome;
+use crate::answers::READY;
+use crate::answers::RESTORED;
+use crate::answers::UNREAD;
+use crate::log::Lengths;
+use crate::log::Message;
+use crate::log::Store;
+use crate::log::Verdicts;
+use crate::log::handed;
+use crate::words::Byte;
+use crate::words::Numeral;
+use crate::words::decimal;
+use crate::words::decimal_byte;
+use crate::words::front;
+use crate::words::hex;
+use crate::words::number;
+use crate::words::rest;
+use crate::words::word;
+use wire::message::Party;
+ghost use Prim.Native.Nat.{_≤_};
+
+// What is asked of a party, with the lengths of what it is handed.
+pub enum Call {
+    // f, number and first nonce; a replica has no use for the nonce.
+    SetUp(u8, u8, u64),
+    Write(usize),
+    Read,
+    HandOver(usize, usize),
+    // Its record is copied, and the word is said.
+    Copy(u8),
+}
+
+// A call, with the place of the record that it takes and the place where it leaves one.
+pub struct Task {
+    pub party: Party,
+    pub call: Call,
+    pub taken: usize,
+    pub left: usize,
+}
+
+// A party's record stands at its number, and the one kept aside so many places behind it. At 0 is nobody, for lines about none.
+const ASIDE: usize = 65;
+
+// Which places hold a record: the replicas' 130, then the clients'.
+pub type Held = [bool; 260];
+
+const FIRST_CLIENT: usize = 130;
+
+// The bytes of output that a call is lent if its line does not say.
+const OUTPUT: u64 = 1_600;
+
+// So many bytes of a card are taken.
+const CARD: u64 = 64;
+
+// The places of the commands in their list.
+const TO_REPLICA: usize = 0;
+
+const TO_CLIENT: usize = 1;
+
+const WRITE: usize = 2;
+
+const READ: usize = 3;
+
+const LENT: usize = 4;
+
+const REPLICA: usize = 5;
+
+const CLIENT: usize = 6;
+
+const KEEP: usize = 7;
+
+const RESTORE: usize = 8;
+
+const NO_COMMAND: usize = 9;
+
+pub fn nothing_held() -> Held {
+    [false; 260]
+}
+
+// A place, 0 for one behind the last.
+pub fn place(at: usize, last: usize) -> usize
+    ensures { λ r. ⌜ r ≤ last ⌝ }
+{
+    if at <= last {
+        return at;
+    }
+    0
+}
+
+// Where a party's record stands, by the word that is its number.
+fn seat(id: &[u8]) -> usize
+    ensures { λ r. ⌜ r ≤ 64 ⌝ }
+{
+    place(number(id) as usize, 64)
+}
+
+// Where it is noted whether a place holds a record.
+fn note(party: Party, at: usize) -> usize
+    ensures { λ r. ⌜ r ≤ 259 ⌝ }
+{
+    match party {
+        Party::Replica => place(at, 129),
+        Party::Client => FIRST_CLIENT + place(at, 129),
+    }
+}
+
+fn with(held: Held, at: usize) -> Held {
+    let mut after = held;
+    after[place(at, 259)] = true;
+    after
+}
+
+// What is held after a task with this answer.
+pub fn held_after(held: Held, task: Task, answer: Answer) -> Held {
+    let party = task.party;
+    let outcome = answer.outcome;
+    let Outcome::Said(word) = outcome else {
+        return held;
+    };
+    match word {
+        NEW => nothing_held(),
+        READY | KEPT => with(held, note(party, task.left)),
+        _ => held,
+    }
+}
+
+fn nobody(said: u8) -> Task {
+    Task {
+        party: Party::Client,
+        call: Call::Copy(said),
+        taken: 0,
+        left: 0,
+    }
+}
+
+// A task of a party that is set up.
+fn of_party(party: Party, call: Call, taken: usize, left: usize, held: &Held) -> Task {
+    let at = note(party, taken);
+    if !held[at] {
+        return nobody(UNREAD);
+    }
+    Task {
+        party: party,
+        call: call,
+        taken: taken,
+        left: left,
+    }
+}
+
+// Which command a word is, by its place among them.
+fn command(name: &[u8]) -> usize {
+    let mut n = 0;
+    while n < NO_COMMAND {
+        let listed = word(
+            b"to-replica to-client write read lent replica client keep restore",
+            n,
+        );
+        if check::same(listed, name) {
+            return n;
+        }
+        n += 1;
+    }
+    n
+}
+
+fn set_up(party: Party, f: &[u8], id: &[u8], nonce: &[u8]) -> Task {
+    let Byte::Value(f) = decimal_byte(f) else {
+        return nobody(UNREAD);
+    };
+    let Byte::Value(number) = decimal_byte(id) else {
+        return nobody(UNREAD);
+    };
+    let Numeral::Value(nonce) = decimal(nonce) else {
+        return nobody(UNREAD);
+    };
+    let at = seat(id);
+    Task {
+        party: party,
+        call: Call::SetUp(f, number, nonce),
+        taken: at,
+        left: at,
+    }
+}
+
+// `keep PARTY ID` and `restore PARTY ID`
+fn copy(line: &[u8], said: u8, taken: usize, left: usize, held: &Held) -> Task {
+    match command(word(line, 1)) {
+        REPLICA => of_party(Party::Replica, Call::Copy(said), taken, left, held),
+        CLIENT => of_party(Party::Client, Call::Copy(said), taken, left, held),
+        _ => nobody(UNREAD),
+    }
+}
+
+// `write ID CARD`
+fn write(line: &[u8], held: &Held, card: &mut Message) -> Task {
+    let at = seat(word(line, 1));
+    let Numeral::Value(n) = hex(rest(line, 2), card) else {
+        return nobody(UNREAD);
+    };
+    if n > CARD {
+        return nobody(UNREAD);
+    }
+    of_party(Party::Client, Call::Write(n as usize), at, at, held)
+}
+
+// `to-PARTY ID MESSAGE VERDICTS`
+fn hand_over(
+    party: Party,
+    line: &[u8],
+    held: &Held,
+    store: &Store,
+    sent: usize,
+    message: &mut Message,
+    verdicts: &mut Verdicts,
+) -> Task {
+    let at = seat(word(line, 1));
+    let Lengths::Both(n, m) = handed(rest(line, 2), party, store, sent, message, verdicts) else {
+        return nobody(UNREAD);
+    };
+    of_party(party, Call::HandOver(n, m), at, at, held)
+}
+
+fn of_call(
+    line: &[u8],
+    held: &Held,
+    store: &Store,
+    sent: usize,
+    message: &mut Message,
+    verdicts: &mut Verdicts,
+) -> Task {
+    let at = seat(rest(line, 1));
+    match command(word(line, 0)) {
+        WRITE => write(line, held, message),
+        READ => of_party(Party::Client, Call::Read, at, at, held),
+        TO_REPLICA => hand_over(Party::Replica, line, held, store, sent, message, verdicts),
+        TO_CLIENT => hand_over(Party::Client, line, held, store, sent, message, verdicts),
+        _ => nobody(UNREAD),
+    }
+}
+
+// A line that is no command.
+fn other(line: &[u8]) -> Task {
+    if check::same(line, b"new") {
+        return nobody(NEW);
+    }
+    if check::same(front(line, 2), b"# ") {
+        return nobody(COMMENT);
+    }
+    nobody(UNREAD)
+}
+
+fn is_length(word: &[u8]) -> bool {
+    match decimal(word) {
+        Numeral::Value(n) => n <= OUTPUT,
+        Numeral::Nothing => false,
+    }
+}
+
+// The call of a line, behind `lent N`.
+fn behind_lent(line: &[u8]) -> &[u8] {
+    if command(word(line, 0)) != LENT {
+        return line;
+    }
+    if is_length(word(line, 1)) {
+        return rest(line, 2);
+    }
+    front(line, 0)
+}
+
+// How many bytes of output the line's call is lent.
+pub fn lent(line: &[u8]) -> usize
+    ensures { λ r. ⌜ r ≤ 1600 ⌝ }
+{
+    if command(word(line, 0)) != LENT {
+        return 1_600;
+    }
+    place(number(word(line, 1)) as usize, 1_600)
+}
+
+// What a line asks for; stores what it hands over.
+pub fn of_line(
+    line: &[u8],
+    held: &Held,
+    store: &Store,
+    sent: usize,
+    message: &mut Message,
+    verdicts: &mut Verdicts,
+) -> Task {
+    let at = seat(rest(line, 2));
+    match command(word(line, 0)) {
+        REPLICA => set_up(Party::Replica, word(line, 1), rest(line, 2), b"0"),
+        CLIENT => set_up(Party::Client, word(line, 1), word(line, 2), rest(line, 3)),
+        KEEP => copy(line, KEPT, at, at + ASIDE, held),
+        RESTORE => copy(line, RESTORED, at + ASIDE, at, held),
+        NO_COMMAND => other(line),
+        _ => of_call(behind_lent(line), held, store, sent, message, verdicts),
+    }
+}
