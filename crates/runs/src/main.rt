@@ -82,4 +82,5 @@ fn main() {
     let mut script = empty();
     let n = read(&mut script);
     play(&script, n);
+    text::say_rest(n, SCRIPT);
 }
