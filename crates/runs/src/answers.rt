@@ -155,9 +155,10 @@ pub fn sent_after(answer: Answer, sent: usize) -> usize {
 
 // Prints the answer to a line and keeps the message, if any; `sent` came before it.
 pub fn report(answer: Answer, line: &[u8], out: &[u8; OUTPUT], store: &mut Store, sent: usize) {
+    let number = std::num::wrapping_add_usize(sent, 1);
     let outcome = answer.outcome;
     let length = sent_length(outcome);
-    print(answer, line, std::num::wrapping_add_usize(sent, 1), out);
+    print(answer, line, number, out);
     print_end(behind(out, length));
-    crate::log::keep(store, sent, front(out, length));
+    crate::log::keep(store, number, front(out, length));
 }

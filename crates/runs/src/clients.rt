@@ -43,6 +43,13 @@ fn set_up(before: Client, f: u8, id: u8, nonce: u64) -> ClientCalled {
     }
 }
 
+fn copy(client: Client, said: u8) -> ClientCalled {
+    ClientCalled {
+        client: client,
+        answer: plain(Outcome::Said(said)),
+    }
+}
+
 fn outcome(answer: ClientAnswer) -> Outcome {
     match answer {
         ClientAnswer::Send(length) => Outcome::Sent(length),
@@ -67,19 +74,16 @@ fn called(stepped: Stepped) -> ClientCalled {
     }
 }
 
-// The three calls that document 01 names.
-fn stepped(
-    client: Client,
-    call: Call,
-    message: &Message,
-    verdicts: &Verdicts,
-    out: &mut [u8],
-) -> Stepped {
-    match call {
-        Call::Write(n) => client::begin_write(client, front(message, n), out),
-        Call::HandOver(n, m) => client::step(client, front(message, n), front(verdicts, m), out),
-        _ => client::begin_read(client, out),
-    }
+fn begin_write(client: Client, card: &[u8], out: &mut [u8]) -> ClientCalled {
+    called(client::begin_write(client, card, out))
+}
+
+fn begin_read(client: Client, out: &mut [u8]) -> ClientCalled {
+    called(client::begin_read(client, out))
+}
+
+fn step(client: Client, message: &[u8], verdicts: &[u8], out: &mut [u8]) -> ClientCalled {
+    called(client::step(client, message, verdicts, out))
 }
 
 pub fn call(
@@ -91,10 +95,9 @@ pub fn call(
 ) -> ClientCalled {
     match call {
         Call::SetUp(f, id, nonce) => set_up(client, f, id, nonce),
-        Call::Copy(said) => ClientCalled {
-            client: client,
-            answer: plain(Outcome::Said(said)),
-        },
-        _ => called(stepped(client, call, message, verdicts, out)),
+        Call::Write(n) => begin_write(client, front(message, n), out),
+        Call::Read => begin_read(client, out),
+        Call::HandOver(n, m) => step(client, front(message, n), front(verdicts, m), out),
+        Call::Copy(said) => copy(client, said),
     }
 }

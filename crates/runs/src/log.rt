@@ -1,4 +1,5 @@
 // The messages sent since `new`, and what lines hand over.
+use crate::tasks::place;
 use crate::words::Numeral;
 use crate::words::behind;
 use crate::words::front;
@@ -8,14 +9,14 @@ use crate::words::rest;
 use crate::words::word;
 use wire::message::Party;
 use wire::message::Reading;
-ghost use Prim.Native.Nat.{_*_, _≤_, _<_};
+ghost use Prim.Native.Nat.{_*_, _≤_};
 
-// So many messages are kept, the first ones, each with so much room: its length in two bytes, and its bytes.
+// So many messages are kept, the first ones, each at its number with so much room: its length in two bytes, and its bytes.
 const KEPT: usize = 200;
 
 const ROOM: usize = 1_600;
 
-pub type Store = [u8; 320_000];
+pub type Store = [u8; 321_600];
 
 // What a line hands over has so much room.
 pub type Message = [u8; 4_096];
@@ -38,13 +39,13 @@ fn wide(byte: u8) -> usize
 }
 
 pub fn empty() -> Store {
-    [0; 320_000]
+    [0; 321_600]
 }
 
-// Keeps a message; `sent` were sent before it. An empty one was not sent, and the next takes its place.
-pub fn keep(store: &mut Store, sent: usize, message: &[u8]) {
-    if sent < KEPT {
-        let at = sent * ROOM;
+// Keeps the message with a number. An empty one was not sent, and the next takes its place.
+pub fn keep(store: &mut Store, number: usize, message: &[u8]) {
+    if number <= KEPT {
+        let at = number * ROOM;
         store[at] = (message.len() / 256 % 256) as u8;
         store[at + 1] = (message.len() % 256) as u8;
         text::put(store, at + 2, message);
@@ -52,13 +53,21 @@ pub fn keep(store: &mut Store, sent: usize, message: &[u8]) {
 }
 
 // The message with a number, which is one of the kept.
-fn fetch(number: usize, store: &Store, to: &mut [u8]) -> Numeral
-    requires { ⌜ number < 200 ⌝ }
-{
-    let at = number * ROOM;
+fn fetch(number: usize, store: &Store, to: &mut [u8]) -> Numeral {
+    let at = place(number, 200) * ROOM;
     let n = wide(store[at]) * 256 + wide(store[at + 1]);
     text::put(to, 0, front(behind(store, at + 2), n));
     Numeral::Value(n as u64)
+}
+
+fn is_kept(number: usize, sent: usize) -> bool {
+    if number == 0 {
+        return false;
+    }
+    if number > sent {
+        return false;
+    }
+    number <= KEPT
 }
 
 // The message that a word is: `@M` for one that was sent, or hex.
@@ -66,20 +75,14 @@ fn message(name: &[u8], store: &Store, sent: usize, to: &mut [u8]) -> Numeral {
     if !check::same(front(name, 1), b"@") {
         return hex(name, to);
     }
-    let n = number(behind(name, 1));
-    if n == 0 {
-        return Numeral::Nothing;
+    let n = number(behind(name, 1)) as usize;
+    if is_kept(n, sent) {
+        return fetch(n, store, to);
     }
-    if n > sent as u64 {
-        return Numeral::Nothing;
-    }
-    if n > 200 {
-        return Numeral::Nothing;
-    }
-    fetch((n - 1) as usize, store, to)
+    Numeral::Nothing
 }
 
-// The whole entries that have room between two places: a proof's head is shorter than an entry.
+// The whole entries that have room between two places: the heads of both proofs and what follows them are shorter than an entry.
 fn entries(from: usize, to: usize) -> usize
     ensures { λ r. ⌜ 65 * r ≤ to ⌝ }
 {
@@ -92,11 +95,7 @@ fn entries(from: usize, to: usize) -> usize
 // How many signatures a message has; one where it cannot be read.
 fn signatures(party: Party, message: &[u8]) -> u64 {
     match wire::reader::read(party, message) {
-        Reading::Message(fields) => {
-            let prepared = entries(fields.prepared, fields.written);
-            let written = entries(fields.written, fields.signature);
-            (1 + prepared + written) as u64
-        }
+        Reading::Message(fields) => (1 + entries(fields.prepared, fields.signature)) as u64,
         Reading::Refused(_) => 1,
     }
 }
