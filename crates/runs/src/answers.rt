@@ -1,5 +1,8 @@
 // What lines are answered, and how that is printed.
 use crate::log::Store;
+use crate::tasks::Held;
+use crate::tasks::Task;
+use crate::tasks::hold;
 use crate::words::behind;
 use crate::words::front;
 use crate::words::word;
@@ -144,7 +147,7 @@ fn sent_length(outcome: Outcome) -> usize {
 }
 
 // How many messages were sent with this answer, after `sent` before it.
-pub fn sent_after(answer: Answer, sent: usize) -> usize {
+fn sent_after(answer: Answer, sent: usize) -> usize {
     let outcome = answer.outcome;
     match outcome {
         Outcome::Sent(_) => std::num::wrapping_add_usize(sent, 1),
@@ -154,11 +157,27 @@ pub fn sent_after(answer: Answer, sent: usize) -> usize {
 }
 
 // Prints the answer to a line and keeps the message, if any; `sent` came before it.
-pub fn report(answer: Answer, line: &[u8], out: &[u8; OUTPUT], store: &mut Store, sent: usize) {
+fn report(answer: Answer, line: &[u8], out: &[u8; OUTPUT], store: &mut Store, sent: usize) {
     let number = std::num::wrapping_add_usize(sent, 1);
     let outcome = answer.outcome;
     let length = sent_length(outcome);
     print(answer, line, number, out);
     print_end(behind(out, length));
     crate::log::keep(store, number, front(out, length));
+}
+
+// Prints the answer to a line, and notes what it leaves.
+pub fn finish(
+    answer: Answer,
+    task: Task,
+    line: &[u8],
+    out: &[u8; OUTPUT],
+    held: &mut Held,
+    store: &mut Store,
+    sent: &mut usize,
+) {
+    let before = *sent;
+    report(answer, line, out, store, before);
+    hold(held, task, answer);
+    *sent = sent_after(answer, before);
 }

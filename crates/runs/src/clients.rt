@@ -4,10 +4,18 @@ use crate::answers::COUNTED;
 use crate::answers::ENDED;
 use crate::answers::Outcome;
 use crate::answers::READY;
+use crate::answers::finish;
 use crate::answers::plain;
+use crate::answers::untouched;
 use crate::log::Message;
+use crate::log::Store;
 use crate::log::Verdicts;
+use crate::log::handed;
 use crate::tasks::Call;
+use crate::tasks::Held;
+use crate::tasks::Task;
+use crate::tasks::behind_lent;
+use crate::tasks::lent;
 use crate::words::front;
 use base::party::ClientId;
 use base::party::Setup;
@@ -16,9 +24,9 @@ use protocol::client::Client;
 use protocol::client::ClientAnswer;
 
 // What a call leaves.
-pub struct ClientCalled {
-    pub client: Client,
-    pub answer: Answer,
+struct ClientCalled {
+    client: Client,
+    answer: Answer,
 }
 
 pub fn nobody() -> [Client; 130] {
@@ -86,7 +94,7 @@ fn step(client: Client, message: &[u8], verdicts: &[u8], out: &mut [u8]) -> Clie
     called(client::step(client, message, verdicts, out))
 }
 
-pub fn call(
+fn call(
     client: Client,
     call: Call,
     message: &Message,
@@ -100,4 +108,32 @@ pub fn call(
         Call::HandOver(n, m) => step(client, front(message, n), front(verdicts, m), out),
         Call::Copy(said) => copy(client, said),
     }
+}
+
+// What a line about a client does: answers the record that it leaves.
+pub fn turn(
+    before: Client,
+    task: Task,
+    line: &[u8],
+    held: &mut Held,
+    store: &mut Store,
+    sent: &mut usize,
+) -> Client {
+    let mut message = [0u8; 4_096];
+    let mut verdicts = [1u8; 400];
+    let mut out = untouched();
+    let room = lent(line);
+    let asked = handed(
+        task,
+        behind_lent(line),
+        store,
+        *sent,
+        &mut message,
+        &mut verdicts,
+    );
+    let called = call(before, asked, &message, &verdicts, &mut out[0..room]);
+    let client = called.client;
+    let answer = called.answer;
+    finish(answer, task, line, &out, held, store, sent);
+    client
 }

@@ -1,4 +1,7 @@
 // The messages sent since `new`, and what lines hand over.
+use crate::answers::UNREAD;
+use crate::tasks::Call;
+use crate::tasks::Task;
 use crate::tasks::place;
 use crate::words::Numeral;
 use crate::words::behind;
@@ -26,11 +29,8 @@ pub type Verdicts = [u8; 400];
 // A proof's entry: signer and signature.
 const ENTRY: usize = 65;
 
-// The lengths of a message and of its verdicts, where words are such.
-pub enum Lengths {
-    Both(usize, usize),
-    Nothing,
-}
+// So many bytes of a card are taken.
+const CARD: u64 = 64;
 
 fn wide(byte: u8) -> usize
     ensures { λ r. ⌜ r ≤ 255 ⌝ }
@@ -108,20 +108,49 @@ fn verdicts(name: &[u8], party: Party, message: &[u8], ones: &mut [u8]) -> Numer
     hex(name, ones)
 }
 
-// Stores the message and the verdicts that words are, and answers how many bytes each has.
-pub fn handed(
-    words: &[u8],
+// `to-PARTY ID MESSAGE VERDICTS`
+fn hand_over(
     party: Party,
+    line: &[u8],
     store: &Store,
     sent: usize,
     bytes: &mut Message,
     ones: &mut Verdicts,
-) -> Lengths {
-    let Numeral::Value(n) = message(word(words, 0), store, sent, bytes) else {
-        return Lengths::Nothing;
+) -> Call {
+    let Numeral::Value(n) = message(word(line, 2), store, sent, bytes) else {
+        return Call::Copy(UNREAD);
     };
-    let Numeral::Value(m) = verdicts(rest(words, 1), party, front(bytes, n as usize), ones) else {
-        return Lengths::Nothing;
+    let Numeral::Value(m) = verdicts(rest(line, 3), party, front(bytes, n as usize), ones) else {
+        return Call::Copy(UNREAD);
     };
-    Lengths::Both(n as usize, m as usize)
+    Call::HandOver(n as usize, m as usize)
+}
+
+// `write ID CARD`
+fn write(line: &[u8], card: &mut Message) -> Call {
+    let Numeral::Value(n) = hex(rest(line, 2), card) else {
+        return Call::Copy(UNREAD);
+    };
+    if n > CARD {
+        return Call::Copy(UNREAD);
+    }
+    Call::Write(n as usize)
+}
+
+// The call of a task, with what its line hands over stored; a call whose words cannot be read only copies.
+pub fn handed(
+    task: Task,
+    line: &[u8],
+    store: &Store,
+    sent: usize,
+    bytes: &mut Message,
+    ones: &mut Verdicts,
+) -> Call {
+    let call = task.call;
+    let party = task.party;
+    match call {
+        Call::Write(_) => write(line, bytes),
+        Call::HandOver(_, _) => hand_over(party, line, store, sent, bytes, ones),
+        _ => call,
+    }
 }

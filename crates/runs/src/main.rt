@@ -34,35 +34,35 @@ fn play_lines(script: &[u8], mut replicas: [Replica; 130], mut clients: [Client;
         let end = text::line_end(script, from);
         let line = &script[from..end];
         from = end + 1;
-        let mut message = [0u8; 4_096];
-        let mut verdicts = [1u8; 400];
-        let mut out = answers::untouched();
-        let room = tasks::lent(line);
-        let task = tasks::of_line(line, &held, &store, sent, &mut message, &mut verdicts);
+        let task = tasks::of_line(line, &held);
+        held = tasks::held_at(held, task);
         let party = task.party;
-        let call = task.call;
         let taken = place(task.taken, 129);
         let left = place(task.left, 129);
-        let lent = &mut out[0..room];
-        let answer = match party {
+        match party {
             Party::Replica => {
-                let called = replicas::call(replicas[taken], call, &message, &verdicts, lent);
-                let replica = called.replica;
-                let outcome = called.outcome;
+                let replica = replicas::turn(
+                    replicas[taken],
+                    task,
+                    line,
+                    &mut held,
+                    &mut store,
+                    &mut sent,
+                );
                 replicas[left] = replica;
-                answers::plain(outcome)
             }
             Party::Client => {
-                let called = clients::call(clients[taken], call, &message, &verdicts, lent);
-                let client = called.client;
-                let answer = called.answer;
+                let client = clients::turn(
+                    clients[taken],
+                    task,
+                    line,
+                    &mut held,
+                    &mut store,
+                    &mut sent,
+                );
                 clients[left] = client;
-                answer
             }
-        };
-        answers::report(answer, line, &out, &mut store, sent);
-        sent = answers::sent_after(answer, sent);
-        held = tasks::held_after(held, task, answer);
+        }
     }
 }
 

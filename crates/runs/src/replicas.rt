@@ -2,9 +2,18 @@
 use crate::answers::Outcome;
 use crate::answers::READY;
 use crate::answers::UNREAD;
+use crate::answers::finish;
+use crate::answers::plain;
+use crate::answers::untouched;
 use crate::log::Message;
+use crate::log::Store;
 use crate::log::Verdicts;
+use crate::log::handed;
 use crate::tasks::Call;
+use crate::tasks::Held;
+use crate::tasks::Task;
+use crate::tasks::behind_lent;
+use crate::tasks::lent;
 use crate::words::front;
 use base::party::ReplicaId;
 use base::party::Setup;
@@ -12,9 +21,9 @@ use protocol::replica::Replica;
 use protocol::replica::ReplicaAnswer;
 
 // What a call leaves.
-pub struct ReplicaCalled {
-    pub replica: Replica,
-    pub outcome: Outcome,
+struct ReplicaCalled {
+    replica: Replica,
+    outcome: Outcome,
 }
 
 pub fn nobody() -> [Replica; 130] {
@@ -56,7 +65,7 @@ fn step(before: Replica, message: &[u8], verdicts: &[u8], out: &mut [u8]) -> Rep
     }
 }
 
-pub fn call(
+fn call(
     replica: Replica,
     call: Call,
     message: &Message,
@@ -75,4 +84,32 @@ pub fn call(
             outcome: Outcome::Said(UNREAD),
         },
     }
+}
+
+// What a line about a replica does: answers the record that it leaves.
+pub fn turn(
+    before: Replica,
+    task: Task,
+    line: &[u8],
+    held: &mut Held,
+    store: &mut Store,
+    sent: &mut usize,
+) -> Replica {
+    let mut message = [0u8; 4_096];
+    let mut verdicts = [1u8; 400];
+    let mut out = untouched();
+    let room = lent(line);
+    let asked = handed(
+        task,
+        behind_lent(line),
+        store,
+        *sent,
+        &mut message,
+        &mut verdicts,
+    );
+    let called = call(before, asked, &message, &verdicts, &mut out[0..room]);
+    let replica = called.replica;
+    let outcome = called.outcome;
+    finish(plain(outcome), task, line, &out, held, store, sent);
+    replica
 }

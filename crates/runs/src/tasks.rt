@@ -1,4 +1,4 @@
-// Lines as tasks: all that a line says is read here, before a record is touched.
+// Lines as tasks: whom a line is about and what it asks, read before a record is touched.
 use crate::answers::Answer;
 use crate::answers::COMMENT;
 use crate::answers::KEPT;
@@ -7,24 +7,18 @@ use crate::answers::Outcome;
 use crate::answers::READY;
 use crate::answers::RESTORED;
 use crate::answers::UNREAD;
-use crate::log::Lengths;
-use crate::log::Message;
-use crate::log::Store;
-use crate::log::Verdicts;
-use crate::log::handed;
 use crate::words::Byte;
 use crate::words::Numeral;
 use crate::words::decimal;
 use crate::words::decimal_byte;
 use crate::words::front;
-use crate::words::hex;
 use crate::words::number;
 use crate::words::rest;
 use crate::words::word;
 use wire::message::Party;
 ghost use Prim.Native.Nat.{_≤_};
 
-// What is asked of a party, with the lengths of what it is handed.
+// What is asked of a party, with the lengths of what it is handed once that is read.
 pub enum Call {
     // f, number and first nonce; a replica has no use for the nonce.
     SetUp(u8, u8, u64),
@@ -53,9 +47,6 @@ const FIRST_CLIENT: usize = 130;
 
 // The bytes of output that a call is lent if its line does not say.
 const OUTPUT: u64 = 1_600;
-
-// So many bytes of a card are taken.
-const CARD: u64 = 64;
 
 // The places of the commands in their list.
 const TO_REPLICA: usize = 0;
@@ -109,22 +100,26 @@ fn note(party: Party, at: usize) -> usize
     }
 }
 
-fn with(held: Held, at: usize) -> Held {
-    let mut after = held;
-    after[place(at, 259)] = true;
-    after
-}
-
-// What is held after a task with this answer.
-pub fn held_after(held: Held, task: Task, answer: Answer) -> Held {
+// Notes the record that a task left.
+pub fn hold(held: &mut Held, task: Task, answer: Answer) {
     let party = task.party;
     let outcome = answer.outcome;
     let Outcome::Said(word) = outcome else {
-        return held;
+        return;
     };
-    match word {
-        NEW => nothing_held(),
-        READY | KEPT => with(held, note(party, task.left)),
+    if word == READY {
+        held[note(party, task.left)] = true;
+    }
+    if word == KEPT {
+        held[note(party, task.left)] = true;
+    }
+}
+
+// What is still held when a task begins: nothing at `new`.
+pub fn held_at(held: Held, task: Task) -> Held {
+    let call = task.call;
+    match call {
+        Call::Copy(said) => if said == NEW { nothing_held() } else { held },
         _ => held,
     }
 }
@@ -196,49 +191,17 @@ fn copy(line: &[u8], said: u8, taken: usize, left: usize, held: &Held) -> Task {
     }
 }
 
-// `write ID CARD`
-fn write(line: &[u8], held: &Held, card: &mut Message) -> Task {
-    let at = seat(word(line, 1));
-    let Numeral::Value(n) = hex(rest(line, 2), card) else {
-        return nobody(UNREAD);
-    };
-    if n > CARD {
-        return nobody(UNREAD);
-    }
-    of_party(Party::Client, Call::Write(n as usize), at, at, held)
+fn of_read(at: usize, held: &Held) -> Task {
+    of_party(Party::Client, Call::Read, at, at, held)
 }
 
-// `to-PARTY ID MESSAGE VERDICTS`
-fn hand_over(
-    party: Party,
-    line: &[u8],
-    held: &Held,
-    store: &Store,
-    sent: usize,
-    message: &mut Message,
-    verdicts: &mut Verdicts,
-) -> Task {
+fn of_call(line: &[u8], held: &Held) -> Task {
     let at = seat(word(line, 1));
-    let Lengths::Both(n, m) = handed(rest(line, 2), party, store, sent, message, verdicts) else {
-        return nobody(UNREAD);
-    };
-    of_party(party, Call::HandOver(n, m), at, at, held)
-}
-
-fn of_call(
-    line: &[u8],
-    held: &Held,
-    store: &Store,
-    sent: usize,
-    message: &mut Message,
-    verdicts: &mut Verdicts,
-) -> Task {
-    let at = seat(rest(line, 1));
     match command(word(line, 0)) {
-        WRITE => write(line, held, message),
-        READ => of_party(Party::Client, Call::Read, at, at, held),
-        TO_REPLICA => hand_over(Party::Replica, line, held, store, sent, message, verdicts),
-        TO_CLIENT => hand_over(Party::Client, line, held, store, sent, message, verdicts),
+        TO_REPLICA => of_party(Party::Replica, Call::HandOver(0, 0), at, at, held),
+        TO_CLIENT => of_party(Party::Client, Call::HandOver(0, 0), at, at, held),
+        WRITE => of_party(Party::Client, Call::Write(0), at, at, held),
+        READ => of_read(seat(rest(line, 1)), held),
         _ => nobody(UNREAD),
     }
 }
@@ -262,7 +225,7 @@ fn is_length(word: &[u8]) -> bool {
 }
 
 // The call of a line, behind `lent N`.
-fn behind_lent(line: &[u8]) -> &[u8] {
+pub fn behind_lent(line: &[u8]) -> &[u8] {
     if command(word(line, 0)) != LENT {
         return line;
     }
@@ -282,15 +245,8 @@ pub fn lent(line: &[u8]) -> usize
     place(number(word(line, 1)) as usize, 1_600)
 }
 
-// What a line asks for; stores what it hands over.
-pub fn of_line(
-    line: &[u8],
-    held: &Held,
-    store: &Store,
-    sent: usize,
-    message: &mut Message,
-    verdicts: &mut Verdicts,
-) -> Task {
+// What a line asks for.
+pub fn of_line(line: &[u8], held: &Held) -> Task {
     let at = seat(rest(line, 2));
     match command(word(line, 0)) {
         REPLICA => set_up(Party::Replica, word(line, 1), rest(line, 2), b"0"),
@@ -298,6 +254,6 @@ pub fn of_line(
         KEEP => copy(line, KEPT, at, at + ASIDE, held),
         RESTORE => copy(line, RESTORED, at + ASIDE, at, held),
         NO_COMMAND => other(line),
-        _ => of_call(behind_lent(line), held, store, sent, message, verdicts),
+        _ => of_call(behind_lent(line), held),
     }
 }

@@ -1,5 +1,6 @@
--- `runs::play_lines` meets its contract. Assumes nothing.
+-- `runs::play_lines` meets its contract. That a turn of the loop comes forward is two facts that lie too deep for a search. Assumes nothing.
 use Prim.Native.Nat.{_-_}
+use native.Mathlib.Omega.{arith}
 use lib.ListN.{length}
 use borrow.Author.Needs.{needs}
 use Rattle.runs.proofs.play_lines.Statement.{statement}
@@ -29,26 +30,20 @@ play-lines-spec =
     (λ c κs. search needs)
     (λ c κs. search needs)
     (λ c κs. search needs)
-    (λ c κs. search needs)
-    (λ c. search needs)
-    (λ c. search needs)
-    (λ c. search needs)
     (λ c. search needs)
     (λ c. search needs)
     (λ c. search needs)
     (λ c κs. search needs)
     (λ c. search needs)
     (λ c. search needs)
-    (λ c κs. search needs)
+    (λ c. omega (arith, c .before .before .before .before .before .before .before .before .before .before .before .before .before .line-end .ensures .behind, c .before .before .before .before .before .before .before .before .before .before .before .before .before .before .loop-test .taken))
     (λ c. search needs)
     (λ c. search needs)
-    (λ c. search needs)
-    (λ c κs. search needs)
     (λ c. search needs)
     (λ c. search needs)
     (λ c κs. search needs)
-    (λ c κs. search needs)
-    (λ c κs. search needs)
     (λ c. search needs)
+    (λ c. search needs)
+    (λ c. omega (arith, c .before .before .before .before .before .before .before .before .before .before .before .before .before .line-end .ensures .behind, c .before .before .before .before .before .before .before .before .before .before .before .before .before .before .loop-test .taken))
     (λ c. search needs)
     (λ c. search needs))
