@@ -5,8 +5,7 @@
 //   to-replica ID MESSAGE VERDICTS     hand a message over, `@M` for the M-th that was sent;
 //   to-client ID MESSAGE VERDICTS      as verdicts `+` for a 1 per signature
 //   lent N CALL                        the same with an output of N bytes, 0 to 1,600, in place of 1,600
-//   keep replica ID, keep client ID    copy a party's record aside
-//   restore replica ID, and so on      put it back
+//   keep PARTY ID, restore PARTY ID    copy a party's record aside, and put it back; PARTY is replica or client
 //   # TEXT                             is printed as it stands
 // Any other line, and one about a party that is not set up, is unread.
 mod answers;

@@ -79,6 +79,7 @@ fn call(
             replica: replica,
             outcome: Outcome::Said(said),
         },
+        // A replica begins nothing.
         _ => ReplicaCalled {
             replica: replica,
             outcome: Outcome::Said(UNREAD),
