@@ -23,6 +23,9 @@ use wrapper::{Answer, ReplicaId, LONGEST_MESSAGE};
 
 const UNTOUCHED: u8 = 165;
 
+// A line that does not say how much it lends lends enough.
+const _: () = assert!(script::FULL_OUTPUT >= LONGEST_MESSAGE);
+
 /// What was handed to a replica: message, verdicts, and the length of the output.
 #[derive(Clone)]
 struct Request {
@@ -38,7 +41,6 @@ struct Server {
     id: u8,
     replica: wrapper::Replica,
     requests: Vec<Request>,
-    kept: Option<usize>,
 }
 
 impl Server {
@@ -48,8 +50,16 @@ impl Server {
             id,
             replica: wrapper::Replica::fresh(f, ReplicaId(id))?,
             requests: Vec::new(),
-            kept: None,
         })
+    }
+
+    fn copy(&self) -> Option<Server> {
+        let mut copy = Server::set_up(self.f, self.id)?;
+        for request in &self.requests {
+            // what it answered then was compared when it was handed over
+            copy.hand_over(request.clone())?.ok();
+        }
+        Some(copy)
     }
 
     /// The message sent, or the refusal's number; `None` where the output has another byte than it should.
@@ -73,24 +83,12 @@ impl Server {
             Answer::Refused(refusal) => Err(refusal),
         })
     }
-
-    fn restore(&mut self) -> Option<()> {
-        let kept = self.kept?;
-        let requests: Vec<Request> = self.requests.drain(..).take(kept).collect();
-        let mut fresh = Server::set_up(self.f, self.id)?;
-        for request in requests {
-            // what it answered then was compared when it was handed over
-            fresh.hand_over(request)?.ok();
-        }
-        fresh.kept = Some(kept);
-        *self = fresh;
-        Some(())
-    }
 }
 
 #[derive(Default)]
 struct Library {
     servers: BTreeMap<u8, Server>,
+    kept: BTreeMap<u8, Server>,
 }
 
 impl Library {
@@ -104,21 +102,21 @@ impl Library {
 
     /// Whether the library does what the model does with a line about a replica, whose messages are spelled out.
     fn agrees(&mut self, line: &str, expected: &Output) -> Option<bool> {
-        let (call, room) = match line.strip_prefix("short ") {
-            Some(call) => (call, LONGEST_MESSAGE - 1),
-            None => (line, LONGEST_MESSAGE + 21),
-        };
+        let (call, room) = script::lent(line)?;
         let words: Vec<&str> = call.split(' ').collect();
         match *words {
-            ["new"] => self.servers.clear(),
+            ["new"] => *self = Library::default(),
             ["replica", f, id] => {
                 return Some(self.set_up(f.parse().ok()?, id.parse().ok()?) == *expected)
             }
-            ["keep", id] => {
-                let server = self.servers.get_mut(&id.parse().ok()?)?;
-                server.kept = Some(server.requests.len());
+            ["keep", "replica", id] => {
+                let id = id.parse().ok()?;
+                self.kept.insert(id, self.servers.get(&id)?.copy()?);
             }
-            ["restore", id] => self.servers.get_mut(&id.parse().ok()?)?.restore()?,
+            ["restore", "replica", id] => {
+                let id = id.parse().ok()?;
+                self.servers.insert(id, self.kept.get(&id)?.copy()?);
+            }
             ["to-replica", id, message, verdicts] => {
                 let message = unhex(message)?;
                 let verdicts = match verdicts {

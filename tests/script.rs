@@ -8,7 +8,7 @@ use std::fmt;
 /// A script may name the first messages alone by their number.
 pub const KEPT_MESSAGES: usize = 200;
 /// The output that a call is lent if its line does not say.
-const FULL_OUTPUT: usize = 1600;
+pub const FULL_OUTPUT: usize = 1600;
 
 /// What a script line prints.
 #[derive(Debug, PartialEq)]
