@@ -3,15 +3,13 @@ use mathlib.Core.Path.{_≡_, refl}
 use mathlib.Core.Logic.{_⊎_, inl, inr, ⊎-elim, _↔_}
 use mathlib.Core.Option.{none, some}
 use mathlib.Core.Bool.{Bool, true, false, cond}
-use Prim.Native.Nat.{ℕ, _+_, _*_, _/_, _%_, _^_, _<_}
+use Prim.Native.Nat.{ℕ, _+_, _*_, _/_, _%_, _<_}
 use native.Mathlib.Omega.{arith}
 use borrow.Author.Tests.{eqb-true, eqb-false}
 use lib.Dec.{eqb}
-use Rattle.base.specs.BigEndian.{fromBytes, toBytes}
 use Rattle.base.specs.Timestamp.{number, ofNumber, successor}
 use Rattle.base.specs.declared.party.ClientId.{ClientId}
 use Rattle.base.specs.declared.timestamp.Timestamp.{Timestamp}
-use Rattle.base.proofs.BigEndian.{fromBytes-toBytes}
 
 -- A timestamp is told by its number.
 pub ofNumber-number : (t : Timestamp) → t .client .0 < 256 → ofNumber (number t) ≡ t
@@ -44,7 +42,3 @@ successor-number t s client h e = go (eqb (t .count) 4_294_967_295) e
     go false k =
         let made : _≡_ {A = Timestamp} (record { count = t .count + 1; client = client }) s = cc in
         rw (← made) (omega arith)
-
--- Writing a timestamp's five bytes then reading them returns it.
-pub timestamp-bytes : (t : Timestamp) → t .count < 2 ^ 32 → t .client .0 < 256 → ofNumber (fromBytes (toBytes 5 (number t))) ≡ t
-timestamp-bytes t hc hd = rw (fromBytes-toBytes 5 (number t) (omega arith)) (ofNumber-number t hd)

@@ -20,9 +20,6 @@ has set id = within 1 16 (id .0) && eqb (set .0 / 2 ^ (id .0 - 1) % 2) 1
 unfoldable pub with : ReplicaSet → ReplicaId → ReplicaSet
 with set id = cond (within 1 16 (id .0)) (record { 0 = bitOr (set .0) (2 ^ (id .0 - 1)) }) set
 
-abbrev pub size : ReplicaSet → ℕ
-size set = count 16 (has set)
-
 -- Document 01: "A quorum is q = 2f + 1 different holders", of the holders 1 to n.
 abbrev pub isQuorum : ℕ → ReplicaSet → Bool
 isQuorum f set = leb (quorumSize f) (count (replicaCount f) (has set))

@@ -1,7 +1,7 @@
 // Sets of replicas, a bit for each: replica 1 is the lowest.
 use crate::party::ReplicaId;
 ghost use mathlib.Core.Path.{_≡_};
-ghost use Rattle.base.specs.ReplicaSet.{empty, has, with, size, isQuorum};
+ghost use Rattle.base.specs.ReplicaSet.{empty, has, with, isQuorum};
 
 pub struct ReplicaSet(pub u16);
 
@@ -39,12 +39,6 @@ impl ReplicaSet {
         }
         let one: u16 = 1;
         ReplicaSet(self.0 | (one << (number - 1)))
-    }
-
-    pub fn size(self) -> u32
-        ensures { λ r. ⌜ r ≡ size self ⌝ }
-    {
-        u16::count_ones(self.0)
     }
 
     // Whether the set has a quorum of the replicas 1 to n.

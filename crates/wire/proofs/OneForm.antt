@@ -13,7 +13,7 @@ use lib.Seq.{drop-drop, length-take-le}
 use Rattle.base.specs.BigEndian.{fromBytes, toBytes, Bytes}
 use Rattle.base.specs.BitMap.{bit, mapOf}
 use Rattle.base.specs.Outcome.{accepted}
-use Rattle.wire.specs.Decode.{decode, kindIn, cardIn, takerOf}
+use Rattle.wire.specs.Decode.{decode, kindIn, cardIn}
 use Rattle.wire.specs.Layout.{Rule, fixed, extent, rules, mapIn, place, field, signature}
 use Rattle.wire.specs.Message.{Message, preparedField, writtenField, fields, joined, body, encode, IsDigest, IsSignature, PreparedFits, WrittenFits, IfThere, CardFits, Fits, Legal, size}
 use Rattle.wire.specs.Proof.{preparedFrom, writtenFrom}
@@ -231,16 +231,6 @@ module _ (bytes : List ℕ) (f : Framed bytes) (small : Bytes bytes) where
   message-fields kind party k (card e) =
       rw (kind-back kind k, sender-back, nonce-back (cc), card-back (cc), prepared-part, addressed-back (cc)) (by-bits _ e)
 
-message-taker : (map kind : ℕ) (party : Party) (t : Taken map kind party) (bytes : List ℕ) → party ≡ takerOf (messageOf t bytes)
-message-taker map kind party (read-stamp e) bytes = refl
-message-taker map kind party (prepare e) bytes = refl
-message-taker map kind party (write e) bytes = refl
-message-taker map kind party (read e) bytes = refl
-message-taker map kind party (stamp e) bytes = refl
-message-taker map kind party (prepared e) bytes = refl
-message-taker map kind party (written e) bytes = refl
-message-taker map kind party (card e) bytes = refl
-
 module _ (party : Party) (bytes : List ℕ) (m : Message) (e : decode party bytes ≡ accepted m) where
   decode-passed : Tested party bytes
   unfolding decode
@@ -248,9 +238,6 @@ module _ (party : Party) (bytes : List ℕ) (m : Message) (e : decode party byte
 
   found : messageOf (decode-passed .passed .taken) bytes ≡ m
   found = cc (decode-tested party bytes decode-passed)
-
-  pub decoded-taker : party ≡ takerOf m
-  decoded-taker = rw (← found) (message-taker (mapIn bytes) (kindIn bytes) party (decode-passed .passed .taken) bytes)
 
   pub signature-size : length (signature bytes) ≡ 64
   signature-size = let end = decode-passed .framed .ends in rw length-drop (omega arith)

@@ -1,29 +1,26 @@
 -- What an accepted reading says, kind by kind; reading and decoding refuse alike. Assumes nothing.
 use mathlib.Core.Path.{_≡_, refl, sym, ap, subst, _∙_}
 use mathlib.Core.Bool.{Bool, true, false, cond}
-use mathlib.Core.Logic.{_⊎_, inl, inr, ⊎-elim}
+use mathlib.Core.Logic.{_⊎_, inl, inr}
 use mathlib.Core.List.{List, [], _∷_}
 use mathlib.Core.Option.{Option, none, some}
-use Prim.Native.Nat.{ℕ, suc, _+_, _*_, _≤_, _<_}
-use native.Mathlib.Nat.{add-zero}
+use Prim.Native.Nat.{ℕ, _+_, _≤_}
 use native.Mathlib.Omega.{arith}
 use lib.Dec.{eqb}
-use lib.ListN.{length, getD, take, drop}
-use lib.Seq.{drop-cons, drop-drop, getD-drop}
-use Rattle.base.specs.BigEndian.{fromBytes}
+use lib.ListN.{length, take, drop}
 use Rattle.base.specs.BitMap.{bit}
 use Rattle.base.specs.Outcome.{Outcome, accepted, refused, guard}
 use Rattle.base.specs.Range.{within}
 use Rattle.base.specs.Timestamp.{number}
 use Rattle.base.proofs.Timestamps.{number-ofNumber}
 use Rattle.wire.specs.Decode.{Kind, kinds, suits, ofKind, goodMap, framed, tested, decode, reading, fieldsIn, kindIn, clientIn, replicaIn, nonceIn, timestampIn, digestIn, cardIn, addressedIn, optional, preparedIn, writtenIn}
-use Rattle.wire.specs.Layout.{fixed, extent, preparedRule, writtenRule, rules, mapIn, place, field}
+use Rattle.wire.specs.Layout.{extent, preparedRule, writtenRule, rules, mapIn, place, field}
 use Rattle.wire.specs.Message.{Message, READ-STAMP, PREPARE, WRITE, READ, STAMP, PREPARED, WRITTEN, CARD, longest}
 use Rattle.wire.specs.Proof.{PreparedProof, WrittenProof, preparedFrom, writtenFrom, readPrepared, readWritten}
 use Rattle.wire.specs.declared.message.Fields.{Fields}
 use Rattle.wire.specs.declared.message.Party.{Party}
 use Rattle.wire.specs.declared.message.Party.the-variants.{Replica, Client}
-use Rattle.wire.proofs.Framed.{Framed, framed-passes, framed-accepted, field-part, first-bits, field-whole, place-rises, place-within, place-one, place-two}
+use Rattle.wire.proofs.Framed.{Framed, framed-passes, framed-accepted, field-part, field-whole, place-rises, place-within, place-one, place-two}
 use Rattle.wire.proofs.ProofBytes.{accepts-prepared, accepts-written}
 use Rattle.wire.proofs.Rows.{Taken, read-stamp, prepare, write, read, stamp, prepared, written, card, Passed, row, accepted-passed}
 
@@ -61,34 +58,10 @@ module _ (bytes : List ℕ) (f : Framed bytes) where
       go true set = rw (accepts-written (field bytes 7) (written-whole set))
       go false set = refl
 
-  -- One byte is its number.
-  byte-at : (b at : ℕ) → getD rules b (fixed 0) ≡ fixed 1 → bit (mapIn bytes) b ≡ true → place bytes b ≡ at → at < length bytes → fromBytes (field bytes b) ≡ getD bytes at 0
-  unfolding fromBytes
-  byte-at b at rule set here h = rw (field-part bytes b set, rule, here, drop-cons bytes at 0 h) (omega arith)
-
-  -- The kind stands at 2, the sender at 3.
-  pub kind-at : kindIn bytes ≡ getD bytes 2 0
-  unfolding rules place
-  kind-at = byte-at 0 2 refl (first-bits bytes f .0) refl (omega (arith, place-within bytes f 9 (omega arith), place-rises bytes 0 9 (omega arith)))
-
-  pub sender-at : fromBytes (field bytes 1) ≡ getD bytes 3 0
-  unfolding rules
-  sender-at = byte-at 1 3 refl (first-bits bytes f .1) (place-one bytes f) (omega (arith, place-within bytes f 1 (omega arith), place-one bytes f))
-
--- The digest and the card where they stand.
+-- The digest where it stands.
 pub digest-part : (bytes : List ℕ) → bit (mapIn bytes) 4 ≡ true → digestIn bytes ≡ take 32 (drop (place bytes 4) bytes)
 unfolding rules
 digest-part bytes set = field-part bytes 4 set
-
-pub card-part : (bytes : List ℕ) → bit (mapIn bytes) 5 ≡ true → cardIn bytes ≡ take (getD bytes (place bytes 5) 0) (drop (place bytes 5 + 1) bytes)
-unfolding rules
-card-part bytes set =
-    let at = place bytes 5 in
-    rw (field-part bytes 5 set) (go (drop at bytes) ∙ rw (getD-drop at bytes 0 0, add-zero at, drop-drop 1 at bytes))
-  where
-    go : (x : List ℕ) → drop 1 (take (1 + 1 * getD x 0 0) x) ≡ take (getD x 0 0) (drop 1 x)
-    go [] = refl
-    go (c ∷ cs) = let more : 1 + 1 * c ≡ suc c = omega arith in rw more
 
 -- The message of bytes that the table lets through.
 abbrev pub messageOf : {map kind : ℕ} {party : Party} → Taken map kind party → List ℕ → Message
@@ -261,40 +234,12 @@ module _ {A B : Type 0} (n : ℕ) where
       guard-alike 2 (within 2 longest (length bytes)) (guard 3 three (guard 4 four x)) (guard 3 three (guard 4 four y))
       (guard-alike 3 three (guard 4 four x) (guard 4 four y) (guard-alike 4 four x y (rows-alike party (mapIn bytes) (kindIn bytes) kinds a next))) e
 
--- Reading and decoding refuse alike.
+-- What reading refuses, decoding refuses.
 pub decode-refused : (party : Party) (bytes : List ℕ) (n : ℕ) → reading party bytes ≡ refused n → decode party bytes ≡ refused n
 unfolding reading decode
 decode-refused party bytes n e = tested-alike n party bytes (fieldsIn bytes) (λ row. row .message bytes) e
 
-pub reading-refused : (party : Party) (bytes : List ℕ) (n : ℕ) → decode party bytes ≡ refused n → reading party bytes ≡ refused n
-reading-refused party bytes n e = go (reading party bytes) refl
-  where
-    go : (o : Outcome Fields) → reading party bytes ≡ o → reading party bytes ≡ refused n
-    go (accepted fs) r = let p = parsed party bytes fs r .decodes in let z : _≡_ {A = ℕ} 0 1 = cc in absurd (omega arith)
-    go (refused k) r = let d = decode-refused party bytes k r in cc
-
--- And accept alike.
+-- What decoding accepts, reading accepts.
 pub decode-accepted : (party : Party) (bytes : List ℕ) (m : Message) → decode party bytes ≡ accepted m → reading party bytes ≡ accepted (fieldsIn bytes)
 unfolding decode
 decode-accepted party bytes m e = reading-tested party bytes (tested-accepted party bytes (λ row. row .message bytes) m e)
-
--- 5: what the table does not let through.
-rows-refuse : {A : Type 0} (party : Party) (map number : ℕ) (rows : List Kind) (a : A)
-    → (ofKind party map number rows (λ row. accepted a) ≡ accepted a) ⊎ (ofKind party map number rows (λ row. accepted a) ≡ refused 5)
-unfolding ofKind
-rows-refuse party map number [] a = inr refl
-rows-refuse party map number (r ∷ rows) a = go (eqb number (r .number)) (suits party map r) (rows-refuse party map number rows a)
-  where
-    go : (t s : Bool) → (ofKind party map number rows (λ row. accepted a) ≡ accepted a) ⊎ (ofKind party map number rows (λ row. accepted a) ≡ refused 5)
-        → (cond t (guard 5 s (accepted a)) (ofKind party map number rows (λ row. accepted a)) ≡ accepted a) ⊎ (cond t (guard 5 s (accepted a)) (ofKind party map number rows (λ row. accepted a)) ≡ refused 5)
-    go true true ih = inl (unfold guard in refl)
-    go true false ih = inr (unfold guard in refl)
-    go false s ih = ih
-
-pub reading-untaken : (party : Party) (bytes : List ℕ) → Framed bytes → (Taken (mapIn bytes) (kindIn bytes) party → ⊥) → reading party bytes ≡ refused 5
-unfolding reading
-reading-untaken party bytes f untaken =
-    let next : Kind → Outcome Fields = λ row. accepted (fieldsIn bytes) in
-    let table = ofKind party (mapIn bytes) (kindIn bytes) kinds next in
-    framed-passes bytes table f
-    ∙ ⊎-elim (λ e. absurd (untaken (accepted-passed party (mapIn bytes) (kindIn bytes) next (fieldsIn bytes) e .taken))) (λ e. e) (rows-refuse party (mapIn bytes) (kindIn bytes) kinds (fieldsIn bytes))

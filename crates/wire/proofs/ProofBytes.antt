@@ -210,8 +210,3 @@ pub prepared-rewritten : (bytes : List ℕ) (p : PreparedProof) → Bytes bytes 
 prepared-rewritten bytes p small e =
     let found = prepared-accepted bytes p e in
     subst (λ (q : PreparedProof). (preparedBytes q ≡ bytes) × PreparedFits q) (found .1) (prepared-back bytes (found .0) small, prepared-fits bytes (found .0) small)
-
-pub written-rewritten : (bytes : List ℕ) (p : WrittenProof) → Bytes bytes → readWritten bytes ≡ accepted p → (writtenBytes p ≡ bytes) × WrittenFits p
-written-rewritten bytes p small e =
-    let found = written-accepted bytes p e in
-    subst (λ (q : WrittenProof). (writtenBytes q ≡ bytes) × WrittenFits q) (found .1) (written-back bytes (found .0) small, written-fits bytes (found .0) small)

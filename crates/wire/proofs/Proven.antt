@@ -1,6 +1,6 @@
 -- Tests 9 to 11 of a message from those of its proofs: the smallest refusal is the first. Assumes nothing.
 use mathlib.Core.Path.{_≡_, refl, sym, ap}
-use mathlib.Core.Bool.{Bool, true, false, _&&_, and-true}
+use mathlib.Core.Bool.{Bool, true, false, _&&_}
 use mathlib.Core.List.{List, [], _++_}
 use mathlib.Core.Option.{Option, none, some}
 use Prim.Native.Nat.{ℕ, _≤_}
@@ -100,16 +100,6 @@ module _ (f : ℕ) where
       let own = ifThere issued (timestampOf message) in
       rw (all-append (λ v. eqb v 1) first second, prepared-part first p, written-part second w, parts s s′ (genuine first) (genuine second) t t′ own)
       (sym (part-next (s && s′) (genuine first && genuine second) (own && (t && t′)) next))
-
-  -- A message with a prepared proof alone, or none: WRITE, STAMP and CARD.
-  pub proven-alone : {A : Type 0} (message : Message) (verdicts : List ℕ) (next : Outcome A) → writtenOf message ≡ none → timestampOf message ≡ none
-      → proven f message verdicts next ≡ (preparedOutcome f verdicts (preparedOf message) >>= λ good. next)
-  unfolding proven
-  proven-alone message verdicts next no-written no-timestamp =
-      let p = preparedOf message in
-      let s = ifThere (λ (proof : PreparedProof). shaped f (proof .entries)) p in
-      let t = ifThere (λ (proof : PreparedProof). issued (proof .timestamp)) p in
-      rw (no-written, no-timestamp, and-true s, and-true t, prepared-part verdicts p) (sym (part-next s (genuine verdicts) t next))
 
   -- A proof that is missing, with no verdicts, is good.
   pub prepared-missing : preparedOutcome f [] none ≡ accepted tt
