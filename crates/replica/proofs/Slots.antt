@@ -1,6 +1,6 @@
 -- What a PREPARE does to a client's slot, by whether the slot admits it. Assumes nothing.
 use mathlib.Core.Path.{_≡_, refl, sym, ap, _∙_}
-use mathlib.Core.Bool.{Bool, true, false, _||_}
+use mathlib.Core.Bool.{Bool, true, false, _&&_, _||_}
 use mathlib.Core.List.{List, _++_}
 use Prim.Native.Nat.{ℕ, _+_, _-_, _*_, _/_, _≤_, _<_}
 use native.Mathlib.Omega.{arith}
@@ -10,9 +10,12 @@ use lib.ListN.{length, take, drop, take-append-drop}
 use lib.Seq.{set-getD, drop-drop}
 use Rattle.base.specs.Outcome.{accepted, refused, guard}
 use Rattle.base.specs.Same.{same}
+use Rattle.base.specs.Timestamp.{number, ofNumber}
 use Rattle.base.specs.declared.party.ClientId.{ClientId}
+use Rattle.base.specs.declared.timestamp.Timestamp.{Timestamp}
 use Rattle.base.proofs.Booleans.{and-true-both}
 use Rattle.base.proofs.Same.{same-equal}
+use Rattle.base.proofs.Timestamps.{ofNumber-number}
 use Rattle.protocol.specs.Replica.{slotCount, slotDigest, slotTimestamp, slotIs, slotTakes, withSlot, withWritten}
 use Rattle.protocol.specs.declared.replica.Slots.{Slots}
 use Rattle.replica.specs.Kinds.{preparedWith}
@@ -49,3 +52,12 @@ module _ (client : ClientId) (timestamp : ℕ) (digest : List ℕ) (slots : Slot
         go : (is : Bool) → slotIs client timestamp digest slots ≡ is → preparedWith client timestamp digest written slots ≡ refused 15
         go true h = let z : true ≡ false = rw h at e in let y : _≡_ {A = ℕ} 0 1 = cc in absurd (omega arith)
         go false h = rw (h, rw h at e)
+
+    -- A PREPARE again, with no later written proof, leaves the slots as they are.
+    pub kept : slots .written .client .0 < 256 → (eqb (number (slots .written)) written && slotIs client timestamp digest slots) ≡ true
+        → slots ≡ withWritten written (withSlot client timestamp digest slots)
+    kept fits e =
+        let both = and-true-both (eqb (number (slots .written)) written) (slotIs client timestamp digest slots) e in
+        let same : number (slots .written) ≡ written = eqb-true _ _ (both .0) in
+        let stays : slots .written ≡ ofNumber written = sym (ofNumber-number (slots .written) fits) ∙ ap ofNumber same in
+        ap (λ (t : Timestamp). record { counts = slots .counts; digests = slots .digests; written = t }) stays ∙ ap (withWritten written) (sym (slot-again (both .1)))

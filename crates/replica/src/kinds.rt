@@ -1,10 +1,11 @@
 // The four requests on plain values, each with its reply in the output.
 use crate::Stepped;
+use crate::bytes;
+use crate::register::Slot;
 use crate::register::holding;
+use crate::register::is_kept;
 use crate::register::later;
 use crate::register::slot_admits;
-use crate::register::slot_of;
-use crate::register::with_slot;
 use base::party::ClientId;
 use base::refusal::BAD_CARD;
 use base::refusal::NOT_OWN;
@@ -13,6 +14,7 @@ use base::refusal::NOT_TAKEN;
 use base::timestamp::Successor;
 use base::timestamp::Timestamp;
 use protocol::replica::Held;
+use protocol::replica::Register;
 use protocol::replica::Replica;
 use protocol::replica::ReplicaAnswer;
 use protocol::replica::Slots;
@@ -54,21 +56,27 @@ fn answer_of(encoded: Encoded) -> ReplicaAnswer
 fn with_slots(replica: Replica, slots: Slots) -> Replica
     ensures { λ r. ⌜ r ≡ withSlots replica slots ⌝ }
 {
-    let mut register = replica.register;
-    register.slots = slots;
-    let mut next = replica;
-    next.register = register;
-    next
+    let id = replica.id;
+    let held = replica.register.held;
+    let register = Register { slots, held };
+    Replica {
+        f: replica.f,
+        id: id,
+        register: register,
+    }
 }
 
 fn with_held(replica: Replica, held: Held) -> Replica
     ensures { λ r. ⌜ r ≡ withHeld replica held ⌝ }
 {
-    let mut register = replica.register;
-    register.held = held;
-    let mut next = replica;
-    next.register = register;
-    next
+    let id = replica.id;
+    let slots = replica.register.slots;
+    let register = Register { slots, held };
+    Replica {
+        f: replica.f,
+        id: id,
+        register: register,
+    }
 }
 
 // READ-STAMP
@@ -165,21 +173,36 @@ pub(super) fn prepare(
     if !is_successor(timestamp, shown, client) {
         return refuse(replica, NOT_SUCCESSOR);
     }
-    let slots = replica.register.slots;
-    let written = later(slots.written, last);
-    let slot = slot_of(slots, client);
+    let at = client.0 as usize - 1;
+    let mut slots = replica.register.slots;
+    let before = slots.written;
+    let written = later(before, last);
+    let slot = Slot {
+        count: slots.counts[at],
+        digest: bytes::digest_at(&slots.digests, 32 * at),
+    };
     if !slot_admits(slot, client, timestamp, digest, written) {
         // A refused PREPARE leaves the written timestamp too as it was.
         return refuse(replica, NOT_TAKEN);
     }
-    // A slot that has the timestamp and digest stays as it is.
-    let next = with_slot(slots, client, timestamp, digest, written);
     let encoded = wire::writer::write_prepared(out, replica.id, timestamp, digest);
+    let answer = answer_of(encoded);
+    if is_kept(slot, client, timestamp, digest, before, written) {
+        return Stepped {
+            answer: answer,
+            holds: false,
+            prepares: false,
+            replica: replica,
+        };
+    }
+    slots.counts[at] = timestamp.count;
+    bytes::put_digest(&mut slots.digests, 32 * at, digest);
+    slots.written = written;
     Stepped {
-        answer: answer_of(encoded),
+        answer: answer,
         holds: false,
         prepares: true,
-        replica: with_slots(replica, next),
+        replica: with_slots(replica, slots),
     }
 }
 
@@ -192,8 +215,8 @@ fn stands_for(card: &[u8], digest: &[u8]) -> bool
     let CardCheck::Good = check else {
         return false;
     };
-    let bytes = made.bytes;
-    crate::bytes::same(&bytes, digest)
+    let found = made.bytes;
+    bytes::same(&found, digest)
 }
 
 // WRITE, with its proof in parts.

@@ -3,30 +3,18 @@ use crate::bytes;
 use base::party::ClientId;
 use base::timestamp::Timestamp;
 use protocol::replica::Held;
-use protocol::replica::Slots;
 ghost use mathlib.Core.Path.{_≡_};
-ghost use mathlib.Core.Bool.{_||_};
-ghost use Prim.Native.Nat.{_≤_, max};
+ghost use mathlib.Core.Bool.{_&&_, _||_};
+ghost use lib.Dec.{eqb};
+ghost use Prim.Native.Nat.{max};
 ghost use Rattle.base.specs.Timestamp.{number};
-ghost use Rattle.protocol.specs.Replica.{withWritten, withSlot, holding, slotCount, slotDigest};
+ghost use Rattle.protocol.specs.Replica.{holding};
 ghost use Rattle.replica.specs.Kinds.{isSlot, takesSlot, proofOf, Fitting};
 
-// A client's slot.
+// A client's slot, copied out once, so that all that a PREPARE asks is asked of a small value.
 pub struct Slot {
     pub count: u32,
     pub digest: [u8; 32],
-}
-
-// Copied out once, so that all that a PREPARE asks is asked of a small value.
-pub(super) fn slot_of(slots: Slots, client: ClientId) -> Slot
-    requires { ⌜ (1 ≤ client .0) × (client .0 ≤ 64) ⌝ }
-    ensures { λ r. ⌜ (r .count ≡ slotCount slots client) × (r .digest ≡ slotDigest slots client) ⌝ }
-{
-    let at = client.0 as usize - 1;
-    Slot {
-        count: slots.counts[at],
-        digest: bytes::digest_at(&slots.digests, 32 * at),
-    }
 }
 
 // Whether a client's slot has this timestamp and digest.
@@ -83,23 +71,21 @@ pub(super) fn later(a: Timestamp, b: Timestamp) -> Timestamp
     if a.is_before(b) { b } else { a }
 }
 
-// A timestamp and digest put into a client's slot, and the written timestamp.
-pub(super) fn with_slot(
-    slots: Slots,
+// Whether a PREPARE that is taken leaves all as it was: the slot has its timestamp and digest, and no written proof is later.
+pub(super) fn is_kept(
+    slot: Slot,
     client: ClientId,
     timestamp: Timestamp,
     digest: &[u8; 32],
+    before: Timestamp,
     written: Timestamp,
-) -> Slots
-    requires { ⌜ (1 ≤ client .0) × (client .0 ≤ 64) ⌝ }
-    ensures { λ r. ⌜ r ≡ withWritten (number written) (withSlot client (number timestamp) (now (digest .entry)) slots) ⌝ }
+) -> bool
+    ensures { λ r. ⌜ r ≡ (eqb (number before) (number written) && isSlot (slot .count) (slot .digest) client (number timestamp) (now (digest .entry))) ⌝ }
 {
-    let at = client.0 as usize - 1;
-    let mut next = slots;
-    next.counts[at] = timestamp.count;
-    bytes::put_digest(&mut next.digests, 32 * at, digest);
-    next.written = written;
-    next
+    if !before.is(written) {
+        return false;
+    }
+    slot_is(slot, client, timestamp, digest)
 }
 
 // A card and its prepared proof, as they are held.
