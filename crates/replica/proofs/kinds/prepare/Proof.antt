@@ -8,7 +8,6 @@ use borrow.Author.Needs.{needs}
 use Rattle.base.specs.Timestamp.{number, ofNumber, successor}
 use Rattle.base.proofs.Timestamps.{ofNumber-number}
 use Rattle.protocol.specs.Replica.{isTimestamp, slotIs, slotTakes, withSlots}
-use Rattle.protocol.specs.declared.replica.Slots.{Slots}
 use Rattle.replica.specs.Kinds.{ownOrMissing}
 use Rattle.replica.proofs.Replies.{sends, refuses, not-own, not-successor, not-taken, is-taken}
 use Rattle.replica.proofs.Slots.{kept}
