@@ -1,4 +1,4 @@
-// Changes of a client's record, each the record anew.
+// Changes of a client's record.
 use crate::arrays::card_array;
 use crate::arrays::digest_array;
 use crate::arrays::entries_array;
@@ -14,6 +14,7 @@ ghost use Rattle.wire.specs.Proof.{preparedFrom};
 ghost use Rattle.protocol.specs.Client.{withPhase, beginning, withProof, withCard, withDigest, withSignatures, withLastWritten, built};
 ghost use Rattle.client.specs.Arrays.{Reaches, Keeps};
 
+// The record anew: a field that is an enum is not stored to.
 pub(super) fn with_phase(client: Client, phase: Phase) -> Client
     ensures { λ r. ⌜ r ≡ withPhase phase client ⌝ }
 {
@@ -71,109 +72,43 @@ pub(super) fn with_proof(client: Client, proof: &[u8]) -> Client
     requires { ⌜ Reaches (now proof) ⌝ }
     ensures { λ r. ⌜ r ≡ withProof (preparedFrom (now (proof .entry))) client ⌝ }
 {
-    let id = client.id;
-    let phase = client.phase;
-    let card = client.card;
-    let signatures = client.signatures;
-    let written = client.written;
-    let written_entries = client.written_entries;
-    Client {
-        f: client.f,
-        id: id,
-        last_nonce: client.last_nonce,
-        phase: phase,
-        card_length: client.card_length,
-        card: card,
-        digest: digest_array(&proof[5..37]),
-        entry_count: proof[37],
-        entries: entries_array(&proof[38..]),
-        signatures: signatures,
-        written: written,
-        written_count: client.written_count,
-        written_entries: written_entries,
-    }
+    let digest = digest_array(&proof[5..37]);
+    let entries = entries_array(&proof[38..]);
+    let mut next = client;
+    next.digest = digest;
+    next.entry_count = proof[37];
+    next.entries = entries;
+    next
 }
 
 pub(super) fn with_card(client: Client, card: &[u8]) -> Client
     requires { ⌜ length (now card) ≤ 17 ⌝ }
     ensures { λ r. ⌜ r ≡ withCard (now (card .entry)) client ⌝ }
 {
-    let id = client.id;
-    let phase = client.phase;
-    let digest = client.digest;
-    let entries = client.entries;
-    let signatures = client.signatures;
-    let written = client.written;
-    let written_entries = client.written_entries;
-    Client {
-        f: client.f,
-        id: id,
-        last_nonce: client.last_nonce,
-        phase: phase,
-        card_length: card.len() as u8,
-        card: card_array(card),
-        digest: digest,
-        entry_count: client.entry_count,
-        entries: entries,
-        signatures: signatures,
-        written: written,
-        written_count: client.written_count,
-        written_entries: written_entries,
-    }
+    let kept = card_array(card);
+    let mut next = client;
+    next.card_length = card.len() as u8;
+    next.card = kept;
+    next
 }
 
 // The digest of the card that is written; the best reply's proof is no longer needed.
 pub(super) fn with_digest(client: Client, digest: [u8; 32]) -> Client
     ensures { λ r. ⌜ r ≡ withDigest digest client ⌝ }
 {
-    let id = client.id;
-    let phase = client.phase;
-    let card = client.card;
-    let signatures = client.signatures;
-    let written = client.written;
-    let written_entries = client.written_entries;
-    Client {
-        f: client.f,
-        id: id,
-        last_nonce: client.last_nonce,
-        phase: phase,
-        card_length: client.card_length,
-        card: card,
-        digest: digest,
-        entry_count: 0,
-        entries: [0; 715],
-        signatures: signatures,
-        written: written,
-        written_count: client.written_count,
-        written_entries: written_entries,
-    }
+    let mut next = client;
+    next.digest = digest;
+    next.entry_count = 0;
+    next.entries = [0; 715];
+    next
 }
 
 pub(super) fn with_signatures(client: Client, signatures: [u8; 1024]) -> Client
     ensures { λ r. ⌜ r ≡ withSignatures signatures client ⌝ }
 {
-    let id = client.id;
-    let phase = client.phase;
-    let card = client.card;
-    let digest = client.digest;
-    let entries = client.entries;
-    let written = client.written;
-    let written_entries = client.written_entries;
-    Client {
-        f: client.f,
-        id: id,
-        last_nonce: client.last_nonce,
-        phase: phase,
-        card_length: client.card_length,
-        card: card,
-        digest: digest,
-        entry_count: client.entry_count,
-        entries: entries,
-        signatures: signatures,
-        written: written,
-        written_count: client.written_count,
-        written_entries: written_entries,
-    }
+    let mut next = client;
+    next.signatures = signatures;
+    next
 }
 
 // The counted replicas and their signatures as a proof's entries.
@@ -189,26 +124,10 @@ pub(super) fn with_last_written(client: Client, timestamp: Timestamp, counts: Re
     ensures { λ r. ⌜ r ≡ withLastWritten timestamp (built client counts (client .signatures)) client ⌝ }
 {
     let proof = built(client, counts);
-    let id = client.id;
-    let phase = client.phase;
-    let card = client.card;
-    let digest = client.digest;
-    let entries = client.entries;
-    let signatures = client.signatures;
-    let written_entries = proof.entries;
-    Client {
-        f: client.f,
-        id: id,
-        last_nonce: client.last_nonce,
-        phase: phase,
-        card_length: client.card_length,
-        card: card,
-        digest: digest,
-        entry_count: client.entry_count,
-        entries: entries,
-        signatures: signatures,
-        written: timestamp,
-        written_count: proof.count,
-        written_entries: written_entries,
-    }
+    let entries = proof.entries;
+    let mut next = client;
+    next.written = timestamp;
+    next.written_count = proof.count;
+    next.written_entries = entries;
+    next
 }

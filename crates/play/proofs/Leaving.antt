@@ -16,7 +16,8 @@ use Rattle.client.specs.declared.Stepped.{Stepped as ClientStepped}
 use Rattle.replica.specs.Stepping.{Steps}
 use Rattle.replica.specs.declared.Stepped.{Stepped as ReplicaStepped}
 use Rattle.wire.specs.declared.message.Party.{Party}
-use Rattle.play.specs.Calls.{signaturesTo, verdicts, sentBefore, free, messageAt, ClientLeaves, ReplicaLeaves}
+use Rattle.wire.specs.Accepting.{signaturesTo}
+use Rattle.play.specs.Calls.{verdicts, sentBefore, free, messageAt, ClientLeaves, ReplicaLeaves}
 use Rattle.play.specs.Log.{start, message, Copied}
 use Rattle.play.specs.declared.log.Log.{Log}
 use Rattle.play.proofs.Lists.{take-ones, copied-front}

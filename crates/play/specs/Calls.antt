@@ -4,8 +4,7 @@ use mathlib.Core.List.{List, _++_}
 use Prim.Native.Nat.{ℕ, _-_}
 use lib.ListN.{length, take, drop, replicate}
 use Rattle.base.specs.Outcome.{Outcome, accepted, refused}
-use Rattle.wire.specs.Accepting.{signatureCount}
-use Rattle.wire.specs.Decode.{reading}
+use Rattle.wire.specs.Accepting.{signaturesTo}
 use Rattle.wire.specs.Message.{longest}
 use Rattle.wire.specs.declared.message.Fields.{Fields}
 use Rattle.wire.specs.declared.message.Party.{Party}
@@ -22,14 +21,7 @@ use Rattle.play.specs.declared.calls.Call.{Call}
 use Rattle.play.specs.declared.calls.Call.the-variants.{Write, Read, Deliver}
 use Rattle.play.specs.declared.log.Log.{Log}
 
--- "all marks 1", and "one byte per seal": as many verdicts as a message has signatures for the party that can read it.
-abbrev pub signaturesIf : Outcome Fields → List ℕ → ℕ
-signaturesIf (accepted fields) bytes = signatureCount bytes
-signaturesIf (refused number) bytes = 0
-
-unfoldable pub signaturesTo : Party → List ℕ → ℕ
-signaturesTo party bytes = signaturesIf (reading party bytes) bytes
-
+-- "all marks 1"
 unfoldable pub verdicts : Party → List ℕ → List ℕ
 verdicts party bytes = replicate (signaturesTo party bytes) 1
 

@@ -7,6 +7,7 @@ use protocol::client::Client;
 use protocol::replica::Replica;
 use wire::layout::LONGEST_MESSAGE;
 use wire::message::Party;
+use wire::signatures::signature_count;
 ghost use mathlib.Core.Path.{_≡_};
 ghost use mathlib.Core.List.{[]};
 ghost use Prim.Native.Nat.{_-_};
@@ -34,7 +35,7 @@ fn hand_client(client: Client, message: &[u8], out: &mut [u8]) -> Stepped
     ensures { λ r. ⌜ ClientLeaves (clientCall client (now (message .entry)) (verdicts Party.Client (now (message .entry))) (now (out .entry))) [] r (now (out .exit)) ⌝ }
 {
     let verdicts = [1u8; 64];
-    let k = crate::signatures::signature_count(Party::Client, message);
+    let k = signature_count(Party::Client, message);
     client::step(client, message, front(&verdicts, k), out)
 }
 
@@ -42,7 +43,7 @@ fn hand_replica(replica: Replica, message: &[u8], out: &mut [u8]) -> replica::St
     ensures { λ r. ⌜ ReplicaLeaves (replicaCall replica (now (message .entry)) (verdicts Party.Replica (now (message .entry))) (now (out .entry))) [] r (now (out .exit)) ⌝ }
 {
     let verdicts = [1u8; 64];
-    let k = crate::signatures::signature_count(Party::Replica, message);
+    let k = signature_count(Party::Replica, message);
     replica::step(replica, message, front(&verdicts, k), out)
 }
 

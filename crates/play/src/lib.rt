@@ -3,6 +3,5 @@ mod calls;
 pub mod grammar;
 pub mod log;
 pub mod output;
-mod signatures;
 pub mod turn;
 pub mod world;

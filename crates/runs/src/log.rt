@@ -11,7 +11,7 @@ use crate::words::number;
 use crate::words::rest;
 use crate::words::word;
 use wire::message::Party;
-use wire::message::Reading;
+use wire::signatures::signature_count;
 ghost use Prim.Native.Nat.{_*_, _≤_};
 
 // So many messages are kept, the first ones, each at its number with so much room: its length in two bytes, and its bytes.
@@ -25,9 +25,6 @@ pub type Store = [u8; 321_600];
 pub type Message = [u8; 4_096];
 
 pub type Verdicts = [u8; 400];
-
-// A proof's entry: signer and signature.
-const ENTRY: usize = 65;
 
 // So many bytes of a card are taken.
 const CARD: u64 = 64;
@@ -82,28 +79,10 @@ fn message(name: &[u8], store: &Store, sent: usize, to: &mut [u8]) -> Numeral {
     Numeral::Nothing
 }
 
-// The whole entries that have room between two places: the heads of both proofs and what follows them are shorter than an entry.
-fn entries(from: usize, to: usize) -> usize
-    ensures { λ r. ⌜ 65 * r ≤ to ⌝ }
-{
-    if from < to {
-        return (to - from) / ENTRY;
-    }
-    0
-}
-
-// How many signatures a message has; one where it cannot be read.
-fn signatures(party: Party, message: &[u8]) -> u64 {
-    match wire::reader::read(party, message) {
-        Reading::Message(fields) => (1 + entries(fields.prepared, fields.signature)) as u64,
-        Reading::Refused(_) => 1,
-    }
-}
-
-// The verdicts that a word is: `+` for a 1 per signature, which are there already, or hex.
+// The verdicts that a word is: `+` for a 1 per signature, which are there already, or hex. A message that cannot be read has none, and is refused before they count.
 fn verdicts(name: &[u8], party: Party, message: &[u8], ones: &mut [u8]) -> Numeral {
     if check::same(name, b"+") {
-        return Numeral::Value(signatures(party, message));
+        return Numeral::Value(signature_count(party, message) as u64);
     }
     hex(name, ones)
 }

@@ -124,17 +124,10 @@ placed-reading party bytes fields e =
     let p = parsed party bytes fields e in
     placed bytes fields (framed-passes bytes (accepted (fieldsIn bytes)) (p .framed) ∙ ap accepted (sym (p .same)))
 
-module _ (bytes : List ℕ) (fields : Fields) (p : Placed bytes fields) where
-  pub first-room : Room bytes 38 (fields .prepared) (fields .written)
-  first-room = rw (p .at, p .next) (p .first)
-
-  module _ (end : ℕ) (ends : end ≡ fields .signature - cond (bit (fields .map) 8) 1 0) where
-    pub second-room : Room bytes 6 (fields .written) end
-    second-room = rw (ends, p .end, p .next) (p .second)
-
-    pub all-signatures : (a b : ℕ) → a ≡ entryCount (fields .prepared) 38 (fields .written) → b ≡ entryCount (fields .written) 6 end → 1 + a + b ≡ signatureCount bytes
-    unfolding signatureCount
-    all-signatures a b first second = rw (first, second, ends, p .end, p .at, p .next)
+pub all-signatures : (bytes : List ℕ) (fields : Fields) → Placed bytes fields → (end : ℕ) → end ≡ fields .signature - cond (bit (fields .map) 8) 1 0
+    → (a b : ℕ) → a ≡ entryCount (fields .prepared) 38 (fields .written) → b ≡ entryCount (fields .written) 6 end → 1 + a + b ≡ signatureCount bytes
+unfolding signatureCount
+all-signatures bytes fields p end ends a b first second = rw (first, second, ends, p .end, p .at, p .next)
 
 -- Entries behind a head whose last byte is their number.
 module _ (h : ℕ) (part : List ℕ) (whole : suc h + 65 * getD part h 0 ≡ length part) where

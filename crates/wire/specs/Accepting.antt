@@ -6,10 +6,10 @@ use Prim.Native.Nat.{ℕ, _+_, _-_, _/_}
 use lib.Dec.{eqb}
 use lib.ListN.{length, take, drop}
 use Rattle.base.specs.BigEndian.{fromBytes}
-use Rattle.base.specs.Outcome.{Outcome, accepted, guard, _>>=_}
+use Rattle.base.specs.Outcome.{Outcome, accepted, refused, guard, _>>=_}
 use Rattle.wire.specs.Acceptance.{senderOf, inItsRange}
 use Rattle.wire.specs.Checks.{oneEach, ownGenuine, proven, proofOutcome}
-use Rattle.wire.specs.Decode.{decode, fieldsIn, framed}
+use Rattle.wire.specs.Decode.{decode, fieldsIn, framed, reading}
 use Rattle.wire.specs.Judging.{entriesIn, proofCheckOutcome}
 use Rattle.wire.specs.Layout.{place}
 use Rattle.wire.specs.Message.{Message}
@@ -37,6 +37,14 @@ entryCount at head end = (end - at - head) / 65
 -- The signatures of a message: its own and those of its proofs' entries.
 unfoldable pub signatureCount : List ℕ → ℕ
 signatureCount bytes = 1 + entryCount (place bytes 6) 38 (place bytes 7) + entryCount (place bytes 7) 6 (place bytes 8)
+
+-- "one byte per seal": as many verdicts as a message has signatures, for the party that can read it.
+abbrev pub signaturesIf : Outcome Fields → List ℕ → ℕ
+signaturesIf (accepted fields) bytes = signatureCount bytes
+signaturesIf (refused number) bytes = 0
+
+unfoldable pub signaturesTo : Party → List ℕ → ℕ
+signaturesTo party bytes = signaturesIf (reading party bytes) bytes
 
 -- 9 to 11 of the proof from one place to another, with its entries' verdicts; good if there is none.
 unfoldable pub proofBetween : ℕ → List ℕ → ℕ → ℕ → ℕ → List ℕ → Outcome (Unit {0})

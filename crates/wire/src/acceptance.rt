@@ -3,12 +3,13 @@ use crate::checks::ProofCheck;
 use crate::checks::check_proof;
 use crate::checks::first_refusal;
 use crate::checks::verdicts_fit;
-use crate::layout::ENTRY;
 use crate::layout::PREPARED_HEAD;
 use crate::layout::WRITTEN_HEAD;
 use crate::message::Fields;
 use crate::message::Party;
 use crate::message::Reading;
+use crate::signatures::entry_count;
+use crate::signatures::written_end;
 use base::party::ClientId;
 use base::party::ReplicaId;
 use base::party::is_client;
@@ -19,11 +20,11 @@ use base::refusal::VERDICTS;
 use base::timestamp::Timestamp;
 ghost use mathlib.Core.Path.{_≡_};
 ghost use mathlib.Core.Bool.{true, cond};
-ghost use Prim.Native.Nat.{_-_, _+_, _≤_, _<_};
+ghost use Prim.Native.Nat.{_≤_};
 ghost use Rattle.base.specs.BitMap.{bit};
 ghost use Rattle.base.specs.Timestamp.{isIssued};
 ghost use Rattle.wire.specs.Acceptance.{numbered, inItsRange, acceptance};
-ghost use Rattle.wire.specs.Accepting.{opened, entryCount, proofBetween, Ready, Judges};
+ghost use Rattle.wire.specs.Accepting.{opened, proofBetween, Ready, Judges};
 ghost use Rattle.wire.specs.Decode.{readingOutcome};
 ghost use Rattle.wire.specs.Judging.{proofCheckOutcome};
 ghost use Rattle.wire.specs.Places.{Room};
@@ -36,28 +37,6 @@ fn in_range(party: Party, f: u8, sender: u8) -> bool
         Party::Replica => is_client(ClientId(sender)),
         Party::Client => is_replica(f, ReplicaId(sender)),
     }
-}
-
-// Where the written proof ends: the field behind it is one byte, before the signature.
-fn written_end(map: u16, signature: usize) -> usize
-    requires { ⌜ 1 ≤ signature ⌝ }
-    ensures { λ r. ⌜ r ≡ signature - cond (bit map 8) 1 0 ⌝ }
-{
-    if (map >> 8) % 2 == 1 {
-        return signature - 1;
-    }
-    signature
-}
-
-// The number of entries of the proof from one place to another; 0 if there is none.
-fn entry_count(at: usize, head: usize, end: usize) -> usize
-    requires { ⌜ (at ≤ end) × (at < end → at + head ≤ end) ⌝ }
-    ensures { λ r. ⌜ r ≡ entryCount at head end ⌝ }
-{
-    if at == end {
-        return 0;
-    }
-    (end - at - head) / ENTRY
 }
 
 // Tests 2 to 8.

@@ -9,4 +9,5 @@ pub mod message;
 pub mod numbers;
 pub mod reader;
 pub mod sha256;
+pub mod signatures;
 pub mod writer;

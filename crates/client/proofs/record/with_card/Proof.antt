@@ -7,4 +7,4 @@ returns : tie.Need-returns
 returns c = rw (c .card-array .ensures)
 
 pub with-card-spec : {M : Type 1} → statement M
-with-card-spec = tie.close (tie.spec (λ c. search needs) (λ c κs. search needs) returns)
+with-card-spec = tie.close (tie.spec (λ c κs. search needs) (λ c. search needs) returns)

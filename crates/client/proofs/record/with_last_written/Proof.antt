@@ -5,7 +5,7 @@ use Rattle.client.proofs.record.with_last_written.Tie as tie
 
 returns : tie.Need-returns
 returns c =
-    let k = c .before .before .before .before .before .before .built .ensures in
+    let k = c .before .built .ensures in
     rw (k .many, k .holds)
 
 pub with-last-written-spec : {M : Type 1} → statement M

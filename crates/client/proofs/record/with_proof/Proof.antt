@@ -12,13 +12,13 @@ use Rattle.client.proofs.record.with_proof.Tie as tie
 
 returns : tie.Need-returns
 returns c =
-    let s = c .before .before .before .before .before .before .before .before .before .before .before in
+    let s = c .before .before .before .before .before .before in
     let proof = s .args .proof .now in
     let count = getD proof 37 0 in
     let entries = drop 38 proof in
     let long : length entries ≡ 65 * count = rw length-drop (omega (arith, s .pre .whole)) in
     let all : take (length proof - 38) entries ≡ entries = take-all (length proof - 38) entries (rw length-drop (omega arith)) in
-    rw (c .before .before .before .digest-array .ensures, c .entries-array .ensures, all, entries-read-length count entries, entries-bytes-read count entries long)
+    rw (c .before .before .before .digest-array .ensures, c .before .entries-array .ensures, all, entries-read-length count entries, entries-bytes-read count entries long)
 
 pub with-proof-spec : {M : Type 1} → statement M
 with-proof-spec =
@@ -31,6 +31,6 @@ with-proof-spec =
     (λ c. search needs)
     (λ c. search needs)
     (λ c. search needs)
-    (λ c. search needs)
     (λ c κs. search needs)
+    (λ c. search needs)
     returns)

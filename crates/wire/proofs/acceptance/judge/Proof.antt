@@ -18,14 +18,8 @@ enough c =
     let b = c .before .before .before .before in
     let p = at-places b in
     let size = b .pre .one-each in
-    let counted = rw (p .at, p .next) at (c .entry-count .ensures) in
+    let counted = rw (p .at, p .next) at (c .entry-count .ensures .0) in
     omega arith
-
-written-end-requires : tie.Need-written-end-requires
-written-end-requires c κs = at-places (c .before .before) .signed
-
-entry-count-requires : tie.Need-entry-count-requires
-entry-count-requires c κs = let p = at-places (c .before .before .before) in rw (p .at, p .next) (p .first .rises, p .first .wide)
 
 part-check-between-end : tie.Need-part-check-between-end
 part-check-between-end c = let h = enough c in omega arith
@@ -48,7 +42,7 @@ returns c =
     let a = b .args in
     λ party message e.
     c .first-refusal .ensures
-    ∙ judged-parts (a .f) (a .bytes .now) (a .verdicts .now) (a .fields) (c .before .before .before .before .before .before .entry-count .result) (c .before .before .before .before .before .before .before .written-end .result) (b .pre) (c .before .before .before .before .before .before .entry-count .ensures) (c .before .before .before .before .before .before .before .written-end .ensures)
+    ∙ judged-parts (a .f) (a .bytes .now) (a .verdicts .now) (a .fields) (c .before .before .before .before .before .before .entry-count .result) (c .before .before .before .before .before .before .before .written-end .result) (b .pre) (c .before .before .before .before .before .before .entry-count .ensures .0) (c .before .before .before .before .before .before .before .written-end .ensures)
     (c .before .before .before .before .check-between .result) (c .before .before .check-between2 .result) (c .before .issued-if-there .result)
     (c .before .before .before .before .check-between .ensures) (c .before .before .check-between2 .ensures) (c .before .issued-if-there .ensures) party message e
 
@@ -56,8 +50,8 @@ pub judge-spec : {M : Type 1} → statement M
 judge-spec =
     tie.close
     (tie.spec
-    written-end-requires
-    entry-count-requires
+    (λ c κs. search needs)
+    (λ c κs. search needs)
     (λ c. search needs)
     (λ c. search needs)
     (λ c. search needs)

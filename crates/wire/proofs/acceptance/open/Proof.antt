@@ -12,7 +12,7 @@ use Rattle.wire.specs.Acceptance.{numbered, inItsRange}
 use Rattle.wire.specs.Accepting.{signatureCount}
 use Rattle.wire.specs.Checks.{all}
 use Rattle.wire.specs.Decode.{reading}
-use Rattle.wire.proofs.Accepting.{Placed, placed-reading, first-room, second-room, all-signatures, opened-read, opened-unread, answered, turned-down}
+use Rattle.wire.proofs.Accepting.{Placed, placed-reading, all-signatures, opened-read, opened-unread, answered, turned-down}
 use borrow.Author.Needs.{needs}
 use Rattle.wire.proofs.acceptance.open.Statement.{statement}
 use Rattle.wire.proofs.acceptance.open.Tie as tie
@@ -36,7 +36,7 @@ fits : (c : tie.After-verdicts-fit)
     ≡ (eqb (length (start (c .before .before .before .before .before .before) .args .verdicts .now)) (signatureCount (start (c .before .before .before .before .before .before) .args .bytes .now)) && all (λ v. leb v 1) (start (c .before .before .before .before .before .before) .args .verdicts .now))
 fits c =
     let k = c .before .before .before .before .before .before in
-    let same = all-signatures (start k .args .bytes .now) (k .before .fields .given .0 .0) (at-places k) (c .before .before .before .written-end .result) (c .before .before .before .written-end .ensures) (c .before .before .entry-count .result) (c .before .entry-count2 .result) (c .before .before .entry-count .ensures) (c .before .entry-count2 .ensures) in
+    let same = all-signatures (start k .args .bytes .now) (k .before .fields .given .0 .0) (at-places k) (c .before .before .before .written-end .result) (c .before .before .before .written-end .ensures) (c .before .before .entry-count .result) (c .before .entry-count2 .result) (c .before .before .entry-count .ensures .0) (c .before .entry-count2 .ensures .0) in
     rw (← same) (c .verdicts-fit .ensures)
 
 some-verdict : (c : tie.Else2) → 1 ≤ length (start (c .before .before .before .before .before .before .before) .args .verdicts .now)
@@ -51,15 +51,6 @@ some-verdict c =
 returns : tie.Need-returns
 unfolding guard
 returns c = let k = c .before .before in let a = start k .args in rw (opened-read (a .party) (a .f) (a .bytes .now) (a .verdicts .now) (k .before .fields .given .0 .0) (known k), ranged (c .before), not-true (c .before .in-range .result) (c .if1 .taken))
-
-written-end-requires : tie.Need-written-end-requires
-written-end-requires c κs = at-places (c .before .before) .signed
-
-entry-count-requires : tie.Need-entry-count-requires
-entry-count-requires c κs = let k = c .before .before .before in let r = first-room (start k .args .bytes .now) (k .before .fields .given .0 .0) (at-places k) in (r .rises, r .wide)
-
-entry-count-requires-2 : tie.Need-entry-count-requires-2
-entry-count-requires-2 c κs = let k = c .before .before .before .before in let r = second-room (start k .args .bytes .now) (k .before .fields .given .0 .0) (at-places k) (c .before .written-end .result) (c .before .written-end .ensures) in (r .rises, r .wide)
 
 returns-2 : tie.Need-returns-2
 unfolding guard
@@ -87,9 +78,9 @@ open-spec =
     (λ c. search needs)
     (λ c κs. search needs)
     returns
-    written-end-requires
-    entry-count-requires
-    entry-count-requires-2
+    (λ c κs. search needs)
+    (λ c κs. search needs)
+    (λ c κs. search needs)
     (λ c. search needs)
     (λ c. search needs)
     (λ c κs. search needs)

@@ -1,11 +1,11 @@
--- `play::signatures::written_end` meets its contract. Assumes nothing.
+-- `wire::signatures::written_end` meets its contract. Assumes nothing.
 use mathlib.Core.Path.{refl}
 use Prim.Native.Nat.{_/_, _%_, _^_}
 use borrow.Author.Tests.{eq-eqb, ne-eqb}
 use native.Mathlib.Omega.{arith}
 use borrow.Author.Needs.{needs}
-use Rattle.play.proofs.signatures.written_end.Statement.{statement}
-use Rattle.play.proofs.signatures.written_end.Tie as tie
+use Rattle.wire.proofs.signatures.written_end.Statement.{statement}
+use Rattle.wire.proofs.signatures.written_end.Tie as tie
 
 returns : tie.Need-returns
 returns c = omega arith

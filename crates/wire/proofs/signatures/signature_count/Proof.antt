@@ -1,15 +1,15 @@
--- `play::signatures::signature_count` meets its contract. Assumes nothing.
+-- `wire::signatures::signature_count` meets its contract. Assumes nothing.
 use mathlib.Core.Path.{_≡_, refl, sym, _∙_, ap}
 use native.Mathlib.Omega.{arith}
 use lib.ListN.{length}
 use Prim.Native.Nat.{_≤_, _+_}
 use borrow.Author.Needs.{needs}
-use Rattle.play.specs.Calls.{signaturesIf, signaturesTo}
+use Rattle.wire.specs.Accepting.{signaturesIf, signaturesTo}
 use Rattle.base.specs.Outcome.{accepted, refused}
 use Rattle.wire.specs.Decode.{reading}
 use Rattle.wire.proofs.Accepting.{Placed, placed-reading, all-signatures, answered, turned-down}
-use Rattle.play.proofs.signatures.signature_count.Statement.{statement}
-use Rattle.play.proofs.signatures.signature_count.Tie as tie
+use Rattle.wire.proofs.signatures.signature_count.Statement.{statement}
+use Rattle.wire.proofs.signatures.signature_count.Tie as tie
 
 returns : tie.Need-returns
 unfolding signaturesTo
