@@ -58,12 +58,12 @@ module _ (bytes : List ℕ) (fields : Fields) (p : Passing bytes fields) where
   digest-part = rw (found .same)
 
   -- What follows the fields is the signature.
-  pub mark-part : take (length bytes - fields .signature) (drop (fields .signature) bytes) ≡ signature bytes
+  pub signature-part : take (length bytes - fields .signature) (drop (fields .signature) bytes) ≡ signature bytes
   unfolding fieldsIn
-  mark-part = rw (found .same) (take-all (length bytes - place bytes 9) (drop (place bytes 9) bytes) (rw length-drop (omega arith)))
+  signature-part = rw (found .same) (take-all (length bytes - place bytes 9) (drop (place bytes 9) bytes) (rw length-drop (omega arith)))
 
-  pub mark-length : length (signature bytes) ≡ 64
-  mark-length = let ends = found .framed .ends in rw length-drop (omega arith)
+  pub signature-length : length (signature bytes) ≡ 64
+  signature-length = let ends = found .framed .ends in rw length-drop (omega arith)
 
   pub proof-bounds : (fields .prepared ≤ fields .written) × (fields .written ≤ length bytes)
   unfolding fieldsIn
@@ -73,9 +73,9 @@ module _ (bytes : List ℕ) (fields : Fields) (p : Passing bytes fields) where
   unfolding fieldsIn
   digest-bounds = rw (found .same) (found .rises 4 5 (omega arith), (let inside = found .inside 5 (omega arith) in omega arith))
 
-  pub mark-bound : fields .signature ≤ length bytes
+  pub signature-bound : fields .signature ≤ length bytes
   unfolding fieldsIn
-  mark-bound = rw (found .same) (let inside = found .inside 9 (omega arith) in omega arith)
+  signature-bound = rw (found .same) (let inside = found .inside 9 (omega arith) in omega arith)
 
   proof-is : proofIn (field bytes 6) ≡ preparedAt bytes
   proof-is = go (bit (mapIn bytes) 6) refl

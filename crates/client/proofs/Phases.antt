@@ -70,8 +70,8 @@ module _ (client : Client) (sender : ReplicaId) (nonce : ℕ) (card : List ℕ) 
     unfolding onCard
     card-taken h = ap (onCard client sender nonce card proof addressed) e ∙ guard-passes 18 _ _ h
 
-module _ (client : Client) (sender : ReplicaId) (timestamp : ℕ) (digest mark : List ℕ) where
-  pub no-prepareds : (phase : Phase) → OneOf (0 ∷ 1 ∷ 3 ∷ 4 ∷ 5 ∷ []) (tagOf the-type phase) → onPrepared client sender timestamp digest mark phase ≡ refused 18
+module _ (client : Client) (sender : ReplicaId) (timestamp : ℕ) (digest signature : List ℕ) where
+  pub no-prepareds : (phase : Phase) → OneOf (0 ∷ 1 ∷ 3 ∷ 4 ∷ 5 ∷ []) (tagOf the-type phase) → onPrepared client sender timestamp digest signature phase ≡ refused 18
   unfolding onPrepared
   no-prepareds Idle k = refl
   no-prepareds (Stamps asked best counts) k = refl
@@ -81,17 +81,17 @@ module _ (client : Client) (sender : ReplicaId) (timestamp : ℕ) (digest mark :
   no-prepareds (WriteBack asked counts) k = refl
 
   module _ (phase : Phase) (asked : Timestamp) (counts : ReplicaSet) (e : phase ≡ Prepareds asked counts) where
-    pub prepared-refused : (eqb timestamp (number asked) && (same digest (client .digest) && isNew counts sender)) ≡ false → onPrepared client sender timestamp digest mark phase ≡ refused 18
+    pub prepared-refused : (eqb timestamp (number asked) && (same digest (client .digest) && isNew counts sender)) ≡ false → onPrepared client sender timestamp digest signature phase ≡ refused 18
     unfolding onPrepared
-    prepared-refused h = ap (onPrepared client sender timestamp digest mark) e ∙ guard-refuses 18 _ _ h
+    prepared-refused h = ap (onPrepared client sender timestamp digest signature) e ∙ guard-refuses 18 _ _ h
 
     pub prepared-taken : (eqb timestamp (number asked) && (same digest (client .digest) && isNew counts sender)) ≡ true
-        → onPrepared client sender timestamp digest mark phase ≡ afterPrepared asked (with counts sender) (withSignatures (withSignature (client .signatures) sender mark) client)
+        → onPrepared client sender timestamp digest signature phase ≡ afterPrepared asked (with counts sender) (withSignatures (withSignature (client .signatures) sender signature) client)
     unfolding onPrepared
-    prepared-taken h = ap (onPrepared client sender timestamp digest mark) e ∙ guard-passes 18 _ _ h
+    prepared-taken h = ap (onPrepared client sender timestamp digest signature) e ∙ guard-passes 18 _ _ h
 
-module _ (client : Client) (sender : ReplicaId) (timestamp : ℕ) (mark : List ℕ) where
-  pub no-writtens : (phase : Phase) → OneOf (0 ∷ 1 ∷ 2 ∷ 4 ∷ []) (tagOf the-type phase) → onWritten client sender timestamp mark phase ≡ refused 18
+module _ (client : Client) (sender : ReplicaId) (timestamp : ℕ) (signature : List ℕ) where
+  pub no-writtens : (phase : Phase) → OneOf (0 ∷ 1 ∷ 2 ∷ 4 ∷ []) (tagOf the-type phase) → onWritten client sender timestamp signature phase ≡ refused 18
   unfolding onWritten
   no-writtens Idle k = refl
   no-writtens (Stamps asked best counts) k = refl
@@ -101,20 +101,20 @@ module _ (client : Client) (sender : ReplicaId) (timestamp : ℕ) (mark : List �
   no-writtens (WriteBack asked counts) k = absurd (⊎-elim (λ e. omega arith) (⊎-elim (λ e. omega arith) (⊎-elim (λ e. omega arith) (λ e. omega arith))) k)
 
   module _ (phase : Phase) (asked : Timestamp) (counts : ReplicaSet) where
-    pub written-refused : phase ≡ Writtens asked counts → (eqb timestamp (number asked) && isNew counts sender) ≡ false → onWritten client sender timestamp mark phase ≡ refused 18
+    pub written-refused : phase ≡ Writtens asked counts → (eqb timestamp (number asked) && isNew counts sender) ≡ false → onWritten client sender timestamp signature phase ≡ refused 18
     unfolding onWritten
-    written-refused e h = ap (onWritten client sender timestamp mark) e ∙ guard-refuses 18 _ _ h
+    written-refused e h = ap (onWritten client sender timestamp signature) e ∙ guard-refuses 18 _ _ h
 
     pub written-taken : phase ≡ Writtens asked counts → (eqb timestamp (number asked) && isNew counts sender) ≡ true
-        → onWritten client sender timestamp mark phase ≡ afterWritten asked (with counts sender) (withSignatures (withSignature (client .signatures) sender mark) client)
+        → onWritten client sender timestamp signature phase ≡ afterWritten asked (with counts sender) (withSignatures (withSignature (client .signatures) sender signature) client)
     unfolding onWritten
-    written-taken e h = ap (onWritten client sender timestamp mark) e ∙ guard-passes 18 _ _ h
+    written-taken e h = ap (onWritten client sender timestamp signature) e ∙ guard-passes 18 _ _ h
 
-    pub back-refused : phase ≡ WriteBack asked counts → (eqb timestamp (number asked) && isNew counts sender) ≡ false → onWritten client sender timestamp mark phase ≡ refused 18
+    pub back-refused : phase ≡ WriteBack asked counts → (eqb timestamp (number asked) && isNew counts sender) ≡ false → onWritten client sender timestamp signature phase ≡ refused 18
     unfolding onWritten
-    back-refused e h = ap (onWritten client sender timestamp mark) e ∙ guard-refuses 18 _ _ h
+    back-refused e h = ap (onWritten client sender timestamp signature) e ∙ guard-refuses 18 _ _ h
 
     pub back-taken : phase ≡ WriteBack asked counts → (eqb timestamp (number asked) && isNew counts sender) ≡ true
-        → onWritten client sender timestamp mark phase ≡ afterWriteBack asked (with counts sender) client
+        → onWritten client sender timestamp signature phase ≡ afterWriteBack asked (with counts sender) client
     unfolding onWritten
-    back-taken e h = ap (onWritten client sender timestamp mark) e ∙ guard-passes 18 _ _ h
+    back-taken e h = ap (onWritten client sender timestamp signature) e ∙ guard-passes 18 _ _ h

@@ -59,23 +59,23 @@ short-stamp client sender nonce proof addressed (Writtens asked held) = refuses
 short-stamp client sender nonce proof addressed (Cards asked best held showed) = refuses
 short-stamp client sender nonce proof addressed (WriteBack asked held) = refuses
 
-short-prepared : (client : Client) (sender : ReplicaId) (timestamp : ℕ) (digest mark : List ℕ) (phase : Phase) → Short (onPrepared client sender timestamp digest mark phase)
+short-prepared : (client : Client) (sender : ReplicaId) (timestamp : ℕ) (digest signature : List ℕ) (phase : Phase) → Short (onPrepared client sender timestamp digest signature phase)
 unfolding onPrepared afterPrepared
-short-prepared client sender timestamp digest mark Idle = refuses
-short-prepared client sender timestamp digest mark (Stamps asked best held) = refuses
-short-prepared client sender timestamp digest mark (Prepareds asked held) = short-guard 18 _ _ (short-cond (isQuorum (client .f) (with held sender)) _ _ sends counts)
-short-prepared client sender timestamp digest mark (Writtens asked held) = refuses
-short-prepared client sender timestamp digest mark (Cards asked best held showed) = refuses
-short-prepared client sender timestamp digest mark (WriteBack asked held) = refuses
+short-prepared client sender timestamp digest signature Idle = refuses
+short-prepared client sender timestamp digest signature (Stamps asked best held) = refuses
+short-prepared client sender timestamp digest signature (Prepareds asked held) = short-guard 18 _ _ (short-cond (isQuorum (client .f) (with held sender)) _ _ sends counts)
+short-prepared client sender timestamp digest signature (Writtens asked held) = refuses
+short-prepared client sender timestamp digest signature (Cards asked best held showed) = refuses
+short-prepared client sender timestamp digest signature (WriteBack asked held) = refuses
 
-short-written : (client : Client) (sender : ReplicaId) (timestamp : ℕ) (mark : List ℕ) (phase : Phase) → Short (onWritten client sender timestamp mark phase)
+short-written : (client : Client) (sender : ReplicaId) (timestamp : ℕ) (signature : List ℕ) (phase : Phase) → Short (onWritten client sender timestamp signature phase)
 unfolding onWritten afterWritten afterWriteBack
-short-written client sender timestamp mark Idle = refuses
-short-written client sender timestamp mark (Stamps asked best held) = refuses
-short-written client sender timestamp mark (Prepareds asked held) = refuses
-short-written client sender timestamp mark (Writtens asked held) = short-guard 18 _ _ (short-cond (isQuorum (client .f) (with held sender)) _ _ (finishes (short-card client)) counts)
-short-written client sender timestamp mark (Cards asked best held showed) = refuses
-short-written client sender timestamp mark (WriteBack asked held) = short-guard 18 _ _ (short-cond (isQuorum (client .f) (with held sender)) _ _ (finishes (short-card client)) counts)
+short-written client sender timestamp signature Idle = refuses
+short-written client sender timestamp signature (Stamps asked best held) = refuses
+short-written client sender timestamp signature (Prepareds asked held) = refuses
+short-written client sender timestamp signature (Writtens asked held) = short-guard 18 _ _ (short-cond (isQuorum (client .f) (with held sender)) _ _ (finishes (short-card client)) counts)
+short-written client sender timestamp signature (Cards asked best held showed) = refuses
+short-written client sender timestamp signature (WriteBack asked held) = short-guard 18 _ _ (short-cond (isQuorum (client .f) (with held sender)) _ _ (finishes (short-card client)) counts)
 
 short-cards : (nonce : ℕ) (best : Timestamp) (held showed : ReplicaSet) (client : Client) → Short (afterCard nonce best held showed client)
 unfolding afterCard
@@ -94,16 +94,16 @@ short-on-card client sender nonce card proof addressed (Cards asked best held sh
 short-on-card client sender nonce card proof addressed (WriteBack asked held) = refuses
 
 module _ (client : Client) where
-  short-reply : (mark : List ℕ) (message : Message) → Short (onReply client mark message)
+  short-reply : (signature : List ℕ) (message : Message) → Short (onReply client signature message)
   unfolding onReply
-  short-reply mark (STAMP sender nonce proof addressed) = short-stamp client sender nonce proof addressed (client .phase)
-  short-reply mark (PREPARED sender timestamp digest) = short-prepared client sender timestamp digest mark (client .phase)
-  short-reply mark (WRITTEN sender timestamp) = short-written client sender timestamp mark (client .phase)
-  short-reply mark (CARD sender nonce card proof addressed) = short-guard 14 _ _ (short-on-card client sender nonce card proof addressed (client .phase))
-  short-reply mark (READ-STAMP sender nonce) = refuses
-  short-reply mark (PREPARE sender timestamp digest proof last) = refuses
-  short-reply mark (WRITE sender card proof) = refuses
-  short-reply mark (READ sender nonce) = refuses
+  short-reply signature (STAMP sender nonce proof addressed) = short-stamp client sender nonce proof addressed (client .phase)
+  short-reply signature (PREPARED sender timestamp digest) = short-prepared client sender timestamp digest signature (client .phase)
+  short-reply signature (WRITTEN sender timestamp) = short-written client sender timestamp signature (client .phase)
+  short-reply signature (CARD sender nonce card proof addressed) = short-guard 14 _ _ (short-on-card client sender nonce card proof addressed (client .phase))
+  short-reply signature (READ-STAMP sender nonce) = refuses
+  short-reply signature (PREPARE sender timestamp digest proof last) = refuses
+  short-reply signature (WRITE sender card proof) = refuses
+  short-reply signature (READ sender nonce) = refuses
 
   module _ (old : List ℕ) where
     pub short-write : (card : List ℕ) → Short (withOutput old (beginWrite client card))

@@ -18,13 +18,13 @@ pub struct Built {
 }
 
 // A replica's signature in its place.
-pub(super) fn with_signature(signatures: [u8; 1024], id: ReplicaId, mark: &[u8]) -> [u8; 1024]
-    requires { ⌜ (1 ≤ id .0) × (id .0 ≤ 16) × (length (now mark) ≡ 64) ⌝ }
-    ensures { λ r. ⌜ r ≡ withSignature signatures id (now (mark .entry)) ⌝ }
+pub(super) fn with_signature(signatures: [u8; 1024], id: ReplicaId, signature: &[u8]) -> [u8; 1024]
+    requires { ⌜ (1 ≤ id .0) × (id .0 ≤ 16) × (length (now signature) ≡ 64) ⌝ }
+    ensures { λ r. ⌜ r ≡ withSignature signatures id (now (signature .entry)) ⌝ }
 {
     let mut array = signatures;
     let at = SIGNATURE * (id.0 as usize - 1);
-    put(&mut array, at, mark);
+    put(&mut array, at, signature);
     array
 }
 

@@ -155,11 +155,11 @@ pub(super) fn on_prepared<'a>(
     sender: ReplicaId,
     timestamp: Timestamp,
     digest: &'a [u8],
-    mark: &'a [u8],
+    signature: &'a [u8],
     out: &mut [u8],
 ) -> Stepped
-    requires { ⌜ (longest ≤ length (now out)) × (1 ≤ sender .0) × (sender .0 ≤ 16) × (length (now mark) ≡ 64) ⌝ }
-    ensures { λ r. ⌜ callOf r (now (out .exit)) ≡ clientAnswers client (now (out .entry)) (onPrepared client sender (number timestamp) (now (digest .entry)) (now (mark .entry)) (client .phase)) ⌝ }
+    requires { ⌜ (longest ≤ length (now out)) × (1 ≤ sender .0) × (sender .0 ≤ 16) × (length (now signature) ≡ 64) ⌝ }
+    ensures { λ r. ⌜ callOf r (now (out .exit)) ≡ clientAnswers client (now (out .entry)) (onPrepared client sender (number timestamp) (now (digest .entry)) (now (signature .entry)) (client .phase)) ⌝ }
 {
     let phase = client.phase;
     let Phase::Prepareds(asked, counts) = phase else {
@@ -170,7 +170,7 @@ pub(super) fn on_prepared<'a>(
         return refused(NOT_AWAITED, client);
     }
     let signatures = client.signatures;
-    let signed = with_signatures(client, with_signature(signatures, sender, mark));
+    let signed = with_signatures(client, with_signature(signatures, sender, signature));
     after_prepared(signed, asked, counts.with(sender), out)
 }
 
@@ -192,12 +192,12 @@ pub(super) fn count_written(
     asked: Timestamp,
     counts: ReplicaSet,
     sender: ReplicaId,
-    mark: &[u8],
+    signature: &[u8],
 ) -> Stepped
-    requires { ⌜ (1 ≤ sender .0) × (sender .0 ≤ 16) × (length (now mark) ≡ 64) ⌝ }
-    ensures { λ r. ⌜ TakesAny (afterWritten asked (with counts sender) (withSignatures (withSignature (client .signatures) sender (now (mark .entry))) client)) r ⌝ }
+    requires { ⌜ (1 ≤ sender .0) × (sender .0 ≤ 16) × (length (now signature) ≡ 64) ⌝ }
+    ensures { λ r. ⌜ TakesAny (afterWritten asked (with counts sender) (withSignatures (withSignature (client .signatures) sender (now (signature .entry))) client)) r ⌝ }
 {
     let signatures = client.signatures;
-    let signed = with_signatures(client, with_signature(signatures, sender, mark));
+    let signed = with_signatures(client, with_signature(signatures, sender, signature));
     after_written(signed, asked, counts.with(sender))
 }

@@ -21,10 +21,10 @@ pub(super) fn on_written(
     client: Client,
     sender: ReplicaId,
     timestamp: Timestamp,
-    mark: &[u8],
+    signature: &[u8],
 ) -> Stepped
-    requires { ⌜ (1 ≤ sender .0) × (sender .0 ≤ 16) × (length (now mark) ≡ 64) ⌝ }
-    ensures { λ r. ⌜ ((old : List ℕ) → callOf r old ≡ clientAnswers client old (onWritten client sender (number timestamp) (now (mark .entry)) (client .phase))) ⌝ }
+    requires { ⌜ (1 ≤ sender .0) × (sender .0 ≤ 16) × (length (now signature) ≡ 64) ⌝ }
+    ensures { λ r. ⌜ ((old : List ℕ) → callOf r old ≡ clientAnswers client old (onWritten client sender (number timestamp) (now (signature .entry)) (client .phase))) ⌝ }
 {
     let phase = client.phase;
     match phase {
@@ -32,7 +32,7 @@ pub(super) fn on_written(
             if !is_awaited_written(timestamp, asked, counts, sender) {
                 return refused(NOT_AWAITED, client);
             }
-            count_written(client, asked, counts, sender, mark)
+            count_written(client, asked, counts, sender, signature)
         }
         Phase::WriteBack(asked, counts) => {
             if !is_awaited_written(timestamp, asked, counts, sender) {

@@ -45,12 +45,12 @@ digest-fits message =
 -- ---- Signatures
 
 -- One signature put in its place.
-pub signature-put : (signatures mark : List ℕ) (id : ReplicaId) → 1 ≤ id .0 → id .0 ≤ 16 → Array 1_024 signatures → IsSignature mark → Array 1_024 (withSignature signatures id mark)
-signature-put signatures mark id low high fit mark-fits =
-    let fills : 64 * (id .0 - 1) + length mark ≡ 64 * id .0 = omega arith in
+pub signature-put : (signatures signature : List ℕ) (id : ReplicaId) → 1 ≤ id .0 → id .0 ≤ 16 → Array 1_024 signatures → IsSignature signature → Array 1_024 (withSignature signatures id signature)
+signature-put signatures signature id low high fit signature-fits =
+    let fills : 64 * (id .0 - 1) + length signature ≡ 64 * id .0 = omega arith in
     let inside : 64 * id .0 ≤ length signatures = omega arith in (
-      replaced-length (64 * (id .0 - 1)) (64 * id .0) mark signatures fills inside ∙ fit .0,
-      replaced-bytes (64 * (id .0 - 1)) (64 * id .0) mark signatures fills inside (mark-fits .1) (fit .1),
+      replaced-length (64 * (id .0 - 1)) (64 * id .0) signature signatures fills inside ∙ fit .0,
+      replaced-bytes (64 * (id .0 - 1)) (64 * id .0) signature signatures fills inside (signature-fits .1) (fit .1),
     )
 
 signature-at : (signatures : List ℕ) (n : ℕ) → n < 16 → Array 1_024 signatures → IsSignature (signatureAt signatures (replica (suc n)))

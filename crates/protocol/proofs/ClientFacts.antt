@@ -75,13 +75,13 @@ begins-read before turn fits e = outcome .holds turn e
         by-guard 17 (λ may. by-value
         (begun before _ _ startCard fits may (bytes-zeros 2) (omega arith) (λ small. record { fits = (fits .id-fits, small); short = omega arith })))
 
-module _ (before : Client) (verdicts mark : List ℕ) (fits : ClientFits before) (phase-fits : PhaseFits (before .phase)) (mark-fits : IsSignature mark) where
-  facts : (message : Message) → Fits message → inItsRange (before .f) (senderOf message) ≡ true → Passed (before .f) message verdicts → Accepts (ClientFacts before verdicts message) (onReply before mark message)
+module _ (before : Client) (verdicts signature : List ℕ) (fits : ClientFits before) (phase-fits : PhaseFits (before .phase)) (signature-fits : IsSignature signature) where
+  facts : (message : Message) → Fits message → inItsRange (before .f) (senderOf message) ≡ true → Passed (before .f) message verdicts → Accepts (ClientFacts before verdicts message) (onReply before signature message)
   unfolding onReply Fits
   facts (STAMP sender nonce proof addressed) message-fits ranged passed = stamp-facts before verdicts fits sender ranged nonce proof addressed passed (message-fits .2) (before .phase) refl phase-fits
   facts (PREPARED sender timestamp digest) message-fits ranged passed =
-      prepared-facts before verdicts fits sender ranged mark mark-fits timestamp digest passed (before .phase) refl phase-fits
-  facts (WRITTEN sender timestamp) message-fits ranged passed = written-facts before verdicts fits sender ranged mark mark-fits timestamp passed (before .phase) refl phase-fits
+      prepared-facts before verdicts fits sender ranged signature signature-fits timestamp digest passed (before .phase) refl phase-fits
+  facts (WRITTEN sender timestamp) message-fits ranged passed = written-facts before verdicts fits sender ranged signature signature-fits timestamp passed (before .phase) refl phase-fits
   facts (CARD sender nonce card proof addressed) message-fits ranged passed =
       by-guard 14 (λ stands.
       card-facts before verdicts fits sender ranged nonce card proof addressed passed (message-fits .2 .1) (message-fits .3) stands (before .phase) refl phase-fits)
@@ -90,7 +90,7 @@ module _ (before : Client) (verdicts mark : List ℕ) (fits : ClientFits before)
   facts (WRITE sender card proof) message-fits ranged passed = by-refusal
   facts (READ sender nonce) message-fits ranged passed = by-refusal
 
-pub client-facts : (before : Client) (verdicts mark : List ℕ) (message : Message) (turn : Turn) → ClientFits before → PhaseFits (before .phase)
-    → Rattle.wire.specs.Message.Fits message → IsSignature mark → inItsRange (before .f) (senderOf message) ≡ true → Passed (before .f) message verdicts
-    → onReply before mark message ≡ accepted turn → ClientFacts before verdicts message turn
-client-facts before verdicts mark message turn fits phase-fits message-fits mark-fits ranged passed e = facts before verdicts mark fits phase-fits mark-fits message message-fits ranged passed .holds turn e
+pub client-facts : (before : Client) (verdicts signature : List ℕ) (message : Message) (turn : Turn) → ClientFits before → PhaseFits (before .phase)
+    → Rattle.wire.specs.Message.Fits message → IsSignature signature → inItsRange (before .f) (senderOf message) ≡ true → Passed (before .f) message verdicts
+    → onReply before signature message ≡ accepted turn → ClientFacts before verdicts message turn
+client-facts before verdicts signature message turn fits phase-fits message-fits signature-fits ranged passed e = facts before verdicts signature fits phase-fits signature-fits message message-fits ranged passed .holds turn e

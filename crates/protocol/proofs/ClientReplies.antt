@@ -250,12 +250,12 @@ module _ (before : Client) (verdicts : List ℕ) (fits : ClientFits before) (sen
   card-facts nonce card proof addressed passed bytes proof-fit stands (Writtens timestamp counts) at h = by-refusal
   card-facts nonce card proof addressed passed bytes proof-fit stands (WriteBack timestamp counts) at h = by-refusal
 
-  module _ (mark : List ℕ) (mark-fits : IsSignature mark) where
-    signatures-fit : Array 1_024 (withSignature (before .signatures) sender mark)
-    signatures-fit = let range = replica-range (before .f) sender in-range in signature-put (before .signatures) mark sender (range .0) (range .1) (fits .signatures-fit) mark-fits
+  module _ (signature : List ℕ) (signature-fits : IsSignature signature) where
+    signatures-fit : Array 1_024 (withSignature (before .signatures) sender signature)
+    signatures-fit = let range = replica-range (before .f) sender in-range in signature-put (before .signatures) signature sender (range .0) (range .1) (fits .signatures-fit) signature-fits
 
     pub prepared-facts : (timestamp : ℕ) (digest : List ℕ) → Passed (before .f) (PREPARED sender timestamp digest) verdicts → (phase : Phase) → before .phase ≡ phase → PhaseFits phase
-        → Accepts (ClientFacts before verdicts (PREPARED sender timestamp digest)) (onPrepared before sender timestamp digest mark phase)
+        → Accepts (ClientFacts before verdicts (PREPARED sender timestamp digest)) (onPrepared before sender timestamp digest signature phase)
     unfolding onPrepared
     prepared-facts timestamp digest passed (Prepareds asked counts) at asked-fits =
         by-guard 18 (λ e.
@@ -264,7 +264,7 @@ module _ (before : Client) (verdicts : List ℕ) (fits : ClientFits before) (sen
         let same-timestamp = eqb-true timestamp (number asked) (first .0) in
         let same-digest = same-equal digest (before .digest) (rest .0) in
         after-prepared before verdicts (PREPARED sender timestamp digest) passed fits sender asked counts asked-fits (in-range, not-true (has counts sender) (rest .1))
-        (withSignature (before .signatures) sender mark) signatures-fit (cc) at)
+        (withSignature (before .signatures) sender signature) signatures-fit (cc) at)
     prepared-facts timestamp digest passed Idle at h = by-refusal
     prepared-facts timestamp digest passed (Stamps nonce best counts) at h = by-refusal
     prepared-facts timestamp digest passed (Writtens asked counts) at h = by-refusal
@@ -278,12 +278,12 @@ module _ (before : Client) (verdicts : List ℕ) (fits : ClientFits before) (sen
         (eqb-true timestamp (number asked) (both .0), (in-range, not-true (has counts sender) (both .1)))
 
     pub written-facts : (timestamp : ℕ) → Passed (before .f) (WRITTEN sender timestamp) verdicts → (phase : Phase) → before .phase ≡ phase → PhaseFits phase
-        → Accepts (ClientFacts before verdicts (WRITTEN sender timestamp)) (onWritten before sender timestamp mark phase)
+        → Accepts (ClientFacts before verdicts (WRITTEN sender timestamp)) (onWritten before sender timestamp signature phase)
     unfolding onWritten
     written-facts timestamp passed (Writtens asked counts) at asked-fits =
         by-guard 18 (λ e.
         let (same-timestamp, new) = answers-timestamp timestamp asked counts e in
-        after-written before verdicts (WRITTEN sender timestamp) passed fits sender asked counts asked-fits new (withSignature (before .signatures) sender mark) signatures-fit (cc) at)
+        after-written before verdicts (WRITTEN sender timestamp) passed fits sender asked counts asked-fits new (withSignature (before .signatures) sender signature) signatures-fit (cc) at)
     written-facts timestamp passed (WriteBack asked counts) at asked-fits =
         by-guard 18 (λ e.
         let (same-timestamp, new) = answers-timestamp timestamp asked counts e in

@@ -57,12 +57,12 @@ case-sends before message turn (back-enough sender timestamp counts m at new q l
 pub record Takes (client : Client) (turn : Turn) : Type 0 where
   pub message : Message
   pub verdicts : List ℕ
-  pub mark : List ℕ
+  pub signature : List ℕ
   pub message-fits : Fits message
-  pub mark-fits : IsSignature mark
+  pub signature-fits : IsSignature signature
   pub ranged : inItsRange (client .f) (senderOf message) ≡ true
   pub passed : Passed (client .f) message verdicts
-  pub taken : onReply client mark message ≡ accepted turn
+  pub taken : onReply client signature message ≡ accepted turn
 
 -- Turns each of which starts from the record that the last one left. Refused calls stand between them unseen: they leave the record as it was and send
 -- nothing. No operation begins among them: a beginning is another call, which a busy client refuses, and an idle one takes no message.
@@ -79,7 +79,7 @@ sentIn (turn ∷ turns) = sentBy (turn .answer) + sentIn turns
 pub follow-sends : (client : Client) (turns : List Turn) → ClientFits client → PhaseFits (client .phase) → Follow client turns → sentIn turns ≤ remaining (client .phase)
 follow-sends client [] fits phase-fits follow = omega arith
 follow-sends client (turn ∷ turns) fits phase-fits (takes, follow) =
-    let facts = client-facts client (takes .verdicts) (takes .mark) (takes .message) turn fits phase-fits (takes .message-fits) (takes .mark-fits) (takes .ranged) (takes .passed) (takes .taken) in
+    let facts = client-facts client (takes .verdicts) (takes .signature) (takes .message) turn fits phase-fits (takes .message-fits) (takes .signature-fits) (takes .ranged) (takes .passed) (takes .taken) in
     omega (arith, case-sends client (takes .message) turn (facts .case), follow-sends (turn .next) turns (facts .fits) (facts .phase-fits) follow)
 
 -- A beginning sends its question, and what follows no more than its phase may.

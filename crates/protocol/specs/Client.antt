@@ -59,7 +59,7 @@ abbrev pub built : Client → ReplicaSet → List ℕ → List Entry
 built client counted signatures = take 11 (gathered (replicaCount (client .f)) counted signatures)
 
 abbrev pub withSignature : List ℕ → ReplicaId → List ℕ → List ℕ
-withSignature signatures id mark = take (64 * (id .0 - 1)) signatures ++ (mark ++ drop (64 * id .0) signatures)
+withSignature signatures id signature = take (64 * (id .0 - 1)) signatures ++ (signature ++ drop (64 * id .0) signatures)
 
 -- A client with no operation, which used the nonces up to this one.
 abbrev pub idleClient : ℕ → ClientId → ℕ → Client
@@ -330,14 +330,14 @@ afterPrepared timestamp counts client =
     (turn counted (withPhase (Prepareds timestamp counts) client))
 
 unfoldable pub onPrepared : Client → ReplicaId → ℕ → List ℕ → List ℕ → Phase → Outcome Turn
-onPrepared client sender timestamp digest mark (Prepareds asked counts) =
+onPrepared client sender timestamp digest signature (Prepareds asked counts) =
     awaited (eqb timestamp (number asked) && (same digest (client .digest) && isNew counts sender))
-    (afterPrepared asked (with counts sender) (withSignatures (withSignature (client .signatures) sender mark) client))
-onPrepared client sender timestamp digest mark Idle = unawaited
-onPrepared client sender timestamp digest mark (Stamps nonce best counts) = unawaited
-onPrepared client sender timestamp digest mark (Writtens asked counts) = unawaited
-onPrepared client sender timestamp digest mark (Cards nonce best counts showed) = unawaited
-onPrepared client sender timestamp digest mark (WriteBack asked counts) = unawaited
+    (afterPrepared asked (with counts sender) (withSignatures (withSignature (client .signatures) sender signature) client))
+onPrepared client sender timestamp digest signature Idle = unawaited
+onPrepared client sender timestamp digest signature (Stamps nonce best counts) = unawaited
+onPrepared client sender timestamp digest signature (Writtens asked counts) = unawaited
+onPrepared client sender timestamp digest signature (Cards nonce best counts showed) = unawaited
+onPrepared client sender timestamp digest signature (WriteBack asked counts) = unawaited
 
 -- "q WRITTENs end it and are the next written proof"
 unfoldable pub afterWritten : Timestamp → ReplicaSet → Client → Outcome Turn
@@ -352,15 +352,15 @@ afterWriteBack timestamp counts client =
     cond (enough client counts) (turn (done timestamp (currentCard client)) (withPhase Idle client)) (turn counted (withPhase (WriteBack timestamp counts) client))
 
 unfoldable pub onWritten : Client → ReplicaId → ℕ → List ℕ → Phase → Outcome Turn
-onWritten client sender timestamp mark (Writtens asked counts) =
+onWritten client sender timestamp signature (Writtens asked counts) =
     awaited (eqb timestamp (number asked) && isNew counts sender)
-    (afterWritten asked (with counts sender) (withSignatures (withSignature (client .signatures) sender mark) client))
-onWritten client sender timestamp mark (WriteBack asked counts) =
+    (afterWritten asked (with counts sender) (withSignatures (withSignature (client .signatures) sender signature) client))
+onWritten client sender timestamp signature (WriteBack asked counts) =
     awaited (eqb timestamp (number asked) && isNew counts sender) (afterWriteBack asked (with counts sender) client)
-onWritten client sender timestamp mark Idle = unawaited
-onWritten client sender timestamp mark (Stamps nonce best counts) = unawaited
-onWritten client sender timestamp mark (Prepareds asked counts) = unawaited
-onWritten client sender timestamp mark (Cards nonce best counts showed) = unawaited
+onWritten client sender timestamp signature Idle = unawaited
+onWritten client sender timestamp signature (Stamps nonce best counts) = unawaited
+onWritten client sender timestamp signature (Prepareds asked counts) = unawaited
+onWritten client sender timestamp signature (Cards nonce best counts showed) = unawaited
 
 -- "Holders that showed it count.": those of the largest timestamp so far.
 abbrev pub showedBy : Timestamp → Option PreparedProof → ReplicaId → ReplicaSet → ReplicaSet
@@ -390,16 +390,16 @@ onCard client sender nonce card proof addressed (WriteBack timestamp counts) = u
 
 -- The four replies, once 2 to 11 are passed, with the message's own signature. The other kinds do not get here: 5 refuses them.
 unfoldable pub onReply : Client → List ℕ → Message → Outcome Turn
-onReply client mark (STAMP sender nonce proof addressed) = onStamp client sender nonce proof addressed (client .phase)
-onReply client mark (PREPARED sender timestamp digest) = onPrepared client sender timestamp digest mark (client .phase)
-onReply client mark (WRITTEN sender timestamp) = onWritten client sender timestamp mark (client .phase)
-onReply client mark (CARD sender nonce card proof addressed) =
+onReply client signature (STAMP sender nonce proof addressed) = onStamp client sender nonce proof addressed (client .phase)
+onReply client signature (PREPARED sender timestamp digest) = onPrepared client sender timestamp digest signature (client .phase)
+onReply client signature (WRITTEN sender timestamp) = onWritten client sender timestamp signature (client .phase)
+onReply client signature (CARD sender nonce card proof addressed) =
     guard 14 (cardStands card proof)
     (onCard client sender nonce card proof addressed (client .phase))
-onReply client mark (READ-STAMP sender nonce) = refused 5
-onReply client mark (PREPARE sender timestamp digest proof last) = refused 5
-onReply client mark (WRITE sender card proof) = refused 5
-onReply client mark (READ sender nonce) = refused 5
+onReply client signature (READ-STAMP sender nonce) = refused 5
+onReply client signature (PREPARE sender timestamp digest proof last) = refused 5
+onReply client signature (WRITE sender card proof) = refused 5
+onReply client signature (READ sender nonce) = refused 5
 
 -- A client is handed bytes with verdicts.
 unfoldable pub clientStep : Client → List ℕ → List ℕ → Outcome Turn

@@ -1,6 +1,6 @@
 -- `client::messages::take_prepared` meets its contract. Assumes nothing.
 use native.Mathlib.Omega.{arith}
-use Rattle.client.proofs.Parting.{digest-bounds, mark-bound, digest-part, mark-part, mark-length, prepared-step}
+use Rattle.client.proofs.Parting.{digest-bounds, signature-bound, digest-part, signature-part, signature-length, prepared-step}
 use borrow.Author.Needs.{needs}
 use Rattle.client.proofs.messages.take_prepared.Statement.{statement}
 use Rattle.client.proofs.messages.take_prepared.Tie as tie
@@ -34,7 +34,7 @@ sub-on-prepared-2 c =
     let s = c .before .before .before .before in
     let bytes = s .args .message .now in
     let fields = s .args .fields in
-    let bounds = mark-bound bytes fields (s .pre .1) in
+    let bounds = signature-bound bytes fields (s .pre .1) in
     omega arith
 
 part-on-prepared-start-2 : tie.Need-part-on-prepared-start-2
@@ -42,7 +42,7 @@ part-on-prepared-start-2 c =
     let s = c .before .before .before .before in
     let bytes = s .args .message .now in
     let fields = s .args .fields in
-    let bounds = mark-bound bytes fields (s .pre .1) in
+    let bounds = signature-bound bytes fields (s .pre .1) in
     omega arith
 
 on-prepared-requires : tie.Need-on-prepared-requires
@@ -50,14 +50,14 @@ on-prepared-requires c κs =
     let s = c .before .before .before .before .before .before in
     let bytes = s .args .message .now in
     let fields = s .args .fields in
-    (s .pre .0, s .pre .1 .low, s .pre .1 .high, rw (mark-part bytes fields (s .pre .1)) (mark-length bytes fields (s .pre .1)))
+    (s .pre .0, s .pre .1 .low, s .pre .1 .high, rw (signature-part bytes fields (s .pre .1)) (signature-length bytes fields (s .pre .1)))
 
 returns : tie.Need-returns
 returns c =
     let s = c .before .before .before .before .before .before .before .before .before in
     let bytes = s .args .message .now in
     let fields = s .args .fields in
-    rw (prepared-step bytes fields (s .pre .1) (s .args .client) (s .pre .2)) (rw (digest-part bytes fields (s .pre .1), mark-part bytes fields (s .pre .1)) at (c .before .before .on-prepared .ensures))
+    rw (prepared-step bytes fields (s .pre .1) (s .args .client) (s .pre .2)) (rw (digest-part bytes fields (s .pre .1), signature-part bytes fields (s .pre .1)) at (c .before .before .on-prepared .ensures))
 
 pub take-prepared-spec : {M : Type 1} → statement M
 take-prepared-spec =

@@ -1,6 +1,6 @@
 -- `client::messages::take_written` meets its contract. Assumes nothing.
 use native.Mathlib.Omega.{arith}
-use Rattle.client.proofs.Parting.{mark-bound, mark-part, mark-length, written-step}
+use Rattle.client.proofs.Parting.{signature-bound, signature-part, signature-length, written-step}
 use borrow.Author.Needs.{needs}
 use Rattle.client.proofs.messages.take_written.Statement.{statement}
 use Rattle.client.proofs.messages.take_written.Tie as tie
@@ -10,7 +10,7 @@ sub-on-written c =
     let s = c .before .before in
     let bytes = s .args .message .now in
     let fields = s .args .fields in
-    let bounds = mark-bound bytes fields (s .pre .0) in
+    let bounds = signature-bound bytes fields (s .pre .0) in
     omega arith
 
 part-on-written-start : tie.Need-part-on-written-start
@@ -18,7 +18,7 @@ part-on-written-start c =
     let s = c .before .before in
     let bytes = s .args .message .now in
     let fields = s .args .fields in
-    let bounds = mark-bound bytes fields (s .pre .0) in
+    let bounds = signature-bound bytes fields (s .pre .0) in
     omega arith
 
 on-written-requires : tie.Need-on-written-requires
@@ -26,14 +26,14 @@ on-written-requires c κs =
     let s = c .before .before .before in
     let bytes = s .args .message .now in
     let fields = s .args .fields in
-    (s .pre .0 .low, s .pre .0 .high, rw (mark-part bytes fields (s .pre .0)) (mark-length bytes fields (s .pre .0)))
+    (s .pre .0 .low, s .pre .0 .high, rw (signature-part bytes fields (s .pre .0)) (signature-length bytes fields (s .pre .0)))
 
 returns : tie.Need-returns
 returns c =
     let s = c .before .before .before .before in
     let bytes = s .args .message .now in
     let fields = s .args .fields in
-    λ old. rw (written-step bytes fields (s .pre .0) (s .args .client) (s .pre .1)) (rw (mark-part bytes fields (s .pre .0)) at (c .on-written .ensures old))
+    λ old. rw (written-step bytes fields (s .pre .0) (s .args .client) (s .pre .1)) (rw (signature-part bytes fields (s .pre .0)) at (c .on-written .ensures old))
 
 pub take-written-spec : {M : Type 1} → statement M
 take-written-spec =

@@ -10,7 +10,7 @@ use Rattle.client.proofs.signatures.with_signature.Tie as tie
 returns : tie.Need-returns
 returns c =
     let s = c .before .before .before .before .before in
-    let behind : 64 * (s .args .id .0 - 1) + length (s .args .mark .now) ≡ 64 * s .args .id .0 = omega (arith, s .pre) in
+    let behind : 64 * (s .args .id .0 - 1) + length (s .args .signature .now) ≡ 64 * s .args .id .0 = omega (arith, s .pre) in
     rw behind at (c .before .put .ensures)
 
 pub with-signature-spec : {M : Type 1} → statement M
