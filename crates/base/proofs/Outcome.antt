@@ -27,3 +27,9 @@ pub guard-then : {A B : Type 0} (number : ℕ) (test : Bool) (first : Outcome A)
 unfolding guard
 guard-then number true first next = refl
 guard-then number false first next = refl
+
+-- A test that refuses an outcome refuses another there, if what follows the test is refused alike.
+pub guard-alike : {A B : Type 0} (n k : ℕ) (test : Bool) (x : Outcome A) (y : Outcome B) → (x ≡ refused n → y ≡ refused n) → guard k test x ≡ refused n → guard k test y ≡ refused n
+unfolding guard
+guard-alike n k true x y alike e = alike e
+guard-alike n k false x y alike e = cc

@@ -1,7 +1,7 @@
 -- What one step of a replica does: the facts that runs use. Assumes nothing.
 use mathlib.Core.Path.{_≡_, refl, sym, ap, subst, _∙_}
 use mathlib.Core.Logic.{_⊎_, inl, inr, ⊎-elim}
-use mathlib.Core.Bool.{Bool, true, false, _&&_, _||_, cond}
+use mathlib.Core.Bool.{Bool, true, false, _&&_, cond}
 use mathlib.Core.List.{List}
 use mathlib.Core.Option.{Option, none, some}
 use Prim.Native.Nat.{ℕ, _+_, _-_, _*_, _/_, _%_, _^_, _≤_, _<_}
@@ -17,7 +17,7 @@ use Rattle.base.specs.Timestamp.{number, ofNumber, successor}
 use Rattle.base.specs.declared.party.ClientId.{ClientId}
 use Rattle.base.specs.declared.party.ReplicaId.{ReplicaId}
 use Rattle.base.specs.declared.timestamp.Timestamp.{Timestamp}
-use Rattle.base.proofs.Booleans.{and-true-both}
+use Rattle.base.proofs.Booleans.{and-true-both, or-true}
 use Rattle.base.proofs.Outcome.{guard-accepted}
 use Rattle.base.proofs.Range.{bounds}
 use Rattle.base.proofs.Same.{same-equal}
@@ -113,7 +113,7 @@ module _ (replica : Replica) (fits : ReplicaFits replica) (nonce : ℕ) (client 
             omega (arith, held-size (replica .register .held) (fits .held-fits), card-in-short (replica .register .held .card) (replica .register .held .«card_length»));
       }
 
-prepared-legal : (id : ReplicaId) (timestamp : ℕ) (digest : List ℕ) → id .0 < 256 → timestamp < 2 ^ 40 → IsDigest digest → Legal (PREPARED id timestamp digest)
+pub prepared-legal : (id : ReplicaId) (timestamp : ℕ) (digest : List ℕ) → id .0 < 256 → timestamp < 2 ^ 40 → IsDigest digest → Legal (PREPARED id timestamp digest)
 unfolding Fits size
 prepared-legal id timestamp digest hi ht hd = record { fits = (hi, ht, hd); short = omega arith }
 
@@ -308,16 +308,12 @@ next-number timestamp t client e = go (eqb (t .count) 4_294_967_295) e
     go true k = let z : _≡_ {A = ℕ} 0 1 = cc in absurd (omega arith)
     go false k = eqb-true timestamp ((t .count + 1) * 256 + client .0) k
 
-or-cases : (a b : Bool) → (a || b) ≡ true → (a ≡ true) ⊎ (b ≡ true)
-or-cases true b e = inl refl
-or-cases false b e = inr e
-
 -- An unused slot, or one that the written timestamp closed, below the new timestamp.
 takes-cases : (client : ClientId) (timestamp written : ℕ) (slots : Slots) → slotTakes client timestamp written slots ≡ true
     → (slotCount slots client ≡ 0) ⊎ ((slotTimestamp slots client ≤ written) × (slotTimestamp slots client < timestamp))
 takes-cases client timestamp written slots e =
     ⊎-elim (λ unused. inl (eqb-true (slotCount slots client) 0 unused)) (λ closed. inr (both closed))
-    (or-cases (eqb (slotCount slots client) 0) (leb (slotTimestamp slots client) written && ltb (slotTimestamp slots client) timestamp) e)
+    (or-true (eqb (slotCount slots client) 0) (leb (slotTimestamp slots client) written && ltb (slotTimestamp slots client) timestamp) e)
   where
     both : (leb (slotTimestamp slots client) written && ltb (slotTimestamp slots client) timestamp) ≡ true
         → (slotTimestamp slots client ≤ written) × (slotTimestamp slots client < timestamp)

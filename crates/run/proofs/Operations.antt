@@ -19,7 +19,7 @@ use Rattle.base.specs.declared.party.ClientId.{ClientId}
 use Rattle.base.specs.declared.party.ReplicaId.{ReplicaId}
 use Rattle.base.specs.declared.replica_set.ReplicaSet.{ReplicaSet}
 use Rattle.base.specs.declared.timestamp.Timestamp.{Timestamp}
-use Rattle.base.proofs.Booleans.{and-true-both}
+use Rattle.base.proofs.Booleans.{and-true-both, or-true}
 use Rattle.base.proofs.Counting.{or-is}
 use Rattle.base.proofs.Range.{bounds}
 use Rattle.base.proofs.ReplicaSet.{has-with, has-empty}
@@ -42,7 +42,7 @@ use Rattle.run.specs.Premises.{CardOfRun, Premises}
 use Rattle.wire.specs.Acceptance.{replica, client}
 use Rattle.run.specs.Run.{Run, clientAt, answerAt}
 use Rattle.run.proofs.Turns.{apart, same-replica, correct-replica-range, correct-client-range, GoodClient, good-client, ClientStep, Heard}
-use Rattle.run.proofs.SentMessages.{or-true, Said, said-later, heard-said}
+use Rattle.run.proofs.SentMessages.{Said, said-later, heard-said}
 use Rattle.run.proofs.Slots.{Backed, backed-later, meet, card-backed}
 use Rattle.run.proofs.Held.{held, held-rises, written-held, Showed, stamp-showed, card-showed}
 use Rattle.run.proofs.Nonces.{Asks, for-stamps, for-cards, asked-since}

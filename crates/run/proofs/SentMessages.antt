@@ -1,7 +1,7 @@
 -- What correct parties sent, as messages: legal, and what true verdicts say of a message that passed. Assumes nothing.
-use mathlib.Core.Path.{_≡_, refl, sym, ap, subst, _∙_}
-use mathlib.Core.Logic.{_⊎_, inl, inr, ⊎-elim}
-use mathlib.Core.Bool.{Bool, true, false, _||_}
+use mathlib.Core.Path.{_≡_, sym, ap, subst, _∙_}
+use mathlib.Core.Logic.{_⊎_, ⊎-elim}
+use mathlib.Core.Bool.{true}
 use mathlib.Core.List.{List, [], _∷_, _++_, map}
 use Prim.Native.Nat.{ℕ, _+_, _≤_, _<_}
 use native.Mathlib.Omega.{arith}
@@ -12,24 +12,21 @@ use Rattle.base.specs.Outcome.{accepted}
 use Rattle.base.specs.Rising.{listed}
 use Rattle.base.specs.declared.party.ClientId.{ClientId}
 use Rattle.base.specs.declared.party.ReplicaId.{ReplicaId}
-use Rattle.base.proofs.Booleans.{and-true-both}
+use Rattle.base.proofs.Booleans.{and-true-both, or-true}
 use Rattle.wire.specs.Checks.{all, ownGenuine, genuine}
 use Rattle.wire.specs.Decode.{decode}
 use Rattle.wire.specs.Message.{Message, READ-STAMP, READ, body, Legal}
 use Rattle.wire.specs.Proof.{Entry}
 use Rattle.wire.proofs.OneForm.{decoded-legal}
+use Rattle.wire.proofs.RoundTrip.{body-injective}
 use Rattle.wire.specs.declared.message.Party.the-variants.{Replica as AtReplica, Client as AtClient}
 use Rattle.protocol.specs.Client.{send}
 use Rattle.protocol.proofs.ClientCases.{LegalAnswer}
 use Rattle.run.specs.Premises.{Signature, signedBy, signaturesOf, TrueVerdicts, TrueFor, TrueAt, Premises}
 use Rattle.wire.specs.Acceptance.{senderOf, Sender, replica, client}
 use Rattle.run.specs.Run.{to-replica, to-client, Run, clientAt, answerAt, At, Correct, Sent}
-use Rattle.run.proofs.Bodies.{same-body, covered}
+use Rattle.run.proofs.Bodies.{covered}
 use Rattle.run.proofs.Turns.{apart, same-replica, ReplicaStep, replica-step, ClientTurn, rested, wrote, asked, heard, client-turn, Heard}
-
-pub or-true : (a b : Bool) → (a || b) ≡ true → (a ≡ true) ⊎ (b ≡ true)
-or-true true b h = inl refl
-or-true false b h = inr h
 
 module _ (R : Run) where
   -- The party was answered with this message before event t.
@@ -59,7 +56,7 @@ module _ (R : Run) where
   -- A correct party that sent a legal message's bytes sent that message.
   pub said : (party : Sender) → Correct R party → (message : Message) → Legal message → (t : ℕ) → Sent R party (body message) t → Said party message t
   said party c m legal t s =
-      let same : s .message ≡ m = same-body (s .message) m (sent-legal party c (s .time) (s .message) (s .by) (s .answered)) legal (s .same-bytes) in
+      let same : s .message ≡ m = body-injective (s .message) m (sent-legal party c (s .time) (s .message) (s .by) (s .answered) .fits) (legal .fits) (s .same-bytes) in
       record { time = s .time; earlier = s .earlier; by = s .by; answered = s .answered ∙ ap (λ (x : Message). accepted (send x)) same }
 
   -- ---- True verdicts

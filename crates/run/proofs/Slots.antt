@@ -4,7 +4,7 @@ use mathlib.Core.Logic.{_⊎_, inl, inr, ⊎-elim}
 use mathlib.Core.Bool.{Bool, true, false}
 use mathlib.Core.List.{List, [], _∷_, _++_, map}
 use mathlib.Core.Option.{some}
-use Prim.Native.Nat.{ℕ, zero, suc, _+_, _/_, _^_, _≤_, _<_}
+use Prim.Native.Nat.{ℕ, zero, suc, _+_, _/_, _≤_, _<_}
 use native.Mathlib.Omega.{arith}
 use native.Mathlib.Nat.{eq-or-lt-of-le, le-of-suc-le-suc}
 use borrow.Author.Tests.{eqb-true, leb-true, leb-false}
@@ -21,14 +21,14 @@ use Rattle.base.proofs.Outcome.{guard-accepted}
 use Rattle.base.proofs.Quorum.{Common, quorums-meet, rising-count}
 use Rattle.base.proofs.Range.{bounds}
 use Rattle.wire.specs.Checks.{all, oneEach, entriesOf, shaped, genuine, issued, proofOutcome}
-use Rattle.wire.specs.Message.{Message, PREPARED, CARD, Legal, Fits, IsDigest, PreparedFits, size}
+use Rattle.wire.specs.Message.{Message, PREPARED, CARD, Legal, Fits, PreparedFits, size}
 use Rattle.wire.specs.Proof.{Entry, PreparedProof}
 use Rattle.wire.proofs.ProofBytes.{prepared-rewritten}
 use Rattle.protocol.specs.Client.{send}
 use Rattle.protocol.specs.Replica.{slotCount, slotDigest}
 use Rattle.protocol.specs.declared.replica.Slots.{Slots}
 use Rattle.wire.proofs.Passed.{Passed}
-use Rattle.protocol.proofs.ReplicaFacts.{clientOf, SlotRises}
+use Rattle.protocol.proofs.ReplicaFacts.{clientOf, SlotRises, prepared-legal}
 use Rattle.run.specs.Claims.{Genuine}
 use Rattle.run.specs.Premises.{preparedSignatures, signaturesOf, TrueVerdicts, Premises}
 use Rattle.wire.specs.Acceptance.{replica}
@@ -56,10 +56,6 @@ has-kept before after s d (inl k) (inl a) = inl (k .0 ∙ a .0, k .1 ∙ a .1)
 has-kept before after s d (inl k) (inr a) = let same = k .0 in inr (omega arith)
 has-kept before after s d (inr k) (inl a) = let same = a .0 in inr (omega arith)
 has-kept before after s d (inr k) (inr a) = inr (omega arith)
-
-prepared-legal : (id : ReplicaId) (s : ℕ) (d : List ℕ) → id .0 < 256 → s < 2 ^ 40 → IsDigest d → Legal (PREPARED id s d)
-unfolding Fits size
-prepared-legal id s d low small digest = record { fits = (low, small, digest); short = omega arith }
 
 module _ (R : Run) where
   -- What a step that sent PREPARED left in the slot.

@@ -1,6 +1,6 @@
 -- Acceptance as the code finds it, in two halves: 2 to 8, then 9 to 11. Assumes nothing.
 use mathlib.Core.Path.{_≡_, refl, sym, _∙_}
-use mathlib.Core.Bool.{Bool, true, false, _&&_}
+use mathlib.Core.Bool.{true, _&&_}
 use mathlib.Core.List.{List}
 use Prim.Native.Nat.{ℕ}
 use native.Mathlib.Omega.{arith}
@@ -9,7 +9,7 @@ use lib.Dec.{eqb, leb}
 use lib.ListN.{length, drop}
 use Rattle.base.specs.Outcome.{Outcome, accepted, refused, guard, _>>=_}
 use Rattle.base.proofs.Booleans.{and-true-both}
-use Rattle.base.proofs.Outcome.{guard-accepted, guard-then}
+use Rattle.base.proofs.Outcome.{guard-accepted, guard-then, guard-alike}
 use Rattle.wire.specs.Acceptance.{senderOf, inItsRange, admits, admitted, acceptance}
 use Rattle.wire.specs.Accepting.{opening, opened, signatureCount, Ready, Judges}
 use Rattle.wire.specs.Checks.{oneEach, ownGenuine, all, proven, checked}
@@ -27,12 +27,6 @@ use Rattle.wire.proofs.Proven.{proven-next}
 
 no-both : {A : Type 0} (a : A) (n : ℕ) → accepted a ≡ refused n → ⊥
 no-both a n e = let z : _≡_ {A = ℕ} 0 1 = cc in omega arith
-
--- A test that refuses an outcome that is accepted behind it refuses any other there.
-guard-alike : {A B : Type 0} (n k : ℕ) (test : Bool) (x : Outcome A) (y : Outcome B) → (x ≡ refused n → y ≡ refused n) → guard k test x ≡ refused n → guard k test y ≡ refused n
-unfolding guard
-guard-alike n k true x y alike e = alike e
-guard-alike n k false x y alike e = cc
 
 -- 9 to 11 of a message, and what is accepted in its place.
 proven-instead : (f : ℕ) (message : Message) (verdicts : List ℕ) (fields : Fields)

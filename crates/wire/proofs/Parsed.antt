@@ -13,6 +13,7 @@ use Rattle.base.specs.Outcome.{Outcome, accepted, refused, guard}
 use Rattle.base.specs.Range.{within}
 use Rattle.base.specs.Timestamp.{number}
 use Rattle.base.proofs.Timestamps.{number-ofNumber}
+use Rattle.base.proofs.Outcome.{guard-alike}
 use Rattle.wire.specs.Decode.{Kind, kinds, suits, ofKind, goodMap, framed, tested, decode, reading, fieldsIn, kindIn, clientIn, replicaIn, nonceIn, timestampIn, digestIn, cardIn, addressedIn, optional, preparedIn, writtenIn}
 use Rattle.wire.specs.Layout.{extent, preparedRule, writtenRule, rules, mapIn, place, field}
 use Rattle.wire.specs.Message.{Message, READ-STAMP, PREPARE, WRITE, READ, STAMP, PREPARED, WRITTEN, CARD, longest}
@@ -207,11 +208,6 @@ client-kind (card e) = inr (inr (inr refl))
 
 -- Outcomes that only the tests refuse, refused alike whatever follows.
 module _ {A B : Type 0} (n : ℕ) where
-  guard-alike : (k : ℕ) (test : Bool) (x : Outcome A) (y : Outcome B) → (x ≡ refused n → y ≡ refused n) → guard k test x ≡ refused n → guard k test y ≡ refused n
-  unfolding guard
-  guard-alike k true x y alike e = alike e
-  guard-alike k false x y alike e = cc
-
   rows-alike : (party : Party) (map number : ℕ) (rows : List Kind) (a : A) (next : Kind → Outcome B)
       → ofKind party map number rows (λ row. accepted a) ≡ refused n → ofKind party map number rows next ≡ refused n
   unfolding ofKind
@@ -221,7 +217,7 @@ module _ {A B : Type 0} (n : ℕ) where
       go : (ofKind party map number rows (λ row. accepted a) ≡ refused n → ofKind party map number rows next ≡ refused n) → (t : Bool)
           → cond t (guard 5 (suits party map r) (accepted a)) (ofKind party map number rows (λ row. accepted a)) ≡ refused n
           → cond t (guard 5 (suits party map r) (next r)) (ofKind party map number rows next) ≡ refused n
-      go ih true e = guard-alike 5 (suits party map r) (accepted a) (next r) (λ z. let zero-one : _≡_ {A = ℕ} 0 1 = cc in absurd (omega arith)) e
+      go ih true e = guard-alike n 5 (suits party map r) (accepted a) (next r) (λ z. let zero-one : _≡_ {A = ℕ} 0 1 = cc in absurd (omega arith)) e
       go ih false e = ih e
 
   tested-alike : (party : Party) (bytes : List ℕ) (a : A) (next : Kind → Outcome B) → tested party bytes (λ row. accepted a) ≡ refused n → tested party bytes next ≡ refused n
@@ -231,8 +227,8 @@ module _ {A B : Type 0} (n : ℕ) where
       let y = ofKind party (mapIn bytes) (kindIn bytes) kinds next in
       let four = eqb (place bytes 9 + 64) (length bytes) in
       let three = goodMap (mapIn bytes) in
-      guard-alike 2 (within 2 longest (length bytes)) (guard 3 three (guard 4 four x)) (guard 3 three (guard 4 four y))
-      (guard-alike 3 three (guard 4 four x) (guard 4 four y) (guard-alike 4 four x y (rows-alike party (mapIn bytes) (kindIn bytes) kinds a next))) e
+      guard-alike n 2 (within 2 longest (length bytes)) (guard 3 three (guard 4 four x)) (guard 3 three (guard 4 four y))
+      (guard-alike n 3 three (guard 4 four x) (guard 4 four y) (guard-alike n 4 four x y (rows-alike party (mapIn bytes) (kindIn bytes) kinds a next))) e
 
 -- What reading refuses, decoding refuses.
 pub decode-refused : (party : Party) (bytes : List ℕ) (n : ℕ) → reading party bytes ≡ refused n → decode party bytes ≡ refused n

@@ -1,7 +1,6 @@
 -- Answers as numbers, so that a test compares them, and what its passing says. Assumes nothing.
 use mathlib.Core.Path.{_≡_, refl}
-use mathlib.Core.Logic.{_⊎_, inl, inr}
-use mathlib.Core.Bool.{Bool, true, false, _||_, false≢true}
+use mathlib.Core.Bool.{Bool, true, false, false≢true}
 use mathlib.Core.List.{List, [], _∷_}
 use Prim.Native.Nat.{ℕ}
 use borrow.Author.Tests.{eqb-false}
@@ -16,10 +15,6 @@ use Rattle.wire.specs.Message.{Message, body}
 
 pub no-test : {A : Type 0} → false ≡ true → A
 no-test h = absurd (false≢true h)
-
-pub either : (a b : Bool) → (a || b) ≡ true → (a ≡ true) ⊎ (b ≡ true)
-either true b h = inl refl
-either false b h = inr h
 
 -- ---- Answers
 

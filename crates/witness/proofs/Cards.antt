@@ -9,7 +9,8 @@ use Rattle.base.proofs.Booleans.{and-true-both}
 use Rattle.base.specs.Same.{same}
 use Rattle.wire.specs.Sha256.{sha256}
 use Rattle.base.proofs.Same.{same-equal, same-itself}
-use Rattle.witness.proofs.Answers.{no-test, either}
+use Rattle.base.proofs.Booleans.{or-true}
+use Rattle.witness.proofs.Answers.{no-test}
 
 -- A card and its digest.
 pub record Known : Type 0 where
@@ -37,7 +38,7 @@ pub record IsOne (cards : List Known) (card : List ℕ) : Type 0 where
 pub is-one : (cards : List Known) (card : List ℕ) → isKnown cards card ≡ true → IsOne cards card
 unfolding eachKnown
 is-one [] card h = no-test h
-is-one (first ∷ others) card h = go (is-one others card) (either (same (first .card) card) (isKnown others card) h)
+is-one (first ∷ others) card h = go (is-one others card) (or-true (same (first .card) card) (isKnown others card) h)
   where
     go : (isKnown others card ≡ true → IsOne others card) → (same (first .card) card ≡ true) ⊎ (isKnown others card ≡ true) → IsOne (first ∷ others) card
     go behind (inl is) =

@@ -29,7 +29,8 @@ use Rattle.wire.specs.Message.{Message, body}
 use Rattle.wire.specs.Sha256.{sha256}
 use Rattle.wire.specs.declared.message.Party.the-variants.{Replica as AtReplica, Client as AtClient}
 use Rattle.base.proofs.Same.{same-equal}
-use Rattle.witness.proofs.Answers.{no-test, either, code, is-sent, is-done, is-accepted, goesOn, isCounted, is-counted}
+use Rattle.base.proofs.Booleans.{or-true}
+use Rattle.witness.proofs.Answers.{no-test, code, is-sent, is-done, is-accepted, goesOn, isCounted, is-counted}
 use Rattle.witness.proofs.Cards.{Known, isKnown, isKnownIfThere, is-one, rightDigests, differentDigests, different}
 
 -- What happened, and what was answered.
@@ -274,7 +275,7 @@ module _ (R : Run) (lines : List Line) (told : Told R lines) where
   sent : (party : Sender) (bytes : List ℕ) (t : ℕ) → sentBefore lines party bytes t ≡ true → Sent R party bytes t
   unfolding sentBefore
   sent party bytes zero h = no-test h
-  sent party bytes (suc t) h = go (sent party bytes t) (either (sentIn party bytes (getElem? lines t)) (sentBefore lines party bytes t) h)
+  sent party bytes (suc t) h = go (sent party bytes t) (or-true (sentIn party bytes (getElem? lines t)) (sentBefore lines party bytes t) h)
     where
       here : (line : Option Line) → getElem? lines t ≡ line → sentIn party bytes line ≡ true → Sent R party bytes (suc t)
       here none at test = no-test test
