@@ -10,18 +10,21 @@ ghost use Prim.Native.Nat.{_-_, _≤_};
 ghost use Rattle.base.specs.BitMap.{bit};
 ghost use Rattle.wire.specs.Accepting.{entryCount, signaturesTo};
 
+// How much the first is above the second; 0 if it is below.
+fn excess(a: usize, b: usize) -> usize
+    ensures { λ r. ⌜ r ≡ a - b ⌝ }
+{
+    if a < b {
+        return 0;
+    }
+    a - b
+}
+
 // The number of entries of the proof from one place to another; 0 if there is none.
 pub(super) fn entry_count(at: usize, head: usize, end: usize) -> usize
     ensures { λ r. ⌜ (r ≡ entryCount at head end) × (r ≤ end) ⌝ }
 {
-    if end < at {
-        return 0;
-    }
-    let width = end - at;
-    if width < head {
-        return 0;
-    }
-    (width - head) / ENTRY
+    excess(excess(end, at), head) / ENTRY
 }
 
 // Where the written proof ends: the field behind it is one byte, before the signature.
