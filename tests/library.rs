@@ -7,6 +7,7 @@ mod card;
 mod client;
 mod forge;
 mod generate;
+#[allow(dead_code)] // the other comparisons use more of it
 mod message;
 #[path = "../bench/plain_sha256.rs"]
 mod plain_sha256;

@@ -24,6 +24,18 @@ pub const PREPARED: u8 = 6;
 pub const WRITTEN: u8 = 7;
 pub const CARD: u8 = 8;
 
+/// The names of the kinds, from 1.
+pub const KIND_NAMES: [&str; 8] = [
+    "READ-STAMP",
+    "PREPARE",
+    "WRITE",
+    "READ",
+    "STAMP",
+    "PREPARED",
+    "WRITTEN",
+    "CARD",
+];
+
 pub fn replicas(f: u8) -> u8 {
     3 * f + 1
 }

@@ -1,19 +1,8 @@
 //! How often each call had each answer, and whether that is often enough.
 use crate::message::{Message, LONGEST_MESSAGE};
+use crate::message::KIND_NAMES;
 use crate::script::{lent, unhex, Output};
 use std::collections::BTreeMap;
-
-/// The names of the kinds, from 1.
-const KINDS: [&str; 8] = [
-    "READ-STAMP",
-    "PREPARE",
-    "WRITE",
-    "READ",
-    "STAMP",
-    "PREPARED",
-    "WRITTEN",
-    "CARD",
-];
 
 /// Rows beside the answers: outputs on both sides of test 1; answered messages of the largest length; messages that are too
 /// long (2) or almost (9) by the entries of one proof or of two.
@@ -99,7 +88,7 @@ fn rows() -> Vec<String> {
         |names: &[&str]| -> Vec<String> { names.iter().map(|name| name.to_string()).collect() };
     [
         names(&["ready", "kept", "restored"]),
-        names(&KINDS),
+        names(&KIND_NAMES),
         names(&["counted", "done", "ended"]),
         (1..=18).map(refusal_row).collect(),
         names(&LENT),
@@ -145,7 +134,7 @@ impl Tally {
     pub fn count(&mut self, line: &str, output: &Output) {
         let row = match output {
             Output::Refused(refusal) => refusal_row(*refusal),
-            Output::Sent(_, message) => KINDS[usize::from(message[2]) - 1].to_string(),
+            Output::Sent(_, message) => KIND_NAMES[usize::from(message[2]) - 1].to_string(),
             Output::Done(..) => "done".to_string(),
             Output::Comment(_) | Output::New | Output::Unread => return,
             other => other.to_string(),

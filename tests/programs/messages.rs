@@ -7,16 +7,6 @@ use crate::tally::Tally;
 
 const PAIRS: usize = 10_000;
 const ROOM: usize = 262_144;
-const KIND_NAMES: [&str; 8] = [
-    "READ-STAMP",
-    "PREPARE",
-    "WRITE",
-    "READ",
-    "STAMP",
-    "PREPARED",
-    "WRITTEN",
-    "CARD",
-];
 
 pub const FLOORS: [(&str, usize); 20] = [
     ("first later", 1_000),
