@@ -2,9 +2,11 @@ pub mod BigEndian
 pub mod Booleans
 pub mod Counting
 pub mod Digits
+pub mod Filling
 pub mod Outcome
 pub mod Quorum
 pub mod Range
 pub mod ReplicaSet
 pub mod Same
+pub mod Stored
 pub mod Timestamps

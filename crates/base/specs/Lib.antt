@@ -1,5 +1,6 @@
 pub mod BigEndian
 pub mod BitMap
+pub mod Bytes
 pub mod Counting
 pub mod Outcome
 pub mod Party

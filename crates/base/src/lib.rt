@@ -1,5 +1,6 @@
 // Numbers of parties, timestamps and sets of replicas, and the laws on lists and numbers that the crates above share.
 pub mod big_endian;
+pub mod bytes;
 pub mod party;
 pub mod refusal;
 pub mod replica_set;

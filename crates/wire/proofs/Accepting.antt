@@ -16,9 +16,9 @@ use Rattle.base.specs.Timestamp.{number, ofNumber, isIssued}
 use Rattle.base.specs.declared.timestamp.Timestamp.{Timestamp}
 use Rattle.base.proofs.Timestamps.{number-ofNumber}
 use Rattle.wire.specs.Acceptance.{senderOf, numbered, inItsRange}
-use Rattle.wire.specs.Accepting.{opened, entryCount, signatureCount, proofBetween, Ready}
+use Rattle.wire.specs.Accepting.{opened, entryCount, countIn, signatureCount, proofBetween, Ready}
 use Rattle.wire.specs.Checks.{preparedOf, writtenOf, timestampOf, ifThere, entriesIfThere, entriesOf, oneEach, ownGenuine, issued, all, proven, proofOutcome}
-use Rattle.wire.specs.Decode.{decode, reading, fieldsIn, framed, timestampIn, readingOutcome}
+use Rattle.wire.specs.Decode.{decode, reading, spanOf, fieldsIn, framed, timestampIn, readingOutcome}
 use Rattle.wire.specs.Judging.{entriesIn, proofCheckOutcome, smallest, preparedOutcome, writtenOutcome}
 use Rattle.wire.specs.Layout.{rules, mapIn, place, field}
 use Rattle.wire.specs.Message.{Message}
@@ -29,8 +29,9 @@ use Rattle.wire.specs.declared.message.Fields.{Fields}
 use Rattle.wire.specs.declared.message.Party.{Party}
 use Rattle.wire.specs.declared.message.Reading.{Reading}
 use Rattle.wire.specs.declared.message.Reading.the-variants.{Message as Found, Refused}
+use Rattle.wire.specs.declared.message.Span.{Span}
 use Rattle.wire.proofs.FieldParts.{room}
-use Rattle.wire.proofs.Framed.{Framed, framed-passes, framed-accepted, place-present, place-absent, length-field}
+use Rattle.wire.proofs.Framed.{Framed, framed-passes, framed-accepted, place-absent, length-field}
 use Rattle.wire.proofs.Parsed.{preparedAt, writtenAt, messageOf, prepared-whole, written-whole, parsed, decode-accepted, decode-refused}
 use Rattle.wire.proofs.ProofBytes.{length-read}
 use Rattle.wire.proofs.Proven.{proven-smallest, prepared-missing, written-missing}
@@ -83,19 +84,10 @@ pub record Placed (bytes : List ℕ) (fields : Fields) : Type 0 where
   pub map : fields .map ≡ mapIn bytes
   pub sender : fields .sender ≡ fromBytes (field bytes 1)
   pub timestamp : fields .timestamp ≡ ofNumber (timestampIn bytes)
-  pub at : fields .prepared ≡ place bytes 6
-  pub next : fields .written ≡ place bytes 7
-  pub signed : 1 ≤ fields .signature
-  pub end : fields .signature - cond (bit (fields .map) 8) 1 0 ≡ place bytes 8
+  pub prepared : fields .prepared ≡ spanOf bytes 6
+  pub written : fields .written ≡ spanOf bytes 7
   pub first : Room bytes 38 (place bytes 6) (place bytes 7)
   pub second : Room bytes 6 (place bytes 7) (place bytes 8)
-
-last-place : (bytes : List ℕ) → place bytes 9 - cond (bit (mapIn bytes) 8) 1 0 ≡ place bytes 8
-last-place bytes = go (bit (mapIn bytes) 8) refl
-  where
-    go : (t : Bool) → bit (mapIn bytes) 8 ≡ t → place bytes 9 - cond t 1 0 ≡ place bytes 8
-    go true e = let h : place bytes 9 ≡ place bytes 8 + 1 = unfold rules in place-present bytes 8 e in omega arith
-    go false e = let h = place-absent bytes 8 e in omega arith
 
 pub placed : (bytes : List ℕ) (fields : Fields) → framed bytes (accepted (fieldsIn bytes)) ≡ accepted fields → Placed bytes fields
 unfolding fieldsIn
@@ -111,10 +103,8 @@ placed bytes fields e =
           map = refl;
           sender = refl;
           timestamp = refl;
-          at = refl;
-          next = refl;
-          signed = unfold place in omega arith;
-          end = last-place bytes;
+          prepared = refl;
+          written = refl;
           first = unfold rules in room bytes 6 38 (omega arith) (λ l. omega arith) f;
           second = unfold rules in room bytes 7 6 (omega arith) (λ l. omega arith) f;
         }
@@ -124,10 +114,9 @@ placed-reading party bytes fields e =
     let p = parsed party bytes fields e in
     placed bytes fields (framed-passes bytes (accepted (fieldsIn bytes)) (p .framed) ∙ ap accepted (sym (p .same)))
 
-pub all-signatures : (bytes : List ℕ) (fields : Fields) → Placed bytes fields → (end : ℕ) → end ≡ fields .signature - cond (bit (fields .map) 8) 1 0
-    → (a b : ℕ) → a ≡ entryCount (fields .prepared) 38 (fields .written) → b ≡ entryCount (fields .written) 6 end → 1 + a + b ≡ signatureCount bytes
-unfolding signatureCount
-all-signatures bytes fields p end ends a b first second = rw (first, second, ends, p .end, p .at, p .next)
+pub all-signatures : (bytes : List ℕ) (fields : Fields) → Placed bytes fields → countIn fields ≡ signatureCount bytes
+unfolding signatureCount fieldsIn
+all-signatures bytes fields p = rw (p .prepared, p .written)
 
 -- Entries behind a head whose last byte is their number.
 module _ (h : ℕ) (part : List ℕ) (whole : suc h + 65 * getD part h 0 ≡ length part) where
@@ -143,11 +132,11 @@ none-left (v ∷ verdicts) e = absurd (omega arith)
 
 module _ (bytes : List ℕ) (f : Framed bytes) where
   -- The entries of a proof are as many as fit between its places.
-  prepared-count : length (entriesIfThere (λ (proof : PreparedProof). proof .entries) (preparedAt bytes)) ≡ entryCount (place bytes 6) 38 (place bytes 7)
+  prepared-count : length (entriesIfThere (λ (proof : PreparedProof). proof .entries) (preparedAt bytes)) ≡ entryCount (spanOf bytes 6) 38
   prepared-count = go (bit (mapIn bytes) 6) refl
     where
       go : (t : Bool) → bit (mapIn bytes) 6 ≡ t
-          → length (entriesIfThere (λ (proof : PreparedProof). proof .entries) (cond t (some (preparedFrom (field bytes 6))) none)) ≡ entryCount (place bytes 6) 38 (place bytes 7)
+          → length (entriesIfThere (λ (proof : PreparedProof). proof .entries) (cond t (some (preparedFrom (field bytes 6))) none)) ≡ entryCount (spanOf bytes 6) 38
       go true e =
           let part = field bytes 6 in
           let whole = prepared-whole bytes f e in
@@ -155,11 +144,11 @@ module _ (bytes : List ℕ) (f : Framed bytes) where
           rw (length-read (getD part 37 0) (drop 38 part)) (omega arith)
       go false e = let same = place-absent bytes 6 e in omega arith
 
-  written-count : length (entriesIfThere (λ (proof : WrittenProof). proof .entries) (writtenAt bytes)) ≡ entryCount (place bytes 7) 6 (place bytes 8)
+  written-count : length (entriesIfThere (λ (proof : WrittenProof). proof .entries) (writtenAt bytes)) ≡ entryCount (spanOf bytes 7) 6
   written-count = go (bit (mapIn bytes) 7) refl
     where
       go : (t : Bool) → bit (mapIn bytes) 7 ≡ t
-          → length (entriesIfThere (λ (proof : WrittenProof). proof .entries) (cond t (some (writtenFrom (field bytes 7))) none)) ≡ entryCount (place bytes 7) 6 (place bytes 8)
+          → length (entriesIfThere (λ (proof : WrittenProof). proof .entries) (cond t (some (writtenFrom (field bytes 7))) none)) ≡ entryCount (spanOf bytes 7) 6
       go true e =
           let part = field bytes 7 in
           let whole = written-whole bytes f e in
@@ -168,7 +157,7 @@ module _ (bytes : List ℕ) (f : Framed bytes) where
       go false e = let same = place-absent bytes 7 e in omega arith
 
   -- A proof with its verdicts, by its places.
-  prepared-between : (n : ℕ) (verdicts : List ℕ) → length verdicts ≡ entryCount (place bytes 6) 38 (place bytes 7)
+  prepared-between : (n : ℕ) (verdicts : List ℕ) → length verdicts ≡ entryCount (spanOf bytes 6) 38
       → proofBetween n bytes (place bytes 6) 38 (place bytes 7) verdicts ≡ preparedOutcome n verdicts (preparedAt bytes)
   unfolding proofBetween
   prepared-between n verdicts size = go (bit (mapIn bytes) 6) refl
@@ -188,7 +177,7 @@ module _ (bytes : List ℕ) (f : Framed bytes) where
           let nothing : verdicts ≡ [] = none-left verdicts (omega arith) in
           rw (eq-eqb (place bytes 6) (place bytes 7) (omega arith), nothing) (sym (prepared-missing n))
 
-  written-between : (n : ℕ) (verdicts : List ℕ) → length verdicts ≡ entryCount (place bytes 7) 6 (place bytes 8)
+  written-between : (n : ℕ) (verdicts : List ℕ) → length verdicts ≡ entryCount (spanOf bytes 7) 6
       → proofBetween n bytes (place bytes 7) 6 (place bytes 8) verdicts ≡ writtenOutcome n verdicts (writtenAt bytes)
   unfolding proofBetween
   written-between n verdicts size = go (bit (mapIn bytes) 7) refl
@@ -211,14 +200,14 @@ module _ (bytes : List ℕ) (f : Framed bytes) where
 -- Test 7 by the places of the proofs.
 pub one-each : (party : Party) (bytes : List ℕ) (message : Message) (verdicts : List ℕ) → decode party bytes ≡ accepted message → Framed bytes
     → oneEach message verdicts ≡ (eqb (length verdicts) (signatureCount bytes) && all (λ v. leb v 1) verdicts)
-unfolding oneEach entriesOf signatureCount
+unfolding oneEach entriesOf signatureCount fieldsIn
 one-each party bytes message verdicts e f =
     let s = seen party bytes message e in
     let first = prepared-count bytes f in
     let second = written-count bytes f in
     let p = entriesIfThere (λ (proof : PreparedProof). proof .entries) (preparedAt bytes) in
     let w = entriesIfThere (λ (proof : WrittenProof). proof .entries) (writtenAt bytes) in
-    let count : 1 + length (p ++ w) ≡ 1 + entryCount (place bytes 6) 38 (place bytes 7) + entryCount (place bytes 7) 6 (place bytes 8) = rw length-append (omega arith) in
+    let count : 1 + length (p ++ w) ≡ 1 + entryCount (spanOf bytes 6) 38 + entryCount (spanOf bytes 7) 6 = rw length-append (omega arith) in
     rw (s .prepared, s .written, count)
 
 -- Tests 9 to 11 by the places of the proofs.
@@ -234,8 +223,8 @@ own-timestamp bytes = go (bit (mapIn bytes) 3)
     go false = refl
 
 pub judged : (f : ℕ) (party : Party) (bytes : List ℕ) (message : Message) (first second : List ℕ) → decode party bytes ≡ accepted message → Framed bytes
-    → length first ≡ entryCount (place bytes 6) 38 (place bytes 7)
-    → length second ≡ entryCount (place bytes 7) 6 (place bytes 8)
+    → length first ≡ entryCount (spanOf bytes 6) 38
+    → length second ≡ entryCount (spanOf bytes 7) 6
     → smallest (smallest (proofBetween f bytes (place bytes 6) 38 (place bytes 7) first) (proofBetween f bytes (place bytes 7) 6 (place bytes 8) second)) (guard 11 (cond (bit (mapIn bytes) 3) (isIssued (ofNumber (timestampIn bytes))) true) (accepted tt))
     ≡ proven f message (first ++ second) (accepted tt)
 judged f party bytes message first second e whole first-size second-size =
@@ -302,24 +291,22 @@ module _ (verdicts : List ℕ) (n a b : ℕ) (size : length verdicts ≡ 1 + a +
   both-parts = let less : 1 + n - 1 ≡ n = omega arith in rw (behind, less) (take-append-drop n (drop 1 verdicts))
 
 -- Tests 9 to 11 from what the code finds, part by part.
-module _ (f : ℕ) (bytes verdicts : List ℕ) (fields : Fields) (n end : ℕ) (ready : Ready bytes verdicts fields)
-    (count : n ≡ entryCount (fields .prepared) 38 (fields .written)) (ends : end ≡ fields .signature - cond (bit (fields .map) 8) 1 0) where
+module _ (f : ℕ) (bytes verdicts : List ℕ) (fields : Fields) (n : ℕ) (ready : Ready bytes verdicts fields) (count : n ≡ entryCount (fields .prepared) 38) where
   pub judged-parts : (prepared written : ProofCheck) (own : Bool)
-      → proofCheckOutcome prepared ≡ proofBetween f bytes (fields .prepared) 38 (fields .written) (take (1 + n - 1) (drop 1 verdicts))
-      → proofCheckOutcome written ≡ proofBetween f bytes (fields .written) 6 end (take (length verdicts - (1 + n)) (drop (1 + n) verdicts))
+      → proofCheckOutcome prepared ≡ proofBetween f bytes (fields .prepared .start) 38 (fields .prepared .end) (take (1 + n - 1) (drop 1 verdicts))
+      → proofCheckOutcome written ≡ proofBetween f bytes (fields .written .start) 6 (fields .written .end) (take (length verdicts - (1 + n)) (drop (1 + n) verdicts))
       → own ≡ cond (bit (fields .map) 3) (isIssued (fields .timestamp)) true
       → (party : Party) (message : Message) → decode party bytes ≡ accepted message
       → smallest (smallest (proofCheckOutcome prepared) (proofCheckOutcome written)) (guard 11 own (accepted tt)) ≡ proven f message (drop 1 verdicts) (accepted tt)
-  unfolding signatureCount
+  unfolding signatureCount fieldsIn
   judged-parts one two own first second third party message e =
       let p = placed bytes fields (ready .whole) in
-      let a = entryCount (place bytes 6) 38 (place bytes 7) in
-      let b = entryCount (place bytes 7) 6 (place bytes 8) in
+      let a = entryCount (spanOf bytes 6) 38 in
+      let b = entryCount (spanOf bytes 7) 6 in
       let size = ready .one-each in
-      let counted : n ≡ a = rw (← p .at, ← p .next) count in
-      let until : end ≡ place bytes 8 = ends ∙ p .end in
+      let counted : n ≡ a = count ∙ ap (λ (at : Span). entryCount at 38) (p .prepared) in
       let left = take (1 + n - 1) (drop 1 verdicts) in
       let right = take (length verdicts - (1 + n)) (drop (1 + n) verdicts) in
-      rw (first, second, third, until, p .at, p .next, p .map, p .timestamp)
+      rw (first, second, third, p .prepared, p .written, p .map, p .timestamp)
       (judged f party bytes message left right e (p .whole) (first-size verdicts n a b size counted) (second-size verdicts n a b size counted)
       ∙ ap (λ (l : List ℕ). proven f message l (accepted tt)) (both-parts verdicts n a b size counted))

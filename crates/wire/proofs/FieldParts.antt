@@ -94,12 +94,12 @@ pub made : (s : List ℕ) (p : Places) (nonce : ℕ) (timestamp : Timestamp) (ad
       sender = getD s 3 0;
       nonce = nonce;
       timestamp = timestamp;
-      digest = p .digest;
-      card = p .card;
-      prepared = p .prepared;
-      written = p .written;
+      digest = record { start = p .digest; end = p .card };
+      card = record { start = p .card; end = p .prepared };
+      prepared = record { start = p .prepared; end = p .written };
+      written = record { start = p .written; end = p .addressed };
       addressed = record { 0 = addressed };
-      signature = p .signature;
+      signature = record { start = p .signature; end = length s };
     }) (fieldsIn s)
 unfolding placesIn fieldsIn rules
 made s p nonce timestamp addressed whole e n t a =

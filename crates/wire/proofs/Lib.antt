@@ -2,6 +2,7 @@ pub mod Accepted
 pub mod Accepting
 pub mod Admitted
 pub mod Carrying
+pub mod Cuts
 pub mod FieldParts
 pub mod FrameTests
 pub mod Framed
@@ -9,7 +10,6 @@ pub mod Kept
 pub mod KindTests
 pub mod OneForm
 pub mod Parsed
-pub mod Parts
 pub mod Passed
 pub mod Places
 pub mod ProofBytes
@@ -22,4 +22,5 @@ pub mod Size
 pub mod Stores
 pub mod Unsigned
 pub mod Verdicts
+pub mod Widths
 pub mod Windows

@@ -21,7 +21,7 @@ use Rattle.wire.specs.declared.message.Party.{Party}
 use Rattle.wire.proofs.Framed.{Framed, Headed, place-next, field-absent, field-whole, bytes-field, map-small, first-bits}
 use Rattle.wire.proofs.Parsed.{preparedAt, writtenAt, prepared-whole, written-whole, messageOf, Tested, tested-accepted, decode-tested}
 use Rattle.base.proofs.BigEndian.{bytes-take, bytes-drop}
-use Rattle.wire.proofs.Parts.{rewritten, below}
+use Rattle.wire.proofs.Widths.{rewritten, below}
 use Rattle.wire.proofs.ProofBytes.{prepared-back, prepared-fits, written-back, written-fits}
 use Rattle.wire.proofs.Rows.{Taken, read-stamp, prepare, write, read, stamp, prepared, written, card, bits}
 use Rattle.wire.proofs.Size.{encode-size}

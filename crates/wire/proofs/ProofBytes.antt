@@ -15,7 +15,7 @@ use Rattle.wire.specs.Layout.{Rule, extent, preparedRule, writtenRule}
 use Rattle.wire.specs.Message.{EachFits, EntriesFit, PreparedFits, WrittenFits}
 use Rattle.wire.specs.Proof.{Entry, PreparedProof, WrittenProof, entriesBytes, countedEntries, preparedBytes, writtenBytes, readEntries, preparedFrom, writtenFrom, readPrepared, readWritten}
 use Rattle.base.proofs.BigEndian.{bytes-take, bytes-drop}
-use Rattle.wire.proofs.Parts.{rewritten, below}
+use Rattle.wire.proofs.Widths.{rewritten, below}
 
 -- Entries written.
 pub length-entries : (es : List Entry) → EachFits es → length (entriesBytes es) ≡ 65 * length es

@@ -11,12 +11,12 @@ use Rattle.wire.specs.Acceptance.{senderOf, inItsRange}
 use Rattle.wire.specs.Checks.{oneEach, ownGenuine, proven, proofOutcome}
 use Rattle.wire.specs.Decode.{decode, fieldsIn, framed, reading}
 use Rattle.wire.specs.Judging.{entriesIn, proofCheckOutcome}
-use Rattle.wire.specs.Layout.{place}
 use Rattle.wire.specs.Message.{Message}
 use Rattle.wire.specs.Places.{between}
 use Rattle.wire.specs.declared.checks.ProofCheck.{ProofCheck}
 use Rattle.wire.specs.declared.message.Fields.{Fields}
 use Rattle.wire.specs.declared.message.Party.{Party}
+use Rattle.wire.specs.declared.message.Span.{Span}
 
 -- 2 to 8, and what follows for the message.
 abbrev pub opening : {A : Type 0} → Party → ℕ → List ℕ → List ℕ → (Message → Outcome A) → Outcome A
@@ -30,21 +30,24 @@ opening party f bytes verdicts next =
 unfoldable pub opened : Party → ℕ → List ℕ → List ℕ → Outcome Fields
 opened party f bytes verdicts = opening party f bytes verdicts (λ message. accepted (fieldsIn bytes))
 
--- The entries behind the head of a proof from one place to another; none if there is no proof.
-abbrev pub entryCount : ℕ → ℕ → ℕ → ℕ
-entryCount at head end = (end - at - head) / 65
+-- The entries behind the head of the proof at a place; none if there is no proof.
+abbrev pub entryCount : Span → ℕ → ℕ
+entryCount at head = (at .end - at .start - head) / 65
 
 -- The signatures of a message: its own and those of its proofs' entries.
+abbrev pub countIn : Fields → ℕ
+countIn fields = 1 + entryCount (fields .prepared) 38 + entryCount (fields .written) 6
+
 unfoldable pub signatureCount : List ℕ → ℕ
-signatureCount bytes = 1 + entryCount (place bytes 6) 38 (place bytes 7) + entryCount (place bytes 7) 6 (place bytes 8)
+signatureCount bytes = countIn (fieldsIn bytes)
 
 -- "one byte per seal": as many verdicts as a message has signatures, for the party that can read it.
-abbrev pub signaturesIf : Outcome Fields → List ℕ → ℕ
-signaturesIf (accepted fields) bytes = signatureCount bytes
-signaturesIf (refused number) bytes = 0
+abbrev pub signaturesIf : Outcome Fields → ℕ
+signaturesIf (accepted fields) = countIn fields
+signaturesIf (refused number) = 0
 
 unfoldable pub signaturesTo : Party → List ℕ → ℕ
-signaturesTo party bytes = signaturesIf (reading party bytes) bytes
+signaturesTo party bytes = signaturesIf (reading party bytes)
 
 -- 9 to 11 of the proof from one place to another, with its entries' verdicts; good if there is none.
 unfoldable pub proofBetween : ℕ → List ℕ → ℕ → ℕ → ℕ → List ℕ → Outcome (Unit {0})

@@ -2,7 +2,7 @@
 use mathlib.Core.Bool.{Bool, true, false, _&&_, cond}
 use mathlib.Core.List.{List, [], _∷_}
 use mathlib.Core.Option.{Option, none, some}
-use Prim.Native.Nat.{ℕ, _+_, _-_, _^_}
+use Prim.Native.Nat.{ℕ, suc, _+_, _-_, _^_}
 use lib.Dec.{eqb, ltb}
 use lib.ListN.{length, drop}
 use Rattle.base.specs.BigEndian.{fromBytes}
@@ -20,6 +20,7 @@ use Rattle.wire.specs.declared.message.Party.{Party}
 use Rattle.wire.specs.declared.message.Party.the-variants.{Replica, Client}
 use Rattle.wire.specs.declared.message.Reading.{Reading}
 use Rattle.wire.specs.declared.message.Reading.the-variants.{Message as Found, Refused}
+use Rattle.wire.specs.declared.message.Span.{Span}
 
 -- The fields of bytes that passed 2 to 4.
 abbrev pub kindIn : List ℕ → ℕ
@@ -145,7 +146,11 @@ tested party bytes next = framed bytes (ofKind party (mapIn bytes) (kindIn bytes
 unfoldable pub decode : Party → List ℕ → Outcome Message
 decode party bytes = tested party bytes (λ row. row .message bytes)
 
--- The same as the code finds it: numbers, and where the rest starts.
+-- Where the field of a bit stands.
+abbrev pub spanOf : List ℕ → ℕ → Span
+spanOf bytes b = record { start = place bytes b; end = place bytes (suc b) }
+
+-- The same as the code finds it: numbers, and where the rest stands.
 unfoldable pub fieldsIn : List ℕ → Fields
 fieldsIn bytes =
     record {
@@ -154,12 +159,12 @@ fieldsIn bytes =
       sender = fromBytes (field bytes 1);
       nonce = nonceIn bytes;
       timestamp = ofNumber (timestampIn bytes);
-      digest = place bytes 4;
-      card = place bytes 5;
-      prepared = place bytes 6;
-      written = place bytes 7;
+      digest = spanOf bytes 4;
+      card = spanOf bytes 5;
+      prepared = spanOf bytes 6;
+      written = spanOf bytes 7;
       addressed = addressedIn bytes;
-      signature = place bytes 9;
+      signature = record { start = place bytes 9; end = length bytes };
     }
 
 unfoldable pub reading : Party → List ℕ → Outcome Fields

@@ -8,8 +8,9 @@ use crate::layout::WRITTEN_HEAD;
 use crate::message::Fields;
 use crate::message::Party;
 use crate::message::Reading;
+use crate::message::Span;
+use crate::signatures::count_in;
 use crate::signatures::entry_count;
-use crate::signatures::written_end;
 use base::party::ClientId;
 use base::party::ReplicaId;
 use base::party::is_client;
@@ -48,10 +49,7 @@ fn open(party: Party, f: u8, bytes: &[u8], verdicts: &[u8]) -> Reading
             if !in_range(party, f, fields.sender) {
                 return Reading::Refused(SENDER);
             }
-            let end = written_end(fields.map, fields.signature);
-            let prepared = entry_count(fields.prepared, PREPARED_HEAD, fields.written);
-            let written = entry_count(fields.written, WRITTEN_HEAD, end);
-            if !verdicts_fit(verdicts, 1 + prepared + written) {
+            if !verdicts_fit(verdicts, count_in(fields)) {
                 return Reading::Refused(VERDICTS);
             }
             if verdicts[0] != 1 {
@@ -63,23 +61,18 @@ fn open(party: Party, f: u8, bytes: &[u8], verdicts: &[u8]) -> Reading
     }
 }
 
-// Tests 9 to 11 of the proof from one place to another; good if there is none.
-fn check_between(
-    f: u8,
-    bytes: &[u8],
-    at: usize,
-    head: usize,
-    end: usize,
-    verdicts: &[u8],
-) -> ProofCheck
-    requires { ⌜ Room (now bytes) head at end × (5 ≤ head) ⌝ }
-    ensures { λ r. ⌜ proofCheckOutcome r ≡ proofBetween f (now (bytes .entry)) at head end (now (verdicts .entry)) ⌝ }
+// Tests 9 to 11 of the proof at a place, behind whose head its entries stand; good if there is none.
+fn check_between(f: u8, bytes: &[u8], at: Span, head: usize, verdicts: &[u8]) -> ProofCheck
+    requires { ⌜ Room (now bytes) head (at .start) (at .end) × (5 ≤ head) ⌝ }
+    ensures { λ r. ⌜ proofCheckOutcome r ≡ proofBetween f (now (bytes .entry)) (at .start) head (at .end) (now (verdicts .entry)) ⌝ }
 {
-    if at == end {
+    let start = at.start;
+    let end = at.end;
+    if start == end {
         return ProofCheck::Good;
     }
-    let entries = at + head;
-    let timestamp = crate::numbers::timestamp_in(bytes, at, entries);
+    let entries = start + head;
+    let timestamp = crate::numbers::timestamp_in(bytes, start, entries);
     check_proof(f, &bytes[entries..end], verdicts, timestamp)
 }
 
@@ -98,12 +91,11 @@ fn judge(f: u8, bytes: &[u8], verdicts: &[u8], fields: Fields) -> ProofCheck
     requires { ⌜ Ready (now bytes) (now verdicts) fields ⌝ }
     ensures { λ r. ⌜ Judges f (now (bytes .entry)) (now (verdicts .entry)) r ⌝ }
 {
-    let at = fields.prepared;
-    let next = fields.written;
-    let end = written_end(fields.map, fields.signature);
-    let second = 1 + entry_count(at, PREPARED_HEAD, next);
-    let prepared = check_between(f, bytes, at, PREPARED_HEAD, next, &verdicts[1..second]);
-    let written = check_between(f, bytes, next, WRITTEN_HEAD, end, &verdicts[second..]);
+    let prepared_at = fields.prepared;
+    let written_at = fields.written;
+    let second = 1 + entry_count(prepared_at, PREPARED_HEAD);
+    let prepared = check_between(f, bytes, prepared_at, PREPARED_HEAD, &verdicts[1..second]);
+    let written = check_between(f, bytes, written_at, WRITTEN_HEAD, &verdicts[second..]);
     first_refusal(
         prepared,
         written,

@@ -1,13 +1,16 @@
 // SHA-256, cards, and the message reader and writer: the lower crate on whose contracts replica and client rest.
 pub mod acceptance;
+pub mod arrays;
 pub mod card;
 pub mod card_part;
 pub mod checks;
 mod frame;
 pub mod layout;
 pub mod message;
-pub mod numbers;
+mod numbers;
+pub mod parts;
 pub mod reader;
 pub mod sha256;
 pub mod signatures;
+mod slices;
 pub mod writer;

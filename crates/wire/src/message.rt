@@ -8,19 +8,25 @@ pub enum Party {
     Client,
 }
 
-// The fields of a message that was read: the numbers by value, 0 where the bit is not set; the rest by where they start.
+// Where a field stands in a message; it ends where it starts if the bit is not set.
+pub struct Span {
+    pub start: usize,
+    pub end: usize,
+}
+
+// The fields of a message that was read: the numbers by value, 0 where the bit is not set; the rest by where they stand.
 pub struct Fields {
     pub map: u16,
     pub kind: u8,
     pub sender: u8,
     pub nonce: u64,
     pub timestamp: Timestamp,
-    pub digest: usize,
-    pub card: usize,
-    pub prepared: usize,
-    pub written: usize,
+    pub digest: Span,
+    pub card: Span,
+    pub prepared: Span,
+    pub written: Span,
     pub addressed: ClientId,
-    pub signature: usize,
+    pub signature: Span,
 }
 
 // What reading a message finds.

@@ -34,7 +34,7 @@ pub(super) fn eight_in(bytes: &[u8], at: usize, end: usize) -> u64
     four_at(bytes, at) as u64 * 0x1_0000_0000 + four_at(bytes, at + 4) as u64
 }
 
-pub fn timestamp_in(bytes: &[u8], at: usize, end: usize) -> Timestamp
+pub(super) fn timestamp_in(bytes: &[u8], at: usize, end: usize) -> Timestamp
     requires { ⌜ Room (now bytes) 5 at end ⌝ }
     ensures { λ r. ⌜ r ≡ ofNumber (fromBytes (take 5 (between (now (bytes .entry)) at end))) ⌝ }
 {

@@ -4,6 +4,7 @@ use crate::frame::Places;
 use crate::message::Fields;
 use crate::message::Party;
 use crate::message::Reading;
+use crate::message::Span;
 use base::party::ClientId;
 use base::refusal::KIND;
 ghost use mathlib.Core.Path.{_≡_};
@@ -65,23 +66,36 @@ fn fields(bytes: &[u8], places: Places) -> Fields
     requires { ⌜ framed (now bytes) (accepted (placesIn (now bytes))) ≡ accepted places ⌝ }
     ensures { λ r. ⌜ r ≡ fieldsIn (now (bytes .entry)) ⌝ }
 {
-    let digest = places.digest;
-    let signature = places.signature;
     let nonce = crate::numbers::eight_in(bytes, places.nonce, places.timestamp);
-    let timestamp = crate::numbers::timestamp_in(bytes, places.timestamp, digest);
-    let addressed = ClientId(crate::numbers::byte_in(bytes, places.addressed, signature));
+    let timestamp = crate::numbers::timestamp_in(bytes, places.timestamp, places.digest);
+    let addressed = ClientId(crate::numbers::byte_in(bytes, places.addressed, places.signature));
     Fields {
         map: places.map,
         kind: bytes[2],
         sender: bytes[3],
         nonce: nonce,
         timestamp: timestamp,
-        digest: digest,
-        card: places.card,
-        prepared: places.prepared,
-        written: places.written,
+        digest: Span {
+            start: places.digest,
+            end: places.card,
+        },
+        card: Span {
+            start: places.card,
+            end: places.prepared,
+        },
+        prepared: Span {
+            start: places.prepared,
+            end: places.written,
+        },
+        written: Span {
+            start: places.written,
+            end: places.addressed,
+        },
         addressed: addressed,
-        signature: signature,
+        signature: Span {
+            start: places.signature,
+            end: bytes.len(),
+        },
     }
 }
 

@@ -2,13 +2,13 @@
 use crate::layout::ENTRY;
 use crate::layout::PREPARED_HEAD;
 use crate::layout::WRITTEN_HEAD;
+use crate::message::Fields;
 use crate::message::Party;
 use crate::message::Reading;
+use crate::message::Span;
 ghost use mathlib.Core.Path.{_≡_};
-ghost use mathlib.Core.Bool.{cond};
-ghost use Prim.Native.Nat.{_-_, _≤_};
-ghost use Rattle.base.specs.BitMap.{bit};
-ghost use Rattle.wire.specs.Accepting.{entryCount, signaturesTo};
+ghost use Prim.Native.Nat.{_-_, _/_, _≤_};
+ghost use Rattle.wire.specs.Accepting.{entryCount, countIn, signaturesTo};
 
 // How much the first is above the second; 0 if it is below.
 fn excess(a: usize, b: usize) -> usize
@@ -20,24 +20,20 @@ fn excess(a: usize, b: usize) -> usize
     a - b
 }
 
-// The number of entries of the proof from one place to another; 0 if there is none.
-pub(super) fn entry_count(at: usize, head: usize, end: usize) -> usize
-    ensures { λ r. ⌜ (r ≡ entryCount at head end) × (r ≤ end) ⌝ }
+// The number of entries of the proof at a place; 0 if there is none.
+pub(super) fn entry_count(at: Span, head: usize) -> usize
+    ensures { λ r. ⌜ (r ≡ entryCount at head) × (r ≤ at .end / 65) ⌝ }
 {
-    excess(excess(end, at), head) / ENTRY
+    excess(excess(at.end, at.start), head) / ENTRY
 }
 
-// Where the written proof ends: the field behind it is one byte, before the signature.
-pub(super) fn written_end(map: u16, signature: usize) -> usize
-    ensures { λ r. ⌜ r ≡ signature - cond (bit map 8) 1 0 ⌝ }
+// How many signatures a message with these fields has.
+pub(super) fn count_in(fields: Fields) -> usize
+    ensures { λ r. ⌜ r ≡ countIn fields ⌝ }
 {
-    if signature == 0 {
-        return 0;
-    }
-    if (map >> 8) % 2 == 1 {
-        return signature - 1;
-    }
-    signature
+    let prepared = fields.prepared;
+    let written = fields.written;
+    1 + entry_count(prepared, PREPARED_HEAD) + entry_count(written, WRITTEN_HEAD)
 }
 
 // How many signatures a message has, for the party that can read it. One that it cannot read has none.
@@ -45,12 +41,7 @@ pub fn signature_count(party: Party, bytes: &[u8]) -> usize
     ensures { λ r. ⌜ (r ≡ signaturesTo party (now (bytes .entry))) × (r ≤ 64) ⌝ }
 {
     match crate::reader::read(party, bytes) {
-        Reading::Message(fields) => {
-            let end = written_end(fields.map, fields.signature);
-            let prepared = entry_count(fields.prepared, PREPARED_HEAD, fields.written);
-            let written = entry_count(fields.written, WRITTEN_HEAD, end);
-            1 + prepared + written
-        }
+        Reading::Message(fields) => count_in(fields),
         Reading::Refused(_) => 0,
     }
 }

@@ -9,7 +9,7 @@ use borrow.Author.Needs.{needs}
 use Rattle.wire.proofs.acceptance.check_between.Statement.{statement}
 use Rattle.wire.proofs.acceptance.check_between.Tie as tie
 
-whole : (c : tie.Else1) → c .before .before .before .args .at + c .before .before .before .args .head ≤ c .before .before .before .args .end
+whole : (c : tie.Else1) → c .before .before .before .args .at .start + c .before .before .before .args .head ≤ c .before .before .before .args .at .end
 whole c =
     let r = c .before .before .before .pre .0 in
     let up = r .rises in
@@ -18,7 +18,7 @@ whole c =
 
 returns : tie.Need-returns
 unfolding proofBetween
-returns c = let a = c .before .before .before .args in rw (eq-eqb (a .at) (a .end) (c .if1 .taken))
+returns c = let a = c .before .before .before .args in rw (eq-eqb (a .at .start) (a .at .end) (c .if1 .taken))
 
 add-entries : tie.Need-add-entries
 add-entries c = let h = whole c in let l = c .before .before .before .pre .0 .inside in omega arith
@@ -38,7 +38,7 @@ returns-2 c =
     let a = b .args in
     let inside = whole (c .before .before .before) in
     c .check-proof .ensures
-    ∙ there (a .f) (a .bytes .now) (a .at) (a .head) (a .end) (a .verdicts .now) (c .before .before .timestamp-in .result) (c .before .before .before .if1 .left) (b .pre .1) inside (b .pre .0 .inside) (c .before .before .timestamp-in .ensures)
+    ∙ there (a .f) (a .bytes .now) (a .at .start) (a .head) (a .at .end) (a .verdicts .now) (c .before .before .timestamp-in .result) (c .before .before .before .if1 .left) (b .pre .1) inside (b .pre .0 .inside) (c .before .before .timestamp-in .ensures)
 
 pub check-between-spec : {M : Type 1} → statement M
 check-between-spec =

@@ -1,7 +1,7 @@
 -- `wire::acceptance::open` meets its contract. Assumes nothing.
 use mathlib.Core.Path.{_≡_, sym, _∙_}
 use mathlib.Core.Bool.{true, _&&_}
-use Prim.Native.Nat.{_+_, _≤_}
+use Prim.Native.Nat.{_≤_}
 use native.Mathlib.Omega.{arith}
 use borrow.Author.Tests.{eq-eqb, ne-eqb, eqb-true, not-true, not-false}
 use lib.Dec.{eqb, leb}
@@ -33,20 +33,19 @@ ranged c = sym (c .in-range .ensures)
 -- Test 7.
 fits : (c : tie.After-verdicts-fit)
     → c .verdicts-fit .result
-    ≡ (eqb (length (start (c .before .before .before .before .before .before) .args .verdicts .now)) (signatureCount (start (c .before .before .before .before .before .before) .args .bytes .now)) && all (λ v. leb v 1) (start (c .before .before .before .before .before .before) .args .verdicts .now))
+    ≡ (eqb (length (start (c .before .before .before .before) .args .verdicts .now)) (signatureCount (start (c .before .before .before .before) .args .bytes .now)) && all (λ v. leb v 1) (start (c .before .before .before .before) .args .verdicts .now))
 fits c =
-    let k = c .before .before .before .before .before .before in
-    let same = all-signatures (start k .args .bytes .now) (k .before .fields .given .0 .0) (at-places k) (c .before .before .before .written-end .result) (c .before .before .before .written-end .ensures) (c .before .before .entry-count .result) (c .before .entry-count2 .result) (c .before .before .entry-count .ensures .0) (c .before .entry-count2 .ensures .0) in
-    rw (← same) (c .verdicts-fit .ensures)
+    let k = c .before .before .before .before in
+    rw (c .before .count-in .ensures, all-signatures (start k .args .bytes .now) (k .before .fields .given .0 .0) (at-places k)) at (c .verdicts-fit .ensures)
 
-some-verdict : (c : tie.Else2) → 1 ≤ length (start (c .before .before .before .before .before .before .before) .args .verdicts .now)
+some-verdict : (c : tie.Else2) → 1 ≤ length (start (c .before .before .before .before .before) .args .verdicts .now)
 some-verdict c =
-    let v = start (c .before .before .before .before .before .before .before) .args .verdicts .now in
+    let v = start (c .before .before .before .before .before) .args .verdicts .now in
     let b = c .before in
-    let n = 1 + b .before .before .entry-count .result + b .before .entry-count2 .result in
+    let n = b .before .count-in .result in
     let good : (eqb (length v) n && all (λ x. leb x 1) v) ≡ true = sym (b .verdicts-fit .ensures) ∙ not-false (b .verdicts-fit .result) (c .if2 .left) in
     let size : length v ≡ n = eqb-true (length v) n (and-true-both (eqb (length v) n) (all (λ x. leb x 1) v) good .0) in
-    omega arith
+    omega (arith, b .before .count-in .ensures)
 
 returns : tie.Need-returns
 unfolding guard
@@ -54,18 +53,18 @@ returns c = let k = c .before .before in let a = start k .args in rw (opened-rea
 
 returns-2 : tie.Need-returns-2
 unfolding guard
-returns-2 c = let k = c .before .before .before .before .before .before .before in let a = start k .args in rw (opened-read (a .party) (a .f) (a .bytes .now) (a .verdicts .now) (k .before .fields .given .0 .0) (known k), ranged (c .before .before .before .before .before .before), not-false (c .before .before .before .before .before .before .in-range .result) (c .before .before .before .before .before .if1 .left), ← fits (c .before), not-true (c .before .verdicts-fit .result) (c .if2 .taken))
+returns-2 c = let k = c .before .before .before .before .before in let a = start k .args in rw (opened-read (a .party) (a .f) (a .bytes .now) (a .verdicts .now) (k .before .fields .given .0 .0) (known k), ranged (c .before .before .before .before), not-false (c .before .before .before .before .in-range .result) (c .before .before .before .if1 .left), ← fits (c .before), not-true (c .before .verdicts-fit .result) (c .if2 .taken))
 
 shared-slice-read-if3 : tie.Need-shared-slice-read-if3
 shared-slice-read-if3 c = let h = some-verdict (c .before) in omega arith
 
 returns-3 : tie.Need-returns-3
 unfolding guard
-returns-3 c = let k = c .before .before .before .before .before .before .before .before .before in let a = start k .args in rw (opened-read (a .party) (a .f) (a .bytes .now) (a .verdicts .now) (k .before .fields .given .0 .0) (known k), ranged (c .before .before .before .before .before .before .before .before), not-false (c .before .before .before .before .before .before .before .before .in-range .result) (c .before .before .before .before .before .before .before .if1 .left), ← fits (c .before .before .before), not-false (c .before .before .before .verdicts-fit .result) (c .before .before .if2 .left), ne-eqb (getD (a .verdicts .now) 0 0) 1 (c .if3 .taken))
+returns-3 c = let k = c .before .before .before .before .before .before .before in let a = start k .args in rw (opened-read (a .party) (a .f) (a .bytes .now) (a .verdicts .now) (k .before .fields .given .0 .0) (known k), ranged (c .before .before .before .before .before .before), not-false (c .before .before .before .before .before .before .in-range .result) (c .before .before .before .before .before .if1 .left), ← fits (c .before .before .before), not-false (c .before .before .before .verdicts-fit .result) (c .before .before .if2 .left), ne-eqb (getD (a .verdicts .now) 0 0) 1 (c .if3 .taken))
 
 returns-4 : tie.Need-returns-4
 unfolding guard
-returns-4 c = let k = c .before .before .before .before .before .before .before .before .before in let a = start k .args in rw (opened-read (a .party) (a .f) (a .bytes .now) (a .verdicts .now) (k .before .fields .given .0 .0) (known k), ranged (c .before .before .before .before .before .before .before .before), not-false (c .before .before .before .before .before .before .before .before .in-range .result) (c .before .before .before .before .before .before .before .if1 .left), ← fits (c .before .before .before), not-false (c .before .before .before .verdicts-fit .result) (c .before .before .if2 .left), eq-eqb (getD (a .verdicts .now) 0 0) 1 (c .if3 .left))
+returns-4 c = let k = c .before .before .before .before .before .before .before in let a = start k .args in rw (opened-read (a .party) (a .f) (a .bytes .now) (a .verdicts .now) (k .before .fields .given .0 .0) (known k), ranged (c .before .before .before .before .before .before), not-false (c .before .before .before .before .before .before .in-range .result) (c .before .before .before .before .before .if1 .left), ← fits (c .before .before .before), not-false (c .before .before .before .verdicts-fit .result) (c .before .before .if2 .left), eq-eqb (getD (a .verdicts .now) 0 0) 1 (c .if3 .left))
 
 returns-5 : tie.Need-returns-5
 returns-5 c = let a = c .before .before .before .before .before .before .args in sym (opened-unread (a .party) (a .f) (a .bytes .now) (a .verdicts .now) (c .before .number .given .0 .0) (turned-down (reading (a .party) (a .bytes .now)) (c .before .before .before .read .result) (c .before .number .given .0 .0) (c .before .before .before .read .ensures) (c .before .number .given .1)))
@@ -79,10 +78,6 @@ open-spec =
     (λ c κs. search needs)
     returns
     (λ c κs. search needs)
-    (λ c κs. search needs)
-    (λ c κs. search needs)
-    (λ c. search needs)
-    (λ c. search needs)
     (λ c κs. search needs)
     returns-2
     shared-slice-read-if3

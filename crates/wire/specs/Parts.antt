@@ -1,0 +1,56 @@
+-- The parts of a message that was read, and of its proofs, for the parties: bytes of the message, none where there is no such part.
+use mathlib.Core.Path.{_≡_}
+use mathlib.Core.Bool.{cond}
+use mathlib.Core.List.{List, [], _∷_}
+use mathlib.Core.Option.{Option, none, some}
+use Prim.Native.Nat.{ℕ, _≤_}
+use lib.Dec.{ltb}
+use lib.ListN.{length, getD, take, drop}
+use Rattle.base.specs.BigEndian.{fromBytes}
+use Rattle.base.specs.Timestamp.{ofNumber, start}
+use Rattle.base.specs.declared.timestamp.Timestamp.{Timestamp}
+use Rattle.wire.specs.Layout.{extent, preparedRule}
+use Rattle.wire.specs.Places.{between}
+use Rattle.wire.specs.Proof.{PreparedProof, WrittenProof, preparedFrom, writtenFrom}
+use Rattle.wire.specs.declared.message.Span.{Span}
+
+-- The bytes at a place.
+abbrev pub partAt : List ℕ → Span → List ℕ
+partAt bytes at = between bytes (at .start) (at .end)
+
+-- A card stands behind its length byte.
+abbrev pub cardAt : List ℕ → Span → List ℕ
+cardAt bytes at = drop 1 (partAt bytes at)
+
+-- The proof that some bytes of a message are; no bytes are no proof.
+abbrev pub preparedPart : List ℕ → Option PreparedProof
+preparedPart [] = none
+preparedPart (byte ∷ bytes) = some (preparedFrom (byte ∷ bytes))
+
+abbrev pub writtenPart : List ℕ → Option WrittenProof
+writtenPart [] = none
+writtenPart (byte ∷ bytes) = some (writtenFrom (byte ∷ bytes))
+
+-- The timestamp of a proof, prepared or written: "A missing prepared proof means stamp 0.0."
+unfoldable pub timestampPart : List ℕ → Timestamp
+timestampPart proof = cond (ltb (length proof) 5) start (ofNumber (fromBytes (take 5 proof)))
+
+-- The digest of a prepared proof, how many entries it has, and their bytes.
+unfoldable pub digestPart : List ℕ → List ℕ
+digestPart proof = cond (ltb (length proof) 37) [] (take 32 (drop 5 proof))
+
+unfoldable pub countPart : List ℕ → ℕ
+countPart proof = getD proof 37 0
+
+unfoldable pub entriesPart : List ℕ → List ℕ
+entriesPart proof = drop 38 proof
+
+-- The bytes of a prepared proof are as many as its number of entries says, which the largest quorum bounds.
+pub record Whole (proof : List ℕ) : Type 0 where
+  pub ends : extent preparedRule proof ≡ length proof
+  pub few : countPart proof ≤ 11
+
+-- The same of a proof that may be missing.
+abbrev pub WholeIfThere : List ℕ → Type 0
+WholeIfThere [] = Unit {0}
+WholeIfThere (byte ∷ bytes) = Whole (byte ∷ bytes)

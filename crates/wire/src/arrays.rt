@@ -1,0 +1,32 @@
+// Cards, digests and entries in arrays, as the parties keep them: zeros behind, and cut where they are longer.
+use crate::layout::CARD_ROOM;
+use crate::layout::DIGEST;
+use crate::layout::ENTRIES_ROOM;
+use crate::slices::front;
+use base::bytes::put;
+ghost use mathlib.Core.Path.{_≡_};
+ghost use Rattle.base.specs.Bytes.{filled};
+
+pub fn card_array(card: &[u8]) -> [u8; CARD_ROOM]
+    ensures { λ r. ⌜ r ≡ filled 17 (now (card .entry)) ⌝ }
+{
+    let mut array = [0u8; CARD_ROOM];
+    put(&mut array, 0, front(card, CARD_ROOM));
+    array
+}
+
+pub fn entries_array(entries: &[u8]) -> [u8; ENTRIES_ROOM]
+    ensures { λ r. ⌜ r ≡ filled 715 (now (entries .entry)) ⌝ }
+{
+    let mut array = [0u8; ENTRIES_ROOM];
+    put(&mut array, 0, front(entries, ENTRIES_ROOM));
+    array
+}
+
+pub fn digest_array(digest: &[u8]) -> [u8; DIGEST]
+    ensures { λ r. ⌜ r ≡ filled 32 (now (digest .entry)) ⌝ }
+{
+    let mut array = [0u8; DIGEST];
+    put(&mut array, 0, front(digest, DIGEST));
+    array
+}
