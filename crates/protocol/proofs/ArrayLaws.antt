@@ -10,10 +10,13 @@ use lib.Dec.{eqb}
 use lib.ListN.{length, take, drop, replicate, length-append, length-take, length-drop, length-replicate}
 use lib.Seq.{length-take-le, take-append-le, drop-append-le, take-append-add, drop-append-add, take-append-seam, take-at, drop-at, take-take, drop-drop}
 use Rattle.base.specs.BigEndian.{Bytes}
+use Rattle.base.specs.Bytes.{filled}
 use Rattle.base.proofs.BigEndian.{bytes-append, bytes-take, bytes-drop}
+use Rattle.base.proofs.Filling.{zeros, filled-length, filled-zeros}
 use Rattle.wire.specs.Message.{EachFits, EntriesFit, IfThere, preparedSize}
 use Rattle.wire.specs.Proof.{Entry, PreparedProof, entriesBytes, readEntries}
-use Rattle.protocol.specs.Parts.{filled, cardIn, entriesIn, ifIssued, timestampOf}
+use Rattle.wire.proofs.ProofBytes.{length-read}
+use Rattle.protocol.specs.Parts.{cardIn, entriesIn, ifIssued, timestampOf}
 use Rattle.protocol.proofs.Fit.{Array}
 
 -- ---- Bytes
@@ -36,25 +39,16 @@ zeros-fit width = (length-replicate width 0, bytes-zeros width)
 -- ---- Zeros behind
 
 module _ (width : ℕ) (bytes : List ℕ) where
-  pub filled-length : length (filled width bytes) ≡ width
-  filled-length = simp (length-take, length-append, length-replicate) (omega arith)
-
-  pub filled-bytes : Bytes bytes → Bytes (filled width bytes)
+  filled-bytes : Bytes bytes → Bytes (filled width bytes)
   filled-bytes h = bytes-take width (bytes ++ replicate width 0) (bytes-append bytes (replicate width 0) h (bytes-zeros width))
 
   pub filled-fits : Bytes bytes → Array width (filled width bytes)
-  filled-fits h = (filled-length, filled-bytes h)
+  filled-fits h = (filled-length width bytes, filled-bytes h)
 
-  -- What fits stands in front.
-  pub filled-keeps : length bytes ≤ width → filled width bytes ≡ bytes ++ take (width - length bytes) (replicate width 0)
-  filled-keeps h =
-      let split : width ≡ length bytes + (width - length bytes) = omega arith in
-      ap (λ (n : ℕ). take n (bytes ++ replicate width 0)) split ∙ take-append-add bytes (replicate width 0) (width - length bytes)
-
-  pub front-kept : length bytes ≤ width → take (min (length bytes) width) (filled width bytes) ≡ bytes
+  front-kept : length bytes ≤ width → take (min (length bytes) width) (filled width bytes) ≡ bytes
   front-kept h =
       let all : min (length bytes) width ≡ length bytes = omega arith in
-      ap₂ (λ (n : ℕ) (l : List ℕ). take n l) all (filled-keeps h) ∙ take-append-seam bytes (take (width - length bytes) (replicate width 0))
+      ap₂ (λ (n : ℕ) (l : List ℕ). take n l) all (filled-zeros width bytes h) ∙ take-append-seam bytes (zeros (width - length bytes))
 
 -- ---- Cards
 
@@ -69,11 +63,6 @@ card-in-short array kept = rw length-take (omega arith)
 
 -- ---- Entries
 
-pub entries-read-length : (n : ℕ) (bytes : List ℕ) → length (readEntries n bytes) ≡ n
-unfolding readEntries
-entries-read-length zero bytes = refl
-entries-read-length (suc n) bytes = ap suc (entries-read-length n (drop 65 bytes))
-
 -- Entries read from bytes that are long enough fit.
 pub entries-read-fit : (n : ℕ) (bytes : List ℕ) → 65 * n ≤ length bytes → Bytes bytes → EachFits (readEntries n bytes)
 unfolding readEntries
@@ -85,10 +74,10 @@ entries-read-fit (suc n) bytes l h = (
 
 module _ (array : List ℕ) (kept : ℕ) where
   pub entries-in-length : length (entriesIn array kept) ≤ 11
-  entries-in-length = rw entries-read-length (omega arith)
+  entries-in-length = rw length-read (omega arith)
 
   pub entries-in-fit : Array 715 array → EntriesFit (entriesIn array kept)
-  entries-in-fit h = (rw entries-read-length (omega arith), entries-read-fit (min kept 11) array (omega arith) (h .1))
+  entries-in-fit h = (rw length-read (omega arith), entries-read-fit (min kept 11) array (omega arith) (h .1))
 
 pub entries-bytes-length : (entries : List Entry) → EachFits entries → length (entriesBytes entries) ≡ 65 * length entries
 unfolding entriesBytes
@@ -112,8 +101,8 @@ entries-read-back (entry ∷ entries) behind h =
 
 pub entries-kept-in : (width : ℕ) (entries : List Entry) → EachFits entries → 65 * length entries ≤ width → readEntries (length entries) (filled width (entriesBytes entries)) ≡ entries
 entries-kept-in width entries h l =
-    ap (readEntries (length entries)) (filled-keeps width (entriesBytes entries) (rw (entries-bytes-length entries h) l))
-    ∙ entries-read-back entries (take (width - length (entriesBytes entries)) (replicate width 0)) h
+    ap (readEntries (length entries)) (filled-zeros width (entriesBytes entries) (rw (entries-bytes-length entries h) l))
+    ∙ entries-read-back entries (zeros (width - length (entriesBytes entries))) h
 
 pub entries-kept : (entries : List Entry) → EachFits entries → length entries ≤ 11 → entriesIn (filled 715 (entriesBytes entries)) (length entries) ≡ entries
 entries-kept entries h l =

@@ -6,6 +6,7 @@ use Prim.Native.Nat.{ℕ, zero, suc, _+_, _-_, _*_, _^_}
 use lib.Dec.{eqb, ltb}
 use lib.ListN.{length, take, drop, replicate}
 use Rattle.base.specs.Counting.{replica}
+use Rattle.base.specs.Bytes.{filled}
 use Rattle.base.specs.Outcome.{Outcome, accepted, refused, guard, _>>=_}
 use Rattle.base.specs.Party.{replicaCount, clientSetup}
 use Rattle.base.specs.ReplicaSet.{empty, has, with, isQuorum}
@@ -23,7 +24,7 @@ use Rattle.wire.specs.Proof.{Entry, PreparedProof, WrittenProof, entriesBytes}
 use Rattle.wire.specs.Sha256.{sha256}
 use Rattle.wire.specs.Writing.{unsigned, inFront}
 use Rattle.wire.specs.declared.message.Party.the-variants.{Client as AtClient}
-use Rattle.protocol.specs.Parts.{filled, startCard, cardIn, entriesIn, ifIssued, timestampOf, cardStands}
+use Rattle.protocol.specs.Parts.{startCard, cardIn, entriesIn, ifIssued, timestampOf, cardStands}
 use Rattle.protocol.specs.Replica.{withOutput}
 use Rattle.protocol.specs.declared.client.Client.{Client}
 use Rattle.protocol.specs.declared.client.ClientAnswer.{ClientAnswer}

@@ -1,19 +1,14 @@
 -- Cards and proofs as the records keep them: arrays with zeros behind what is kept.
 use mathlib.Core.Bool.{Bool, _&&_}
-use mathlib.Core.List.{List, [], _∷_, _++_}
+use mathlib.Core.List.{List, [], _∷_}
 use mathlib.Core.Option.{Option, none, some}
 use Prim.Native.Nat.{ℕ}
 use lib.Dec.{eqb}
-use lib.ListN.{take, replicate}
 use Rattle.base.specs.Same.{same}
 use Rattle.wire.specs.Card.{isCard}
 use Rattle.wire.specs.Proof.{Entry, PreparedProof}
 use Rattle.wire.specs.Sha256.{sha256}
 use Rattle.wire.specs.Writing.{keptCard, keptEntries, unless}
-
--- The bytes in an array of so many, zeros behind them; what does not fit is cut.
-abbrev pub filled : ℕ → List ℕ → List ℕ
-filled width bytes = take width (bytes ++ replicate width 0)
 
 -- "The starting card is `00 00` hex."
 abbrev pub startCard : List ℕ

@@ -6,6 +6,7 @@ pub mod Cuts
 pub mod FieldParts
 pub mod FrameTests
 pub mod Framed
+pub mod Handed
 pub mod Kept
 pub mod KindTests
 pub mod OneForm

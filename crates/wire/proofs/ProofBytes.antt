@@ -41,7 +41,7 @@ unfolding readEntries
 length-read zero bytes = refl
 length-read (suc n) bytes = ap suc (length-read n (drop 65 bytes))
 
-entries-read : (n : ℕ) (bytes : List ℕ) → length bytes ≡ 65 * n → entriesBytes (readEntries n bytes) ≡ bytes
+pub entries-read : (n : ℕ) (bytes : List ℕ) → length bytes ≡ 65 * n → entriesBytes (readEntries n bytes) ≡ bytes
 unfolding entriesBytes readEntries
 entries-read zero [] size = refl
 entries-read zero (x ∷ bytes) size = absurd (omega arith)

@@ -31,7 +31,16 @@ abbrev pub writtenPart : List ℕ → Option WrittenProof
 writtenPart [] = none
 writtenPart (byte ∷ bytes) = some (writtenFrom (byte ∷ bytes))
 
--- The timestamp of a proof, prepared or written: "A missing prepared proof means stamp 0.0."
+-- "A missing prepared proof means stamp 0.0."
+abbrev pub preparedTimestamp : Option PreparedProof → ℕ
+preparedTimestamp none = 0
+preparedTimestamp (some proof) = proof .timestamp
+
+abbrev pub writtenTimestamp : Option WrittenProof → ℕ
+writtenTimestamp none = 0
+writtenTimestamp (some proof) = proof .timestamp
+
+-- The timestamp at the front of a proof, prepared or written; 0.0 where there is none.
 unfoldable pub timestampPart : List ℕ → Timestamp
 timestampPart proof = cond (ltb (length proof) 5) start (ofNumber (fromBytes (take 5 proof)))
 

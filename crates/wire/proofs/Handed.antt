@@ -1,0 +1,260 @@
+-- The laws that wire offers to the engines: what a message that it accepted is, by the parts that it answers. Assumes nothing.
+use mathlib.Core.Path.{_≡_, refl, sym, ap, subst, _∙_}
+use mathlib.Core.Bool.{Bool, true, false, cond}
+use mathlib.Core.List.{List, [], _∷_}
+use mathlib.Core.Logic.{_⊎_}
+use mathlib.Core.Option.{Option, none, some}
+use Prim.Native.Nat.{ℕ, _+_, _-_, _*_, _≤_, _<_}
+use native.Mathlib.Omega.{arith}
+use borrow.Author.Tests.{eqb-true, le-ltb}
+use lib.Dec.{eqb}
+use lib.ListN.{length, getD, take, drop, length-take, length-drop}
+use lib.Seq.{take-all}
+use Rattle.base.specs.BigEndian.{fromBytes}
+use Rattle.base.specs.BitMap.{bit}
+use Rattle.base.specs.Outcome.{accepted}
+use Rattle.base.specs.Party.{quorumSize, replicaCount}
+use Rattle.base.specs.Rising.{rising}
+use Rattle.base.specs.Timestamp.{number, ofNumber}
+use Rattle.base.proofs.Booleans.{and-true-both}
+use Rattle.base.proofs.Timestamps.{number-ofNumber}
+use Rattle.wire.specs.Acceptance.{senderOf, inItsRange, admitted, acceptance}
+use Rattle.wire.specs.Checks.{ifThere, shaped}
+use Rattle.wire.specs.Decode.{decode, reading, fieldsIn}
+use Rattle.wire.specs.Judging.{signers}
+use Rattle.wire.specs.Layout.{extent, preparedRule, rules, mapIn, place, field, signature}
+use Rattle.wire.specs.Message.{Message, READ-STAMP, PREPARE, WRITE, READ, STAMP, PREPARED, WRITTEN, CARD}
+use Rattle.wire.specs.Parts.{partAt, cardAt, preparedPart, writtenPart, preparedTimestamp, writtenTimestamp, timestampPart, digestPart, countPart, entriesPart, Whole, WholeIfThere}
+use Rattle.wire.specs.Proof.{PreparedProof, WrittenProof, entriesBytes, preparedFrom, writtenFrom, readEntries}
+use Rattle.wire.specs.declared.message.Fields.{Fields}
+use Rattle.wire.specs.declared.message.Party.{Party}
+use Rattle.wire.specs.declared.message.Party.the-variants.{Replica, Client}
+use Rattle.wire.proofs.Accepting.{seen}
+use Rattle.wire.proofs.Admitted.{admitted-passed, acceptance-accepted}
+use Rattle.wire.proofs.Framed.{field-absent, place-present}
+use Rattle.wire.proofs.Parsed.{Parsed, parsed, preparedAt, writtenAt, prepared-whole, written-whole, taken-kind, replica-kind, client-kind, reads-1, reads-2, reads-3, reads-4, reads-5, reads-6, reads-7, reads-8}
+use Rattle.wire.proofs.Passed.{Passed}
+use Rattle.wire.proofs.ProofBytes.{length-read, entries-read}
+use Rattle.wire.proofs.Rows.{Taken, prepare, write, prepared}
+
+-- ---- A proof by its parts
+
+-- A prepared proof's bytes that are whole, by the parts that the code answers.
+pub record ByParts (proof : List ℕ) : Type 0 where
+  pub timestamp : preparedFrom proof .timestamp ≡ number (timestampPart proof)
+  pub digest : preparedFrom proof .digest ≡ digestPart proof
+  pub count : length (preparedFrom proof .entries) ≡ countPart proof
+  pub entries : entriesBytes (preparedFrom proof .entries) ≡ entriesPart proof
+  pub digest-length : length (digestPart proof) ≡ 32
+  pub entries-length : length (entriesPart proof) ≡ 65 * countPart proof
+
+-- The timestamp in front of enough bytes.
+front-timestamp : (proof : List ℕ) → 5 ≤ length proof → timestampPart proof ≡ ofNumber (fromBytes (take 5 proof))
+unfolding timestampPart
+front-timestamp proof long = rw (le-ltb (length proof) 5 long)
+
+pub by-parts : (proof : List ℕ) → Whole proof → ByParts proof
+unfolding digestPart countPart entriesPart
+by-parts proof whole =
+    let ends = whole .ends in
+    let long : 38 ≤ length proof = omega arith in
+    let behind : length (drop 38 proof) ≡ 65 * getD proof 37 0 = rw length-drop (omega arith) in
+    let enough = le-ltb (length proof) 37 (omega arith) in
+    record {
+      timestamp = sym (ap number (front-timestamp proof (omega arith)) ∙ number-ofNumber (fromBytes (take 5 proof)));
+      digest = rw enough;
+      count = length-read (getD proof 37 0) (drop 38 proof);
+      entries = entries-read (getD proof 37 0) (drop 38 proof) behind;
+      digest-length = rw enough (simp (length-take, length-drop) (omega arith));
+      entries-length = behind;
+    }
+
+-- A proof that may be missing: its timestamp, and whether it is there.
+pub shown : (proof : List ℕ) → WholeIfThere proof → timestampPart proof ≡ ofNumber (preparedTimestamp (preparedPart proof))
+unfolding timestampPart
+shown [] whole = refl
+shown (byte ∷ proof) whole = let ends = whole .ends in front-timestamp (byte ∷ proof) (omega arith)
+
+pub missing-part : (proof : List ℕ) → length proof ≡ 0 → preparedPart proof ≡ none
+missing-part [] e = refl
+missing-part (byte ∷ proof) e = absurd (omega arith)
+
+pub record There (proof : List ℕ) : Type 0 where
+  pub whole : Whole proof
+  pub is : preparedPart proof ≡ some (preparedFrom proof)
+
+pub there : (proof : List ℕ) → WholeIfThere proof → (length proof ≡ 0 → ⊥) → There proof
+there [] whole h = absurd (h refl)
+there (byte ∷ proof) whole h = record { whole = whole; is = refl }
+
+whole-if : (proof : List ℕ) → Whole proof → WholeIfThere proof
+whole-if [] whole = tt
+whole-if (byte ∷ proof) whole = whole
+
+some-prepared : (proof : List ℕ) → 0 < length proof → preparedPart proof ≡ some (preparedFrom proof)
+some-prepared [] h = absurd (omega arith)
+some-prepared (byte ∷ proof) h = refl
+
+some-written : (proof : List ℕ) → 0 < length proof → writtenPart proof ≡ some (writtenFrom proof)
+some-written [] h = absurd (omega arith)
+some-written (byte ∷ proof) h = refl
+
+-- A quorum has at most 11 replicas.
+few-entries : (f : ℕ) (proof : List ℕ) → shaped f (preparedFrom proof .entries) ≡ true → countPart proof ≤ 11
+unfolding shaped countPart
+few-entries f proof h =
+    let entries = preparedFrom proof .entries in
+    let both = and-true-both (eqb (length entries) (quorumSize f)) (rising 0 (replicaCount f) (signers entries)) h in
+    omega (arith, eqb-true (length entries) (quorumSize f) (both .0), length-read (getD proof 37 0) (drop 38 proof))
+
+-- ---- A message by its parts
+
+-- The message that 2 to 11 let through.
+pub record Handed (party : Party) (f : ℕ) (bytes verdicts : List ℕ) (message : Message) : Type 0 where
+  pub admits : admitted party f bytes verdicts ≡ accepted message
+  pub ranged : inItsRange f (senderOf message) ≡ true
+  pub passed : Passed f message verdicts
+
+module _ (party : Party) (f : ℕ) (bytes verdicts : List ℕ) (fields : Fields) (e : acceptance party f bytes verdicts ≡ accepted fields) where
+  reads : reading party bytes ≡ accepted fields
+  reads = acceptance-accepted party f bytes verdicts fields e .2
+
+  found : Parsed party bytes fields
+  found = parsed party bytes fields reads
+
+  handed : (m : Message) → decode party bytes ≡ accepted m → Handed party f bytes verdicts m
+  handed m d =
+      let a = acceptance-accepted party f bytes verdicts fields e in
+      let h = admitted-passed party f bytes verdicts (a .0) (a .1) in
+      let same : a .0 ≡ m = cc (h .decodes) in
+      subst (λ (m : Message). Handed party f bytes verdicts m) same (record { admits = a .1; ranged = h .ranged; passed = h .passed })
+
+  digest-is : partAt bytes (fields .digest) ≡ field bytes 4
+  unfolding fieldsIn field
+  digest-is = rw (found .same)
+
+  card-is : cardAt bytes (fields .card) ≡ drop 1 (field bytes 5)
+  unfolding fieldsIn field
+  card-is = rw (found .same)
+
+  prepared-is : partAt bytes (fields .prepared) ≡ field bytes 6
+  unfolding fieldsIn field
+  prepared-is = rw (found .same)
+
+  written-is : partAt bytes (fields .written) ≡ field bytes 7
+  unfolding fieldsIn field
+  written-is = rw (found .same)
+
+  -- What follows the fields is the signature.
+  pub signature-is : partAt bytes (fields .signature) ≡ signature bytes
+  unfolding fieldsIn
+  signature-is = rw (found .same) (take-all (length bytes - place bytes 9) (drop (place bytes 9) bytes) (rw length-drop (omega arith)))
+
+  pub signature-length : length (partAt bytes (fields .signature)) ≡ 64
+  signature-length = let ends = found .framed .ends in rw (signature-is, length-drop) (omega arith)
+
+  digest-there : bit (mapIn bytes) 4 ≡ true → length (partAt bytes (fields .digest)) ≡ 32
+  unfolding field rules
+  digest-there set =
+      let next = place-present bytes 4 set in
+      let inside = found .inside 5 (omega arith) in
+      rw digest-is (simp (length-take, length-drop) (omega arith))
+
+  prepared-shown : preparedPart (partAt bytes (fields .prepared)) ≡ preparedAt bytes
+  prepared-shown = rw prepared-is (go (bit (mapIn bytes) 6) refl)
+    where
+      go : (b : Bool) → bit (mapIn bytes) 6 ≡ b → preparedPart (field bytes 6) ≡ cond b (some (preparedFrom (field bytes 6))) none
+      go true set = some-prepared (field bytes 6) (let whole = prepared-whole bytes (found .framed) set in omega arith)
+      go false clear = rw (field-absent bytes 6 clear)
+
+  written-shown : writtenPart (partAt bytes (fields .written)) ≡ writtenAt bytes
+  written-shown = rw written-is (go (bit (mapIn bytes) 7) refl)
+    where
+      go : (b : Bool) → bit (mapIn bytes) 7 ≡ b → writtenPart (field bytes 7) ≡ cond b (some (writtenFrom (field bytes 7))) none
+      go true set = some-written (field bytes 7) (let whole = written-whole bytes (found .framed) set in omega arith)
+      go false clear = rw (field-absent bytes 7 clear)
+
+  -- The written proof's timestamp, which is all that a replica takes of it.
+  pub last-shown : timestampPart (partAt bytes (fields .written)) ≡ ofNumber (writtenTimestamp (writtenPart (partAt bytes (fields .written))))
+  unfolding timestampPart
+  last-shown = rw written-is (go (bit (mapIn bytes) 7) refl)
+    where
+      go : (b : Bool) → bit (mapIn bytes) 7 ≡ b → timestampPart (field bytes 7) ≡ ofNumber (writtenTimestamp (writtenPart (field bytes 7)))
+      go true set =
+          let whole = written-whole bytes (found .framed) set in
+          rw (some-written (field bytes 7) (omega arith)) (front-timestamp (field bytes 7) (omega arith))
+      go false clear = rw (field-absent bytes 7 clear)
+
+  -- A prepared proof that is there is whole, and has at most 11 entries.
+  pub proof-whole : WholeIfThere (partAt bytes (fields .prepared))
+  proof-whole =
+      let h = handed _ (found .decodes) in
+      let s = seen party bytes _ (found .decodes) in
+      rw prepared-is (go (bit (mapIn bytes) 6) refl (rw (s .prepared) at (h .passed .prepared-shaped)))
+    where
+      go : (b : Bool) → bit (mapIn bytes) 6 ≡ b → ifThere (λ (proof : PreparedProof). shaped f (proof .entries)) (cond b (some (preparedFrom (field bytes 6))) none) ≡ true → WholeIfThere (field bytes 6)
+      go true set h = whole-if (field bytes 6) (record { ends = prepared-whole bytes (found .framed) set; few = few-entries f (field bytes 6) h })
+      go false clear h = rw (field-absent bytes 6 clear) tt
+
+-- The requests, kind by kind, with the parts that the code takes out of them.
+module _ (f : ℕ) (bytes verdicts : List ℕ) (fields : Fields) (e : acceptance Replica f bytes verdicts ≡ accepted fields) where
+  pub handed-read-stamp : fields .kind ≡ 1 → Handed Replica f bytes verdicts (READ-STAMP (record { 0 = fields .sender }) (fields .nonce))
+  handed-read-stamp k = handed Replica f bytes verdicts fields e _ (reads-1 bytes fields (reads Replica f bytes verdicts fields e) k)
+
+  pub handed-prepare : fields .kind ≡ 2
+      → Handed Replica f bytes verdicts (PREPARE (record { 0 = fields .sender }) (number (fields .timestamp)) (partAt bytes (fields .digest)) (preparedPart (partAt bytes (fields .prepared))) (writtenPart (partAt bytes (fields .written))))
+  handed-prepare k =
+      rw (digest-is Replica f bytes verdicts fields e, prepared-shown Replica f bytes verdicts fields e, written-shown Replica f bytes verdicts fields e)
+      (handed Replica f bytes verdicts fields e _ (reads-2 bytes fields (reads Replica f bytes verdicts fields e) k))
+
+  pub handed-write : fields .kind ≡ 3 → Handed Replica f bytes verdicts (WRITE (record { 0 = fields .sender }) (cardAt bytes (fields .card)) (preparedFrom (partAt bytes (fields .prepared))))
+  handed-write k =
+      rw (card-is Replica f bytes verdicts fields e, prepared-is Replica f bytes verdicts fields e)
+      (handed Replica f bytes verdicts fields e _ (reads-3 bytes fields (reads Replica f bytes verdicts fields e) k))
+
+  pub handed-read : fields .kind ≡ 4 → Handed Replica f bytes verdicts (READ (record { 0 = fields .sender }) (fields .nonce))
+  handed-read k = handed Replica f bytes verdicts fields e _ (reads-4 bytes fields (reads Replica f bytes verdicts fields e) k)
+
+  -- "holders 1 to 4"
+  pub request-kind : (fields .kind ≡ 1) ⊎ ((fields .kind ≡ 2) ⊎ ((fields .kind ≡ 3) ⊎ (fields .kind ≡ 4)))
+  request-kind = replica-kind (found Replica f bytes verdicts fields e .taken)
+
+  prepare-set : {map : ℕ} → Taken map 2 Replica → bit map 4 ≡ true
+  prepare-set (prepare set) = cc
+
+  write-set : {map : ℕ} → Taken map 3 Replica → bit map 6 ≡ true
+  write-set (write set) = cc
+
+  pub prepare-digest : fields .kind ≡ 2 → length (partAt bytes (fields .digest)) ≡ 32
+  prepare-digest k = digest-there Replica f bytes verdicts fields e (prepare-set (taken-kind Replica bytes fields (reads Replica f bytes verdicts fields e) 2 k))
+
+  pub write-proof : fields .kind ≡ 3 → Whole (partAt bytes (fields .prepared))
+  write-proof k =
+      let set = write-set (taken-kind Replica bytes fields (reads Replica f bytes verdicts fields e) 3 k) in
+      let whole = prepared-whole bytes (found Replica f bytes verdicts fields e .framed) set in
+      let same = prepared-is Replica f bytes verdicts fields e in
+      there (partAt bytes (fields .prepared)) (proof-whole Replica f bytes verdicts fields e) (λ none. let size = ap length same in omega arith) .whole
+
+-- The replies, kind by kind.
+module _ (f : ℕ) (bytes verdicts : List ℕ) (fields : Fields) (e : acceptance Client f bytes verdicts ≡ accepted fields) where
+  pub handed-stamp : fields .kind ≡ 5 → Handed Client f bytes verdicts (STAMP (record { 0 = fields .sender }) (fields .nonce) (preparedPart (partAt bytes (fields .prepared))) (fields .addressed))
+  handed-stamp k =
+      rw (prepared-shown Client f bytes verdicts fields e)
+      (handed Client f bytes verdicts fields e _ (reads-5 bytes fields (reads Client f bytes verdicts fields e) k))
+
+  pub handed-prepared : fields .kind ≡ 6 → Handed Client f bytes verdicts (PREPARED (record { 0 = fields .sender }) (number (fields .timestamp)) (partAt bytes (fields .digest)))
+  handed-prepared k =
+      rw (digest-is Client f bytes verdicts fields e)
+      (handed Client f bytes verdicts fields e _ (reads-6 bytes fields (reads Client f bytes verdicts fields e) k))
+
+  pub handed-written : fields .kind ≡ 7 → Handed Client f bytes verdicts (WRITTEN (record { 0 = fields .sender }) (number (fields .timestamp)))
+  handed-written k = handed Client f bytes verdicts fields e _ (reads-7 bytes fields (reads Client f bytes verdicts fields e) k)
+
+  pub handed-card : fields .kind ≡ 8 → Handed Client f bytes verdicts (CARD (record { 0 = fields .sender }) (fields .nonce) (cardAt bytes (fields .card)) (preparedPart (partAt bytes (fields .prepared))) (fields .addressed))
+  handed-card k =
+      rw (card-is Client f bytes verdicts fields e, prepared-shown Client f bytes verdicts fields e)
+      (handed Client f bytes verdicts fields e _ (reads-8 bytes fields (reads Client f bytes verdicts fields e) k))
+
+  -- "desks 5 to 8"
+  pub reply-kind : (fields .kind ≡ 5) ⊎ ((fields .kind ≡ 6) ⊎ ((fields .kind ≡ 7) ⊎ (fields .kind ≡ 8)))
+  reply-kind = client-kind (found Client f bytes verdicts fields e .taken)
