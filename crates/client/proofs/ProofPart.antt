@@ -13,8 +13,8 @@ use Rattle.base.specs.declared.timestamp.Timestamp.{Timestamp}
 use Rattle.base.proofs.Timestamps.{number-ofNumber}
 use Rattle.wire.specs.Proof.{preparedFrom}
 use Rattle.wire.proofs.Windows.{front}
-use Rattle.protocol.specs.Parts.{timestampOf}
 use Rattle.client.specs.Arrays.{proofIn, Reaches, IfProof}
+use Rattle.wire.specs.Parts.{preparedTimestamp}
 
 -- A proof that is there.
 pub record There (proof : List ℕ) : Type 0 where
@@ -30,7 +30,7 @@ present [] p h = absurd (h refl)
 present (byte ∷ bytes) p h = record { reaches = p; is = refl }
 
 -- A proof whose timestamp is larger than another is there.
-pub later-there : (n : ℕ) (proof : List ℕ) → IfProof proof → ltb n (timestampOf (proofIn proof)) ≡ true → There proof
+pub later-there : (n : ℕ) (proof : List ℕ) → IfProof proof → ltb n (preparedTimestamp (proofIn proof)) ≡ true → There proof
 later-there n [] p h = absurd (let less = ltb-true n 0 h in omega arith)
 later-there n (byte ∷ bytes) p h = record { reaches = p; is = refl }
 

@@ -17,8 +17,9 @@ ghost use lib.ListN.{length};
 ghost use Rattle.base.specs.Same.{same};
 ghost use Rattle.base.specs.Timestamp.{number, ofNumber};
 ghost use Rattle.protocol.specs.Client.{bestOf, keepBetter, keepBetterCard, showedBy, isNew};
-ghost use Rattle.protocol.specs.Parts.{timestampOf, cardStands, startCard};
+ghost use Rattle.protocol.specs.Parts.{cardStands, startCard};
 ghost use Rattle.client.specs.Arrays.{proofIn, IfProof};
+ghost use Rattle.wire.specs.Parts.{preparedTimestamp};
 
 // Whether no reply of this replica was taken yet.
 fn is_new(counts: ReplicaSet, sender: ReplicaId) -> bool
@@ -50,7 +51,7 @@ pub(super) fn is_awaited(
 // 0.0 for a missing proof.
 fn proof_timestamp(proof: &[u8]) -> Timestamp
     requires { ⌜ IfProof (now proof) ⌝ }
-    ensures { λ r. ⌜ r ≡ ofNumber (timestampOf (proofIn (now (proof .entry)))) ⌝ }
+    ensures { λ r. ⌜ r ≡ ofNumber (preparedTimestamp (proofIn (now (proof .entry)))) ⌝ }
 {
     if proof.len() == 0 {
         return Timestamp::start();

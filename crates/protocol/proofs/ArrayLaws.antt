@@ -16,8 +16,9 @@ use Rattle.base.proofs.Filling.{zeros, filled-length, filled-zeros}
 use Rattle.wire.specs.Message.{EachFits, EntriesFit, IfThere, preparedSize}
 use Rattle.wire.specs.Proof.{Entry, PreparedProof, entriesBytes, readEntries}
 use Rattle.wire.proofs.ProofBytes.{length-read}
-use Rattle.protocol.specs.Parts.{cardIn, entriesIn, ifIssued, timestampOf}
+use Rattle.protocol.specs.Parts.{cardIn, entriesIn, ifIssued}
 use Rattle.protocol.proofs.Fit.{Array}
+use Rattle.wire.specs.Parts.{preparedTimestamp}
 
 -- ---- Bytes
 
@@ -175,10 +176,10 @@ module _ {A : Type 0} (timestamp : ℕ) (proof : A) where
 
 module _ (timestamp : ℕ) (proof : PreparedProof) where
   -- A proof of that timestamp, or none for 0.
-  pub issued-timestamp : proof .timestamp ≡ timestamp → timestampOf (ifIssued timestamp proof) ≡ timestamp
+  pub issued-timestamp : proof .timestamp ≡ timestamp → preparedTimestamp (ifIssued timestamp proof) ≡ timestamp
   issued-timestamp e = go (eqb timestamp 0) refl
     where
-      go : (b : Bool) → eqb timestamp 0 ≡ b → timestampOf (cond b none (some proof)) ≡ timestamp
+      go : (b : Bool) → eqb timestamp 0 ≡ b → preparedTimestamp (cond b none (some proof)) ≡ timestamp
       go true k = sym (eqb-true timestamp 0 k)
       go false k = e
 

@@ -15,12 +15,13 @@ use Rattle.wire.specs.Message.{Message, PREPARE, WRITE, STAMP, PREPARED, WRITTE
 use Rattle.wire.specs.Proof.{PreparedProof, WrittenProof}
 use Rattle.wire.specs.Sha256.{sha256}
 use Rattle.protocol.specs.Client.{Answer, send, counted, done, ended, Turn, currentCard, bestOf, showedBy}
-use Rattle.protocol.specs.Parts.{timestampOf, cardStands}
+use Rattle.protocol.specs.Parts.{cardStands}
 use Rattle.protocol.specs.declared.client.Client.{Client}
 use Rattle.protocol.specs.declared.client.Phase.{Phase}
 use Rattle.protocol.specs.declared.client.Phase.the-variants.{Idle, Stamps, Prepareds, Writtens, Cards, WriteBack}
 use Rattle.protocol.proofs.Fit.{ClientFits, TimestampFits}
 use Rattle.wire.proofs.Passed.{Passed}
+use Rattle.wire.specs.Parts.{preparedTimestamp}
 
 -- What an operation's beginning does: it sends the question, with the next nonce.
 pub record Begun (before : Client) (question : Message) (phase : Phase) (card : List ℕ) (turn : Turn) : Type 0 where
@@ -50,7 +51,7 @@ NewFrom before sender counts = (isReplica (before .f) sender ≡ true) × (has c
 
 -- The card of the better of the best reply so far and this one.
 abbrev pub betterCard : Timestamp → Option PreparedProof → List ℕ → Client → List ℕ
-betterCard best proof card before = cond (ltb (number best) (timestampOf proof)) card (currentCard before)
+betterCard best proof card before = cond (ltb (number best) (preparedTimestamp proof)) card (currentCard before)
 
 pub data ClientCase (before : Client) (message : Message) (turn : Turn) : Type 0 where
   stamp-counted : (sender : ReplicaId) (nonce : ℕ) (proof : Option PreparedProof) (best : Timestamp) (counts : ReplicaSet)
@@ -62,7 +63,7 @@ pub data ClientCase (before : Client) (message : Message) (turn : Turn) : Type 0
       → message ≡ STAMP sender nonce proof (before .id) → before .phase ≡ Stamps nonce best counts → NewFrom before sender counts
       → isQuorum (before .f) (with counts sender) ≡ true → successor (bestOf best proof) (before .id) ≡ some next
       → currentCard (turn .next) ≡ currentCard before → turn .next .digest ≡ sha256 (currentCard before)
-      → timestampOf shown ≡ number (bestOf best proof)
+      → preparedTimestamp shown ≡ number (bestOf best proof)
       → Leaves turn (send (PREPARE (before .id) (number next) (sha256 (currentCard before)) shown last)) (Prepareds next empty) → ClientCase before message turn
   stamps-ended : (sender : ReplicaId) (nonce : ℕ) (proof : Option PreparedProof) (best : Timestamp) (counts : ReplicaSet)
       → message ≡ STAMP sender nonce proof (before .id) → before .phase ≡ Stamps nonce best counts

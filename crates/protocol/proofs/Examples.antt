@@ -20,7 +20,7 @@ use Rattle.wire.specs.Acceptance.{admits}
 use Rattle.wire.specs.Checks.{entriesOf, all, oneEach}
 use Rattle.wire.specs.Message.{Message, PREPARE, WRITE, PREPARED, WRITTEN}
 use Rattle.wire.specs.Proof.{PreparedProof, WrittenProof}
-use Rattle.protocol.specs.Parts.{timestampOf, cardStands}
+use Rattle.protocol.specs.Parts.{cardStands}
 use Rattle.protocol.specs.Replica.{Reply, heldTimestamp, slotCount, slotDigest, slotTimestamp, withWritten, withSlot, raised, slotIs, slotTakes, afterPrepare, afterWrite, isOwn, isTimestamp, withSlots, withHeld, answering, onRequest}
 use Rattle.protocol.specs.declared.replica.Held.{Held}
 use Rattle.protocol.specs.declared.replica.Replica.{Replica}
@@ -30,6 +30,7 @@ use Rattle.protocol.proofs.Fit.{ReplicaFits}
 use Rattle.wire.proofs.Admitted.{passed-admits}
 use Rattle.wire.proofs.Passed.{Passed}
 use Rattle.protocol.proofs.ReplicaFacts.{raised-rises}
+use Rattle.wire.specs.Parts.{preparedTimestamp}
 
 -- ---- How they are said
 
@@ -120,7 +121,7 @@ module _ (client : ClientId) (timestamp : ℕ) (digest : List ℕ) (last : Optio
 
 prepare-tested : (replica : Replica) (verdicts : List ℕ) (client : ClientId) (timestamp : ℕ) (digest : List ℕ) (proof : Option PreparedProof) (last : Option WrittenProof)
     (after : Outcome Slots) → isClient client ≡ true → Passed (replica .f) (PREPARE client timestamp digest proof last) verdicts → isOwn client last ≡ true
-    → isTimestamp timestamp (successor (ofNumber (timestampOf proof)) client) ≡ true → afterPrepare client timestamp digest last (replica .register .slots) ≡ after
+    → isTimestamp timestamp (successor (ofNumber (preparedTimestamp proof)) client) ≡ true → afterPrepare client timestamp digest last (replica .register .slots) ≡ after
     → handed replica verdicts (PREPARE client timestamp digest proof last)
     ≡ (after >>= λ slots. answering (PREPARED (replica .id) timestamp digest) (withSlots replica slots))
 unfolding onRequest guard

@@ -25,7 +25,7 @@ use Rattle.wire.specs.Message.{Message, READ-STAMP, PREPARE, WRITE, READ, STAMP
 use Rattle.wire.specs.Acceptance.{senderOf, inItsRange}
 use Rattle.wire.specs.Checks.{writtenOf}
 use Rattle.wire.specs.Proof.{PreparedProof, WrittenProof}
-use Rattle.protocol.specs.Parts.{entriesIn, timestampOf, cardStands}
+use Rattle.protocol.specs.Parts.{entriesIn, cardStands}
 use Rattle.protocol.specs.Replica.{Reply, heldTimestamp, heldProof, heldCard, slotCount, slotDigest, slotTimestamp, raised, withWritten, withSlot, holding, withSlots, withHeld, slotIs, slotTakes, isOwn, isTimestamp, afterPrepare, afterWrite, answering, onRequest}
 use Rattle.protocol.specs.declared.replica.Held.{Held}
 use Rattle.protocol.specs.declared.replica.Replica.{Replica}
@@ -33,6 +33,7 @@ use Rattle.protocol.specs.declared.replica.Slots.{Slots}
 use Rattle.protocol.proofs.ArrayLaws.{replaced-length, replaced-bytes, replaced-here, replaced-before, replaced-behind, filled-fits, card-in-bytes, card-in-short, entries-in-length, entries-in-fit, entries-filled, issued-there, issued-timestamp, issued-size}
 use Rattle.protocol.proofs.Fit.{SlotsFit, HeldFits, ReplicaFits}
 use Rattle.wire.proofs.Passed.{Passed}
+use Rattle.wire.specs.Parts.{preparedTimestamp}
 
 -- The client of a timestamp's number.
 abbrev pub clientOf : ℕ → ClientId
@@ -78,7 +79,7 @@ heldRecord : Held → PreparedProof
 heldRecord held = record { timestamp = heldTimestamp held; digest = held .digest; entries = entriesIn (held .entries) (held .«entry_count») }
 
 -- The timestamp that a register shows is the one it holds.
-pub held-shown : (held : Held) → timestampOf (heldProof held) ≡ heldTimestamp held
+pub held-shown : (held : Held) → preparedTimestamp (heldProof held) ≡ heldTimestamp held
 unfolding heldRecord
 held-shown held = issued-timestamp (heldTimestamp held) (heldRecord held) refl
 
@@ -331,7 +332,7 @@ for-each P client c here elsewhere = go (eqb (c .0) (client .0)) refl
 
 module _ (before : Replica) (verdicts : List ℕ) (client : ClientId) (timestamp : ℕ) (digest : List ℕ) (proof : Option PreparedProof) (last : Option WrittenProof) (fits : ReplicaFits before)
     (message-fits : Fits (PREPARE client timestamp digest proof last)) (passed : Passed (before .f) (PREPARE client timestamp digest proof last) verdicts)
-    (from-client : isClient client ≡ true) (is-next : isTimestamp timestamp (successor (ofNumber (timestampOf proof)) client) ≡ true) where
+    (from-client : isClient client ≡ true) (is-next : isTimestamp timestamp (successor (ofNumber (preparedTimestamp proof)) client) ≡ true) where
   sender-low : 1 ≤ client .0
   sender-low = bounds 1 64 (client .0) from-client .0
 
@@ -339,10 +340,10 @@ module _ (before : Replica) (verdicts : List ℕ) (client : ClientId) (timestamp
   sender-high = bounds 1 64 (client .0) from-client .1
 
   own-client : timestamp % 256 ≡ client .0
-  own-client = omega (arith, next-number timestamp (ofNumber (timestampOf proof)) client is-next, sender-high)
+  own-client = omega (arith, next-number timestamp (ofNumber (preparedTimestamp proof)) client is-next, sender-high)
 
   own-count : 1 ≤ timestamp / 256
-  own-count = omega (arith, next-number timestamp (ofNumber (timestampOf proof)) client is-next)
+  own-count = omega (arith, next-number timestamp (ofNumber (preparedTimestamp proof)) client is-next)
 
   -- PREPARED, with the slots afterwards; what is held is as it was.
   prepared : (after : Slots) → SlotsFit after → number (after .written) ≡ raised last (before .register .slots)
@@ -486,7 +487,7 @@ replica-facts before verdicts (PREPARE client timestamp digest proof last) reply
     let request = PREPARE client timestamp digest proof last in
     let prepared = afterPrepare client timestamp digest last (before .register .slots) in
     let made : Outcome Reply = prepared >>= λ slots. answering (PREPARED (before .id) timestamp digest) (withSlots before slots) in
-    let is-next = isTimestamp timestamp (successor (ofNumber (timestampOf proof)) client) in
+    let is-next = isTimestamp timestamp (successor (ofNumber (preparedTimestamp proof)) client) in
     let twelfth = guard-accepted 12 (isOwn client last) (guard 13 is-next made) reply e in
     let thirteenth = guard-accepted 13 is-next made reply (twelfth .1) in
     let a = answered before (PREPARED (before .id) timestamp digest) prepared reply (thirteenth .1) in

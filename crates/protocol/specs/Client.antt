@@ -24,13 +24,14 @@ use Rattle.wire.specs.Proof.{Entry, PreparedProof, WrittenProof, entriesBytes}
 use Rattle.wire.specs.Sha256.{sha256}
 use Rattle.wire.specs.Writing.{unsigned, inFront}
 use Rattle.wire.specs.declared.message.Party.the-variants.{Client as AtClient}
-use Rattle.protocol.specs.Parts.{startCard, cardIn, entriesIn, ifIssued, timestampOf, cardStands}
+use Rattle.protocol.specs.Parts.{startCard, cardIn, entriesIn, ifIssued, cardStands}
 use Rattle.protocol.specs.Replica.{withOutput}
 use Rattle.protocol.specs.declared.client.Client.{Client}
 use Rattle.protocol.specs.declared.client.ClientAnswer.{ClientAnswer}
 use Rattle.protocol.specs.declared.client.ClientAnswer.the-variants.{Send, Counted, Done, Ended, Refused}
 use Rattle.protocol.specs.declared.client.Phase.{Phase}
 use Rattle.protocol.specs.declared.client.Phase.the-variants.{Idle, Stamps, Prepareds, Writtens, Cards, WriteBack}
+use Rattle.wire.specs.Parts.{preparedTimestamp}
 
 -- ---- What a client's record holds
 
@@ -291,14 +292,14 @@ isNew counts sender = not (has counts sender)
 
 -- "Of replies with the same largest stamp the first one taken gives proof and card."
 abbrev pub bestOf : Timestamp → Option PreparedProof → Timestamp
-bestOf best proof = cond (ltb (number best) (timestampOf proof)) (ofNumber (timestampOf proof)) best
+bestOf best proof = cond (ltb (number best) (preparedTimestamp proof)) (ofNumber (preparedTimestamp proof)) best
 
 abbrev pub keepProof : Option PreparedProof → Client → Client
 keepProof none client = client
 keepProof (some proof) client = withProof proof client
 
 abbrev pub keepBetter : Timestamp → Option PreparedProof → Client → Client
-keepBetter best proof client = cond (ltb (number best) (timestampOf proof)) (keepProof proof client) client
+keepBetter best proof client = cond (ltb (number best) (preparedTimestamp proof)) (keepProof proof client) client
 
 -- From q STAMPs: "PREPARE its successor with its proof and the desk's last written proof, if any"
 abbrev pub toPrepare : Client → Timestamp → Option Timestamp → Outcome Turn
@@ -366,10 +367,10 @@ onWritten client sender timestamp signature (Cards nonce best counts showed) = u
 -- "Holders that showed it count.": those of the largest timestamp so far.
 abbrev pub showedBy : Timestamp → Option PreparedProof → ReplicaId → ReplicaSet → ReplicaSet
 showedBy best proof sender showed =
-    cond (ltb (number best) (timestampOf proof)) (with empty sender) (cond (eqb (number best) (timestampOf proof)) (with showed sender) showed)
+    cond (ltb (number best) (preparedTimestamp proof)) (with empty sender) (cond (eqb (number best) (preparedTimestamp proof)) (with showed sender) showed)
 
 abbrev pub keepBetterCard : Timestamp → List ℕ → Option PreparedProof → Client → Client
-keepBetterCard best card proof client = cond (ltb (number best) (timestampOf proof)) (withCard card (keepProof proof client)) client
+keepBetterCard best card proof client = cond (ltb (number best) (preparedTimestamp proof)) (withCard card (keepProof proof client)) client
 
 -- "If they are q it is done; else WRITE it back"
 unfoldable pub afterCard : ℕ → Timestamp → ReplicaSet → ReplicaSet → Client → Outcome Turn

@@ -25,10 +25,6 @@ entriesIn array kept = keptEntries kept array
 abbrev pub ifIssued : {A : Type 0} → ℕ → A → Option A
 ifIssued timestamp proof = unless (eqb timestamp 0) proof
 
-abbrev pub timestampOf : Option PreparedProof → ℕ
-timestampOf none = 0
-timestampOf (some proof) = proof .timestamp
-
 -- 14: "A card breaks its table, its digest differs from the proof's, or it lacks a proof and is not `00 00`."
 abbrev pub cardStands : List ℕ → Option PreparedProof → Bool
 cardStands card none = same card startCard

@@ -18,13 +18,14 @@ use Rattle.wire.specs.Message.{Message, READ-STAMP, PREPARE, WRITE, READ, STAMP
 use Rattle.wire.specs.Proof.{PreparedProof, WrittenProof, entriesBytes}
 use Rattle.wire.specs.Writing.{unsigned, roomy, inFront}
 use Rattle.wire.specs.declared.message.Party.the-variants.{Replica as AtReplica}
-use Rattle.protocol.specs.Parts.{cardIn, entriesIn, ifIssued, timestampOf, cardStands}
+use Rattle.protocol.specs.Parts.{cardIn, entriesIn, ifIssued, cardStands}
 use Rattle.protocol.specs.declared.replica.Held.{Held}
 use Rattle.protocol.specs.declared.replica.Register.{Register}
 use Rattle.protocol.specs.declared.replica.Replica.{Replica}
 use Rattle.protocol.specs.declared.replica.ReplicaAnswer.{ReplicaAnswer}
 use Rattle.protocol.specs.declared.replica.ReplicaAnswer.the-variants.{Send, Refused}
 use Rattle.protocol.specs.declared.replica.Slots.{Slots}
+use Rattle.wire.specs.Parts.{preparedTimestamp}
 
 -- ---- What a register holds
 
@@ -164,7 +165,7 @@ onReadStamp replica client nonce = answering (STAMP (replica .id) nonce (heldPro
 abbrev pub onPrepare : Replica → ClientId → ℕ → List ℕ → Option PreparedProof → Option WrittenProof → Outcome Reply
 onPrepare replica client timestamp digest proof last =
     guard 12 (isOwn client last)
-    (guard 13 (isTimestamp timestamp (successor (ofNumber (timestampOf proof)) client))
+    (guard 13 (isTimestamp timestamp (successor (ofNumber (preparedTimestamp proof)) client))
     (afterPrepare client timestamp digest last (replica .register .slots) >>= λ slots.
     answering (PREPARED (replica .id) timestamp digest) (withSlots replica slots)))
 

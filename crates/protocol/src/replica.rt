@@ -1,13 +1,21 @@
 // A replica's record (document 01: a holder's).
 use base::party::ReplicaId;
 use base::timestamp::Timestamp;
+use wire::layout::CARD_ROOM;
+use wire::layout::DIGEST;
+use wire::layout::ENTRIES_ROOM;
+
+// A slot for each client that may write, and the bytes of their digests.
+pub const SLOTS: usize = 64;
+
+pub const SLOT_DIGESTS: usize = SLOTS * DIGEST;
 
 // The prepare list: a slot for each client (document 01: line), client c's at c - 1, with its count, 0 for an unused slot, and
 // its digest's 32 bytes; and the written timestamp (document 01: written stamp), which closes slots.
 #[repr(C)]
 pub struct Slots {
-    pub counts: [u32; 64],
-    pub digests: [u8; 2048],
+    pub counts: [u32; SLOTS],
+    pub digests: [u8; SLOT_DIGESTS],
     pub written: Timestamp,
 }
 
@@ -16,10 +24,10 @@ pub struct Slots {
 pub struct Held {
     pub timestamp: Timestamp,
     pub card_length: u8,
-    pub card: [u8; 17],
-    pub digest: [u8; 32],
+    pub card: [u8; CARD_ROOM],
+    pub digest: [u8; DIGEST],
     pub entry_count: u8,
-    pub entries: [u8; 715],
+    pub entries: [u8; ENTRIES_ROOM],
 }
 
 // One register, in the two parts that requests change: a PREPARE the slots, a WRITE what is held.

@@ -1,4 +1,3 @@
-pub mod Arrays
 pub mod Asked
 pub mod RawPart
 pub mod Replies

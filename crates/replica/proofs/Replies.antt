@@ -33,7 +33,7 @@ use Rattle.protocol.specs.Replica.{heldTimestamp, Reply, answerOutcome, answeri
 use Rattle.protocol.specs.declared.replica.Replica.{Replica}
 use Rattle.protocol.specs.declared.replica.ReplicaAnswer.{ReplicaAnswer}
 use Rattle.protocol.specs.declared.replica.ReplicaAnswer.the-variants.{Send, Refused}
-use Rattle.replica.specs.Kinds.{proofOf, ownOrMissing, prepareWith, standsFor}
+use Rattle.replica.specs.Kinds.{ownOrMissing, prepareWith, standsFor}
 use Rattle.replica.specs.Stepping.{keeping, Changes, Leaves}
 use Rattle.replica.specs.declared.Stepped.{Stepped}
 use Rattle.replica.proofs.Slots.{admitted, not-admitted}
@@ -136,11 +136,3 @@ module _ (replica : Replica) (card : List ℕ) (proof : PreparedProof) where
 
 pub standing-short : (card digest : List ℕ) → standsFor card digest ≡ true → length card ≤ 17
 standing-short card digest e = card-short card (and-true-both (isCard card) (same (sha256 card) digest) e .0)
-
--- A proof in parts.
-pub proof-parts : (proof : List ℕ) (timestamp : Timestamp) → timestamp ≡ ofNumber (fromBytes (take 5 (between proof 0 5)))
-    → proofOf timestamp (take 32 (drop 5 proof)) (getD proof 37 0) (take (length proof - 38) (drop 38 proof)) ≡ preparedFrom proof
-proof-parts proof timestamp e =
-    let front : take 5 (between proof 0 5) ≡ take 5 proof = take-take 5 5 proof (omega arith) in
-    let rest : take (length proof - 38) (drop 38 proof) ≡ drop 38 proof = take-all (length proof - 38) (drop 38 proof) (rw length-drop (omega arith)) in
-    rw (rest, e, front, number-ofNumber (fromBytes (take 5 proof)))

@@ -31,17 +31,6 @@ preparedWith client timestamp digest written slots =
     cond (slotIs client timestamp digest slots) (accepted (withWritten written slots))
     (guard 15 (slotTakes client timestamp written slots) (accepted (withWritten written (withSlot client timestamp digest slots))))
 
--- A prepared proof as it stands in a message: timestamp, digest, number of entries, and their bytes.
-abbrev pub proofOf : Timestamp → List ℕ → ℕ → List ℕ → PreparedProof
-proofOf timestamp digest count entries = record { timestamp = number timestamp; digest = digest; entries = readEntries count entries }
-
--- A card, a digest, and so many entries' bytes that fit what is held.
-pub record Fitting (card digest : List ℕ) (count : ℕ) (entries : List ℕ) : Type 0 where
-  pub card-short : length card ≤ 17
-  pub digest-whole : length digest ≡ 32
-  pub few : count ≤ 11
-  pub entries-whole : length entries ≡ 65 * count
-
 -- PREPARE; the timestamps of the prepared proof and of the written proof are 0 where the proofs are missing.
 abbrev pub ownOrMissing : ClientId → ℕ → Bool
 ownOrMissing client last = eqb last 0 || eqb (last % 256) (client .0)

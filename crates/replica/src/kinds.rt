@@ -1,11 +1,13 @@
 // The four requests on plain values, each with its reply in the output.
 use crate::Stepped;
-use crate::bytes;
 use crate::register::Slot;
+use crate::register::digest_at;
 use crate::register::holding;
 use crate::register::is_kept;
 use crate::register::later;
+use crate::register::put_digest;
 use crate::register::slot_admits;
+use base::bytes::same;
 use base::party::ClientId;
 use base::refusal::BAD_CARD;
 use base::refusal::NOT_OWN;
@@ -19,17 +21,18 @@ use protocol::replica::Replica;
 use protocol::replica::ReplicaAnswer;
 use protocol::replica::Slots;
 use wire::card::CardCheck;
+use wire::parts;
 use wire::writer::Encoded;
 ghost use mathlib.Core.Path.{_≡_};
-ghost use Prim.Native.Nat.{_*_, _≤_};
-ghost use lib.ListN.{length, getD};
+ghost use Prim.Native.Nat.{_≤_};
+ghost use lib.ListN.{length};
 ghost use Rattle.base.specs.Timestamp.{number, ofNumber, successor};
-ghost use Rattle.wire.specs.Layout.{extent, preparedRule};
 ghost use Rattle.wire.specs.Message.{longest};
+ghost use Rattle.wire.specs.Parts.{Whole};
 ghost use Rattle.wire.specs.Proof.{preparedFrom};
 ghost use Rattle.wire.specs.Writing.{encodedOutcome};
 ghost use Rattle.protocol.specs.Replica.{answerOutcome, isTimestamp, withSlots, withHeld, onReadStamp, onWrite, onRead, replicaAnswers};
-ghost use Rattle.replica.specs.Kinds.{proofOf, ownOrMissing, standsFor, prepareWith};
+ghost use Rattle.replica.specs.Kinds.{ownOrMissing, standsFor, prepareWith};
 ghost use Rattle.replica.specs.Stepping.{keeping, Leaves};
 
 // A refusal, which leaves the record as it was.
@@ -179,7 +182,7 @@ pub(super) fn prepare(
     let written = later(before, last);
     let slot = Slot {
         count: slots.counts[at],
-        digest: bytes::digest_at(&slots.digests, 32 * at),
+        digest: digest_at(&slots.digests, 32 * at),
     };
     if !slot_admits(slot, client, timestamp, digest, written) {
         // A refused PREPARE leaves the written timestamp too as it was.
@@ -196,7 +199,7 @@ pub(super) fn prepare(
         };
     }
     slots.counts[at] = timestamp.count;
-    bytes::put_digest(&mut slots.digests, 32 * at, digest);
+    put_digest(&mut slots.digests, 32 * at, digest);
     slots.written = written;
     Stepped {
         answer: answer,
@@ -216,25 +219,18 @@ fn stands_for(card: &[u8], digest: &[u8]) -> bool
         return false;
     };
     let found = made.bytes;
-    bytes::same(&found, digest)
+    same(&found, digest)
 }
 
-// WRITE, with its proof in parts.
-fn write_parts(
-    replica: Replica,
-    timestamp: Timestamp,
-    card: &[u8],
-    digest: &[u8],
-    entry_count: u8,
-    entries: &[u8],
-    out: &mut [u8],
-) -> Stepped
-    requires { ⌜ (length (now digest) ≡ 32) × («entry_count» ≤ 11) × (length (now entries) ≡ 65 * «entry_count») × (longest ≤ length (now out)) ⌝ }
-    ensures { λ r. ⌜ Leaves replica (replicaAnswers replica (now (out .entry)) (onWrite replica (now (card .entry)) (proofOf timestamp (now (digest .entry)) «entry_count» (now (entries .entry))))) r (now (out .exit)) ⌝ }
+// WRITE
+pub(super) fn write(replica: Replica, card: &[u8], proof: &[u8], out: &mut [u8]) -> Stepped
+    requires { ⌜ Whole (now proof) × (longest ≤ length (now out)) ⌝ }
+    ensures { λ r. ⌜ Leaves replica (replicaAnswers replica (now (out .entry)) (onWrite replica (now (card .entry)) (preparedFrom (now (proof .entry))))) r (now (out .exit)) ⌝ }
 {
-    if !stands_for(card, digest) {
+    if !stands_for(card, parts::digest(proof)) {
         return refuse(replica, BAD_CARD);
     }
+    let timestamp = parts::timestamp(proof);
     let encoded = wire::writer::write_written(out, replica.id, timestamp);
     let answer = answer_of(encoded);
     let current = replica.register.held.timestamp;
@@ -246,29 +242,11 @@ fn write_parts(
             replica: replica,
         };
     }
-    let next = holding(timestamp, card, digest, entry_count, entries);
+    let next = holding(card, proof);
     Stepped {
         answer: answer,
         holds: true,
         prepares: false,
         replica: with_held(replica, next),
     }
-}
-
-// WRITE
-pub(super) fn write(replica: Replica, card: &[u8], proof: &[u8], out: &mut [u8]) -> Stepped
-    requires { ⌜ (extent preparedRule (now proof) ≡ length (now proof)) × (getD (now proof) 37 0 ≤ 11) × (longest ≤ length (now out)) ⌝ }
-    ensures { λ r. ⌜ Leaves replica (replicaAnswers replica (now (out .entry)) (onWrite replica (now (card .entry)) (preparedFrom (now (proof .entry))))) r (now (out .exit)) ⌝ }
-{
-    let timestamp = wire::numbers::timestamp_in(proof, 0, 5);
-    let entry_count = proof[37];
-    write_parts(
-        replica,
-        timestamp,
-        card,
-        &proof[5..37],
-        entry_count,
-        &proof[38..],
-        out,
-    )
 }

@@ -1,5 +1,4 @@
 // The replica engine (document 01: a holder): setting up, the step by value, and the thin step over a borrowed record.
-mod bytes;
 pub mod exported;
 mod kinds;
 mod register;

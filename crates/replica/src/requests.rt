@@ -1,11 +1,11 @@
 // The requests, taken out of the messages that tests 2 to 11 let through.
 use crate::Stepped;
-use crate::bytes::digest_array;
 use crate::kinds;
 use base::party::ClientId;
 use protocol::replica::Replica;
+use wire::arrays::digest_array;
 use wire::message::Fields;
-use wire::numbers::timestamp_in;
+use wire::parts;
 ghost use mathlib.Core.Path.{_≡_};
 ghost use Prim.Native.Nat.{_≤_};
 ghost use lib.ListN.{length};
@@ -18,12 +18,13 @@ fn on_prepare(replica: Replica, message: &[u8], fields: Fields, out: &mut [u8]) 
 {
     let client = ClientId(fields.sender);
     let timestamp = fields.timestamp;
-    let at = fields.digest;
-    let end = at + 32;
-    let digest = digest_array(&message[at..end]);
+    let digest_at = fields.digest;
+    let prepared_at = fields.prepared;
+    let written_at = fields.written;
+    let digest = digest_array(parts::part(message, digest_at));
     // 0.0 where the proof is missing.
-    let shown = timestamp_in(message, fields.prepared, fields.written);
-    let last = timestamp_in(message, fields.written, fields.signature);
+    let shown = parts::timestamp(parts::part(message, prepared_at));
+    let last = parts::timestamp(parts::part(message, written_at));
     kinds::prepare(replica, client, timestamp, &digest, shown, last, out)
 }
 
@@ -31,13 +32,12 @@ fn on_write(replica: Replica, message: &[u8], fields: Fields, out: &mut [u8]) ->
     requires { ⌜ Passes replica (now message) fields × (fields .kind ≡ 3) × (longest ≤ length (now out)) ⌝ }
     ensures { λ r. ⌜ Answers replica (now (message .entry)) fields (now (out .entry)) r (now (out .exit)) ⌝ }
 {
-    let card = fields.card + 1;
-    let prepared = fields.prepared;
-    let written = fields.written;
+    let card_at = fields.card;
+    let proof_at = fields.prepared;
     kinds::write(
         replica,
-        &message[card..prepared],
-        &message[prepared..written],
+        parts::card(message, card_at),
+        parts::part(message, proof_at),
         out,
     )
 }

@@ -12,7 +12,6 @@ use Rattle.base.specs.declared.party.ReplicaId.{ReplicaId}
 use Rattle.wire.specs.Message.{Message, READ-STAMP, READ, STAMP, WRITTEN, CARD}
 use Rattle.wire.specs.Proof.{PreparedProof}
 use Rattle.protocol.specs.Client.{send}
-use Rattle.protocol.specs.Parts.{timestampOf}
 use Rattle.protocol.specs.Replica.{heldTimestamp, heldProof}
 use Rattle.run.specs.Premises.{Premises}
 use Rattle.wire.specs.Acceptance.{replica, client}
@@ -20,6 +19,7 @@ use Rattle.run.specs.Run.{Run, replicaAt}
 use Rattle.protocol.proofs.ReplicaFacts.{held-shown}
 use Rattle.run.proofs.Turns.{ReplicaTurn, rests, steps, replica-turn, replica-step}
 use Rattle.run.proofs.SentMessages.{Said, step-said}
+use Rattle.wire.specs.Parts.{preparedTimestamp}
 
 module _ (R : Run) where
   -- The timestamp that a replica holds before event t.
@@ -58,17 +58,17 @@ module _ (R : Run) where
     pub asked : Said R (client by) question time
 
   module _ (P : Premises R) (id : ReplicaId) (c : R .correct-replica id ≡ true) (by : ClientId) (c′ : R .correct-client by ≡ true) (nonce : ℕ) (proof : Option PreparedProof) (t : ℕ) where
-    shown-held : (u : ℕ) → proof ≡ heldProof (replicaAt R id u .register .held) → timestampOf proof ≡ held id u
-    shown-held u e = ap timestampOf e ∙ held-shown (replicaAt R id u .register .held)
+    shown-held : (u : ℕ) → proof ≡ heldProof (replicaAt R id u .register .held) → preparedTimestamp proof ≡ held id u
+    shown-held u e = ap preparedTimestamp e ∙ held-shown (replicaAt R id u .register .held)
 
-    pub stamp-showed : Said R (replica id) (STAMP id nonce proof by) t → Showed id t (READ-STAMP by nonce) by (timestampOf proof)
+    pub stamp-showed : Said R (replica id) (STAMP id nonce proof by) t → Showed id t (READ-STAMP by nonce) by (preparedTimestamp proof)
     stamp-showed e =
         let x = replica-step R id c (e .time) (send (STAMP id nonce proof by)) (e .by) (e .answered) in
         let same : x .reply .message ≡ STAMP id nonce proof by = cc (x .answer-is, e .answered) in
         let q = x .facts .stamp-sent id nonce proof by same in
         record { time = e .time; earlier = e .earlier; shows = shown-held (e .time) (q .1); asked = step-said R P id (e .time) x (READ-STAMP by nonce) (q .2) c′ }
 
-    pub card-showed : (card : List ℕ) → Said R (replica id) (CARD id nonce card proof by) t → Showed id t (READ by nonce) by (timestampOf proof)
+    pub card-showed : (card : List ℕ) → Said R (replica id) (CARD id nonce card proof by) t → Showed id t (READ by nonce) by (preparedTimestamp proof)
     card-showed card e =
         let x = replica-step R id c (e .time) (send (CARD id nonce card proof by)) (e .by) (e .answered) in
         let same : x .reply .message ≡ CARD id nonce card proof by = cc (x .answer-is, e .answered) in

@@ -31,7 +31,7 @@ use Rattle.wire.specs.Message.{Message, READ-STAMP, READ, STAMP, PREPARED, WRIT
 use Rattle.wire.specs.Proof.{PreparedProof}
 use Rattle.wire.specs.Sha256.{sha256}
 use Rattle.protocol.specs.Client.{Answer, send, counted, done, ended, Turn, currentCard, bestOf, showedBy}
-use Rattle.protocol.specs.Parts.{startCard, timestampOf, cardStands}
+use Rattle.protocol.specs.Parts.{startCard, cardStands}
 use Rattle.protocol.specs.declared.client.Client.{Client}
 use Rattle.protocol.specs.declared.client.Phase.{Phase}
 use Rattle.protocol.specs.declared.client.Phase.the-variants.{Idle, Stamps, Prepareds, Writtens, Cards, WriteBack}
@@ -46,21 +46,22 @@ use Rattle.run.proofs.SentMessages.{Said, said-later, heard-said}
 use Rattle.run.proofs.Slots.{Backed, backed-later, meet, card-backed}
 use Rattle.run.proofs.Held.{held, held-rises, written-held, Showed, stamp-showed, card-showed}
 use Rattle.run.proofs.Nonces.{Asks, for-stamps, for-cards, asked-since}
+use Rattle.wire.specs.Parts.{preparedTimestamp}
 
 -- ---- The best of the replies
 
-best-least : (best : Timestamp) (proof : Option PreparedProof) → (number best ≤ number (bestOf best proof)) × (timestampOf proof ≤ number (bestOf best proof))
-best-least best proof = go (ltb (number best) (timestampOf proof)) refl
+best-least : (best : Timestamp) (proof : Option PreparedProof) → (number best ≤ number (bestOf best proof)) × (preparedTimestamp proof ≤ number (bestOf best proof))
+best-least best proof = go (ltb (number best) (preparedTimestamp proof)) refl
   where
-    go : (b : Bool) → ltb (number best) (timestampOf proof) ≡ b
-        → (number best ≤ number (cond b (ofNumber (timestampOf proof)) best)) × (timestampOf proof ≤ number (cond b (ofNumber (timestampOf proof)) best))
-    go true e = let l = ltb-true (number best) (timestampOf proof) e in omega arith
-    go false e = let l = ltb-false (number best) (timestampOf proof) e in omega arith
+    go : (b : Bool) → ltb (number best) (preparedTimestamp proof) ≡ b
+        → (number best ≤ number (cond b (ofNumber (preparedTimestamp proof)) best)) × (preparedTimestamp proof ≤ number (cond b (ofNumber (preparedTimestamp proof)) best))
+    go true e = let l = ltb-true (number best) (preparedTimestamp proof) e in omega arith
+    go false e = let l = ltb-false (number best) (preparedTimestamp proof) e in omega arith
 
 best-fits : (best : Timestamp) (proof : Option PreparedProof) → best .client .0 < 256 → bestOf best proof .client .0 < 256
-best-fits best proof h = go (ltb (number best) (timestampOf proof))
+best-fits best proof h = go (ltb (number best) (preparedTimestamp proof))
   where
-    go : (b : Bool) → cond b (ofNumber (timestampOf proof)) best .client .0 < 256
+    go : (b : Bool) → cond b (ofNumber (preparedTimestamp proof)) best .client .0 < 256
     go true = omega arith
     go false = h
 
@@ -290,20 +291,20 @@ module _ (R : Run) where
         (omega arith, omega arith)
 
     module _ (h : Heard R id t) (sender : ReplicaId) (nonce : ℕ) (proof : Option PreparedProof) (new : clientAt R id t₀ .«last_nonce» < nonce) (c : R .correct-replica sender ≡ true) where
-      stamp-within : h .message ≡ STAMP sender nonce proof (now .id) → (held R sender t₀ ≤ timestampOf proof) × (timestampOf proof ≤ held R sender t)
+      stamp-within : h .message ≡ STAMP sender nonce proof (now .id) → (held R sender t₀ ≤ preparedTimestamp proof) × (preparedTimestamp proof ≤ held R sender t)
       stamp-within e =
           let is : h .message ≡ STAMP sender nonce proof id = e ∙ ap (STAMP sender nonce proof) (good .id-is) in
-          within-time sender c (READ-STAMP id nonce) nonce (timestampOf proof) (for-stamps refl) new
+          within-time sender c (READ-STAMP id nonce) nonce (preparedTimestamp proof) (for-stamps refl) new
           (stamp-showed R P sender c id correct nonce proof t (heard-said R P id t h (STAMP sender nonce proof id) is c))
 
-      card-within : (card : List ℕ) → h .message ≡ CARD sender nonce card proof (now .id) → (held R sender t₀ ≤ timestampOf proof) × (timestampOf proof ≤ held R sender t)
+      card-within : (card : List ℕ) → h .message ≡ CARD sender nonce card proof (now .id) → (held R sender t₀ ≤ preparedTimestamp proof) × (preparedTimestamp proof ≤ held R sender t)
       card-within card e =
           let is : h .message ≡ CARD sender nonce card proof id = e ∙ ap (CARD sender nonce card proof) (good .id-is) in
-          within-time sender c (READ id nonce) nonce (timestampOf proof) (for-cards refl) new
+          within-time sender c (READ id nonce) nonce (preparedTimestamp proof) (for-cards refl) new
           (card-showed R P sender c id correct nonce proof t card (heard-said R P id t h (CARD sender nonce card proof id) is c))
 
     seen-more : (sender : ReplicaId) (counts : ReplicaSet) (best : Timestamp) (proof : Option PreparedProof) → isReplica (now .f) sender ≡ true
-        → (R .correct-replica sender ≡ true → held R sender t₀ ≤ timestampOf proof) → Each counts (λ r. held R r t₀ ≤ number best)
+        → (R .correct-replica sender ≡ true → held R sender t₀ ≤ preparedTimestamp proof) → Each counts (λ r. held R r t₀ ≤ number best)
         → Each (with counts sender) (λ r. held R r t₀ ≤ number (bestOf best proof))
     seen-more sender counts best proof inside new old =
         let range = sender-range sender inside in
@@ -430,7 +431,7 @@ module _ (R : Run) where
     issued-positive s e = let l = leb-true 1 (s / 256) (and-true-both (leb 1 (s / 256)) (within 1 64 (s % 256)) e .0) in omega arith
 
     card-shown : (h : Heard R id t) (sender : ReplicaId) (nonce : ℕ) (card : List ℕ) (proof : Option PreparedProof) → h .message ≡ CARD sender nonce card proof (now .id)
-        → cardStands card proof ≡ true → Shown t (timestampOf proof) card
+        → cardStands card proof ≡ true → Shown t (preparedTimestamp proof) card
     card-shown h sender nonce card none e stands = inl (refl, same-equal card startCard stands)
     card-shown h sender nonce card (some proof) e stands =
         let passed : Passed (R .f) (h .message) (h .verdicts) = subst (λ (f : ℕ). Passed f (h .message) (h .verdicts)) (good .f-is) (h .facts .passed) in
@@ -457,7 +458,7 @@ module _ (R : Run) where
       is-shown = both .1;
     }
       where
-        fresh : R .correct-replica sender ≡ true → (held R sender t₀ ≤ timestampOf proof) × (timestampOf proof ≤ held R sender t)
+        fresh : R .correct-replica sender ≡ true → (held R sender t₀ ≤ preparedTimestamp proof) × (preparedTimestamp proof ≤ held R sender t)
         fresh c = card-within h sender nonce proof (x .new) c card e
 
         range : (1 ≤ sender .0) × (sender .0 ≤ 16)
@@ -465,33 +466,33 @@ module _ (R : Run) where
 
         Parts : Bool → Bool → Type 0
         Parts u v =
-            Holds (cond u (with empty sender) (cond v (with showed sender) showed)) (number (cond u (ofNumber (timestampOf proof)) best)) (suc t)
-            × Shown (suc t) (number (cond u (ofNumber (timestampOf proof)) best)) (cond u card (currentCard now))
+            Holds (cond u (with empty sender) (cond v (with showed sender) showed)) (number (cond u (ofNumber (preparedTimestamp proof)) best)) (suc t)
+            × Shown (suc t) (number (cond u (ofNumber (preparedTimestamp proof)) best)) (cond u card (currentCard now))
 
         old : Holds showed (number best) (suc t)
         old = holds-later showed (number best) t (x .shown-by)
 
-        rose : (c : R .correct-replica sender ≡ true) → timestampOf proof ≤ held R sender (suc t)
+        rose : (c : R .correct-replica sender ≡ true) → preparedTimestamp proof ≤ held R sender (suc t)
         rose c = let l = fresh c .1 in let r = held-rises R sender c t (suc t) (omega arith) in omega arith
 
         kept : Shown (suc t) (number best) (currentCard now)
         kept = shown-later t (suc t) (number best) (currentCard now) (omega arith) (x .is-shown)
 
-        whole : number (ofNumber (timestampOf proof)) ≡ timestampOf proof
+        whole : number (ofNumber (preparedTimestamp proof)) ≡ preparedTimestamp proof
         whole = omega arith
 
-        go : (u v : Bool) → ltb (number best) (timestampOf proof) ≡ u → eqb (number best) (timestampOf proof) ≡ v → Parts u v
+        go : (u v : Bool) → ltb (number best) (preparedTimestamp proof) ≡ u → eqb (number best) (preparedTimestamp proof) ≡ v → Parts u v
         go true v e₁ e₂ = (
-          more (λ r. number (ofNumber (timestampOf proof)) ≤ held R r (suc t)) sender empty (range .0) (range .1) (λ c. let l = rose c in omega arith) (λ r k c. none-in r k),
-          subst (λ (s : ℕ). Shown (suc t) s card) (sym whole) (shown-later t (suc t) (timestampOf proof) card (omega arith) (card-shown h sender nonce card proof e stands)),
+          more (λ r. number (ofNumber (preparedTimestamp proof)) ≤ held R r (suc t)) sender empty (range .0) (range .1) (λ c. let l = rose c in omega arith) (λ r k c. none-in r k),
+          subst (λ (s : ℕ). Shown (suc t) s card) (sym whole) (shown-later t (suc t) (preparedTimestamp proof) card (omega arith) (card-shown h sender nonce card proof e stands)),
         )
         go false true e₁ e₂ =
-            let equal = eqb-true (number best) (timestampOf proof) e₂ in
+            let equal = eqb-true (number best) (preparedTimestamp proof) e₂ in
             (more (λ r. number best ≤ held R r (suc t)) sender showed (range .0) (range .1) (λ c. let l = rose c in omega arith) old, kept)
         go false false e₁ e₂ = (old, kept)
 
-        both : Parts (ltb (number best) (timestampOf proof)) (eqb (number best) (timestampOf proof))
-        both = go (ltb (number best) (timestampOf proof)) (eqb (number best) (timestampOf proof)) refl refl
+        both : Parts (ltb (number best) (preparedTimestamp proof)) (eqb (number best) (preparedTimestamp proof))
+        both = go (ltb (number best) (preparedTimestamp proof)) (eqb (number best) (preparedTimestamp proof)) refl refl
 
     read-heard : (card : List ℕ) (h : Heard R id t) → ReadIn id t₀ t now (now .phase) → ClientCase now (h .message) (h .turn) → Next false id card t₀ t
     read-heard card₀ h x (stamp-counted sender nonce proof best counts e phase new kept left) = absurd (subst (ReadIn id t₀ t now) phase x)

@@ -1,23 +1,37 @@
 -- `replica::register::holding` meets its contract. Assumes nothing.
-use mathlib.Core.Path.{_≡_}
+use mathlib.Core.Path.{_≡_, _∙_}
 use native.Mathlib.Omega.{arith}
 use borrow.Author.Needs.{needs}
-use lib.ListN.{length}
+use Rattle.base.proofs.Filling.{filled-whole}
 use Rattle.base.proofs.Timestamps.{ofNumber-number}
-use Rattle.wire.specs.Proof.{readEntries}
-use Rattle.protocol.proofs.ArrayLaws.{entries-read-length}
-use Rattle.replica.proofs.Arrays.{all-read}
+use Rattle.wire.specs.Parts.{digestPart, timestampPart}
+use Rattle.wire.proofs.Handed.{by-parts}
 use Rattle.replica.proofs.register.holding.Statement.{statement}
 use Rattle.replica.proofs.register.holding.Tie as tie
 
 returns : tie.Need-returns
 returns c =
-    let s = c .before .before .before .before .before .before in
-    let a = s .args in
-    let count : length (readEntries (a .entry-count) (a .entries .now)) ≡ a .entry-count = entries-read-length (a .entry-count) (a .entries .now) in
-    rw (ofNumber-number (a .timestamp) (omega arith), count, all-read (a .entry-count) (a .entries .now) (s .pre .entries-whole), c .before .before .filled-17 .ensures, c .before .digest-array .ensures, c .filled-715 .ensures)
+    let entries = c .before in
+    let count = entries .before in
+    let digest = count .before in
+    let card = digest .before .before in
+    let stamp = card .before in
+    let s = stamp .before .before .before in
+    let proof = s .args .proof .now in
+    let p = by-parts proof (s .pre .0) in
+    let held : digest .digest-array .result ≡ digestPart proof = digest .digest-array .ensures ∙ rw (digest .before .digest .ensures) (filled-whole 32 (digestPart proof) (p .digest-length)) in
+    rw (p .timestamp, p .digest, p .count, p .entries, ← stamp .timestamp .ensures, ofNumber-number (stamp .timestamp .result) (omega (arith, stamp .timestamp .ok)), held, card .card-array .ensures, count .entry-count .ensures, c .entries-array .ensures, entries .entries .ensures)
 
 pub holding-spec : {M : Type 1} → statement M
 holding-spec =
     tie.close
-    (tie.spec (λ c. search needs) (λ c κs. search needs) (λ c κs. search needs) (λ c κs. search needs) returns)
+    (tie.spec
+    (λ c κs. search needs)
+    (λ c. search needs)
+    (λ c κs. search needs)
+    (λ c κs. search needs)
+    (λ c κs. search needs)
+    (λ c κs. search needs)
+    (λ c κs. search needs)
+    (λ c κs. search needs)
+    returns)
