@@ -22,7 +22,7 @@ use Rattle.protocol.proofs.Calls.{long-output, short-output}
 use Rattle.client.specs.Stepping.{callOf, Calls, plain}
 use Rattle.client.specs.declared.Stepped.{Stepped}
 use Rattle.client.proofs.Answering.{plain-call}
-use Rattle.client.proofs.Filling.{filled-zeros}
+use Rattle.base.proofs.Filling.{filled-zeros}
 use Rattle.client.proofs.Shorts.{Short, refuses, sends, counts, finishes, ends, short-write, short-read, short-step}
 
 abbrev saysOf : ClientCall → Outcome Said

@@ -6,16 +6,17 @@ use Prim.Native.Nat.{ℕ, zero, suc, _+_, _-_, _*_, _≤_, min}
 use native.Mathlib.Omega.{arith}
 use borrow.Author.Tests.{ltb-true, ltb-false}
 use lib.Dec.{ltb}
-use lib.ListN.{length, take, drop, length-append, length-take, length-drop, take-append-drop}
-use lib.Seq.{take-append-le, take-all, take-at, drop-at}
+use lib.ListN.{length, take, drop, set, length-append, length-take, length-drop}
+use lib.Seq.{length-take-le, take-append-le, take-all, take-at, drop-at, drop-append-add, drop-drop, set-split, append-snoc}
 use Rattle.base.specs.Counting.{replica}
 use Rattle.base.specs.ReplicaSet.{has}
 use Rattle.base.specs.declared.replica_set.ReplicaSet.{ReplicaSet}
 use Rattle.wire.specs.Proof.{Entry, entriesBytes, readEntries}
 use Rattle.protocol.specs.Client.{gathered, signatureAt}
-use Rattle.protocol.specs.Parts.{filled, entriesIn}
+use Rattle.base.specs.Bytes.{filled}
+use Rattle.protocol.specs.Parts.{entriesIn}
 use Rattle.client.specs.Arrays.{Added, Keeps}
-use Rattle.client.proofs.Filling.{zeros, filled-zeros, filled-more}
+use Rattle.base.proofs.Filling.{zeros, filled-zeros, filled-more}
 
 -- Entries whose signatures have 64 bytes.
 abbrev pub Sized : List Entry → Type 0
@@ -46,13 +47,6 @@ unfolding entriesBytes readEntries
 read-back [] behind h = refl
 read-back (entry ∷ entries) behind h =
     rw (append-assoc, take-at (entry .signature) (entriesBytes entries ++ behind) 64 (h .0), drop-at (entry .signature) (entriesBytes entries ++ behind) 64 (h .0), read-back entries behind (h .1))
-
-pub entries-bytes-read : (n : ℕ) (bytes : List ℕ) → length bytes ≡ 65 * n → entriesBytes (readEntries n bytes) ≡ bytes
-unfolding entriesBytes readEntries
-entries-bytes-read zero [] h = refl
-entries-bytes-read zero (x ∷ bytes) h = absurd (omega arith)
-entries-bytes-read (suc n) [] h = absurd (omega arith)
-entries-bytes-read (suc n) (x ∷ bytes) h = rw (entries-bytes-read n (drop 64 bytes) (rw length-drop (omega arith)), take-append-drop)
 
 -- An entry stored right behind others.
 added : (width count : ℕ) (entries : List Entry) (one : Entry) (old : List ℕ) → Sized entries → length (one .signature) ≡ 64 → count ≡ length entries → 65 * count + 65 ≤ width
@@ -124,3 +118,14 @@ module _ (counts : ReplicaSet) (signatures : List ℕ) (long : length signatures
             many = a .next-is ∙ rw (e, f) (omega arith);
             holds = a .holds ∙ rw (e, f) (added 715 count before one old (gathered-sized n (omega arith)) signed (omega arith) (omega arith) was);
           })
+
+-- A byte stored, and bytes right behind it.
+pub byte-then : (old block : List ℕ) (at byte : ℕ) → at + 1 + length block ≤ length old
+    → take (at + 1) (set old at byte) ++ (block ++ drop (at + 1 + length block) (set old at byte)) ≡ take at old ++ ((byte ∷ block) ++ drop (at + length (byte ∷ block)) old)
+byte-then old block at byte h =
+    let next : at + 1 ≡ suc at = omega arith in
+    let front : length (take at old ++ byte ∷ []) ≡ at + 1 = rw (length-append, length-take-le at old (omega arith)) in
+    let split : set old at byte ≡ (take at old ++ byte ∷ []) ++ drop (suc at) old = set-split old at byte (omega arith) ∙ sym (append-snoc (take at old) byte (drop (suc at) old)) in
+    let there : length (take at old ++ byte ∷ []) + length block ≡ at + 1 + length block = omega arith in
+    let behind : suc at + length block ≡ at + length (byte ∷ block) = omega arith in
+    rw (split, take-at (take at old ++ byte ∷ []) (drop (suc at) old) (at + 1) front, ← there, drop-append-add (take at old ++ byte ∷ []) (drop (suc at) old) (length block), drop-drop (length block) (suc at) old, behind, append-assoc)

@@ -1,7 +1,6 @@
 pub mod Answering
 pub mod Begins
 pub mod Calling
-pub mod Filling
 pub mod Gathering
 pub mod Parting
 pub mod Phases
@@ -9,4 +8,3 @@ pub mod ProofPart
 pub mod Records
 pub mod Setups
 pub mod Shorts
-pub mod Steps

@@ -1,120 +1,93 @@
--- The parts of a message that passed 2 to 11, where the code finds them, and what follows by kind. Assumes nothing.
-use mathlib.Core.Path.{_≡_, refl, sym}
-use mathlib.Core.Bool.{Bool, true, false, cond}
+-- What a client makes of a message that passed 2 to 11, by the parts that the code takes out of it. Assumes nothing.
+use mathlib.Core.Path.{_≡_, sym, ap, _∙_}
+use mathlib.Core.Bool.{true}
+use mathlib.Core.List.{List}
 use mathlib.Core.Logic.{⊎-elim}
-use mathlib.Core.List.{List, [], _∷_}
 use mathlib.Core.Option.{Option, none, some}
-use Prim.Native.Nat.{ℕ, _+_, _-_, _≤_, _<_}
+use Prim.Native.Nat.{ℕ, _≤_}
 use native.Mathlib.Omega.{arith}
-use lib.ListN.{length, take, drop, length-drop}
-use lib.Seq.{take-all}
-use Rattle.base.specs.BitMap.{bit}
+use lib.ListN.{length}
 use Rattle.base.specs.Counting.{replica}
-use Rattle.base.specs.Outcome.{guard}
+use Rattle.base.specs.Outcome.{accepted, refused, guard}
+use Rattle.base.specs.Party.{replicaCount, isReplica}
 use Rattle.base.specs.Same.{same}
 use Rattle.base.specs.Timestamp.{number}
 use Rattle.base.proofs.Booleans.{and-true-both}
+use Rattle.base.proofs.Range.{bounds}
 use Rattle.base.proofs.Same.{same-equal}
+use Rattle.wire.specs.Acceptance.{acceptance}
 use Rattle.wire.specs.Card.{isCard}
-use Rattle.wire.specs.Decode.{fieldsIn, digestIn, cardIn}
-use Rattle.wire.specs.Layout.{rules, mapIn, place, field, signature}
-use Rattle.wire.specs.Proof.{PreparedProof, preparedFrom}
+use Rattle.wire.specs.Parts.{partAt, cardAt, preparedPart, WholeIfThere}
+use Rattle.wire.specs.Proof.{PreparedProof}
 use Rattle.wire.specs.Sha256.{sha256}
 use Rattle.wire.specs.declared.message.Fields.{Fields}
 use Rattle.wire.specs.declared.message.Party.the-variants.{Client as AtClient}
-use Rattle.wire.proofs.Framed.{field-absent, place-present}
-use Rattle.wire.proofs.Parsed.{Parsed, parsed, preparedAt, prepared-whole, taken-kind, client-kind, reads-5, reads-6, reads-7, reads-8}
-use Rattle.wire.proofs.Rows.{Taken, card as card-row}
-use Rattle.wire.proofs.Windows.{behind-first}
+use Rattle.wire.proofs.Admitted.{admitted-passed, acceptance-accepted, acceptance-refused}
+use Rattle.wire.proofs.Handed.{handed-stamp, handed-prepared, handed-written, handed-card, reply-kind, proof-whole, signature-is, signature-length}
 use Rattle.wire.proofs.card.Digests.{card-short}
-use Rattle.protocol.specs.Client.{onStamp, onPrepared, onWritten, onCard, onReply}
+use Rattle.protocol.specs.Client.{onStamp, onPrepared, onWritten, onCard, onReply, clientStep}
 use Rattle.protocol.specs.Parts.{cardStands, startCard}
 use Rattle.protocol.specs.declared.client.Client.{Client}
-use Rattle.client.specs.Arrays.{proofIn}
 use Rattle.client.specs.Messages.{afterTests, Passing}
-
-some-bytes : (proof : List ℕ) → 0 < length proof → proofIn proof ≡ some (preparedFrom proof)
-some-bytes [] h = absurd (omega arith)
-some-bytes (byte ∷ bytes) h = refl
-
-card-set : {map : ℕ} → Taken map 8 AtClient → bit map 5 ≡ true
-card-set (card-row e) = cc
 
 -- A card that passes 14 has at most 17 bytes.
 pub standing-short : (card : List ℕ) (proof : Option PreparedProof) → cardStands card proof ≡ true → length card ≤ 17
 standing-short card none e = rw (same-equal card startCard e) (omega arith)
 standing-short card (some proof) e = card-short card (and-true-both (isCard card) (same (sha256 card) (proof .digest)) e .0)
 
-module _ (bytes : List ℕ) (fields : Fields) (p : Passing bytes fields) where
-  found : Parsed AtClient bytes fields
-  found = parsed AtClient bytes fields (p .reads)
+-- The step is what follows for the message that was let through.
+pub passed-step : (client : Client) (bytes verdicts : List ℕ) (fields : Fields) → acceptance AtClient (client .f) bytes verdicts ≡ accepted fields → clientStep client bytes verdicts ≡ afterTests client bytes
+unfolding afterTests clientStep
+passed-step client bytes verdicts fields e =
+    let found = acceptance-accepted AtClient (client .f) bytes verdicts fields e in
+    rw (admitted-passed AtClient (client .f) bytes verdicts (found .0) (found .1) .decodes, found .1)
 
-  pub proof-part : take (fields .written - fields .prepared) (drop (fields .prepared) bytes) ≡ field bytes 6
-  unfolding fieldsIn field
-  proof-part = rw (found .same)
+pub step-refused : (client : Client) (bytes verdicts : List ℕ) (n : ℕ) → acceptance AtClient (client .f) bytes verdicts ≡ refused n → clientStep client bytes verdicts ≡ refused n
+unfolding clientStep
+step-refused client bytes verdicts n e = rw (acceptance-refused AtClient (client .f) bytes verdicts n e)
 
-  pub digest-part : take (fields .card - fields .digest) (drop (fields .digest) bytes) ≡ digestIn bytes
-  unfolding fieldsIn field
-  digest-part = rw (found .same)
+module _ (client : Client) (bytes : List ℕ) (fields : Fields) (p : Passing (client .f) bytes fields) where
+  pub stamp-step : fields .kind ≡ 5 → afterTests client bytes ≡ onStamp client (replica (fields .sender)) (fields .nonce) (preparedPart (partAt bytes (fields .prepared))) (fields .addressed) (client .phase)
+  unfolding afterTests onReply
+  stamp-step k = rw (handed-stamp (client .f) bytes (p .verdicts) fields (p .passes) k .decodes)
 
-  -- What follows the fields is the signature.
-  pub signature-part : take (length bytes - fields .signature) (drop (fields .signature) bytes) ≡ signature bytes
-  unfolding fieldsIn
-  signature-part = rw (found .same) (take-all (length bytes - place bytes 9) (drop (place bytes 9) bytes) (rw length-drop (omega arith)))
+  pub prepared-step : fields .kind ≡ 6
+      → afterTests client bytes ≡ onPrepared client (replica (fields .sender)) (number (fields .timestamp)) (partAt bytes (fields .digest)) (partAt bytes (fields .signature)) (client .phase)
+  unfolding afterTests onReply
+  prepared-step k =
+      rw (handed-prepared (client .f) bytes (p .verdicts) fields (p .passes) k .decodes)
+      (ap (λ (own : List ℕ). onPrepared client (replica (fields .sender)) (number (fields .timestamp)) (partAt bytes (fields .digest)) own (client .phase)) (sym (signature-is AtClient (client .f) bytes (p .verdicts) fields (p .passes))))
 
-  pub signature-length : length (signature bytes) ≡ 64
-  signature-length = let ends = found .framed .ends in rw length-drop (omega arith)
+  pub written-step : fields .kind ≡ 7 → afterTests client bytes ≡ onWritten client (replica (fields .sender)) (number (fields .timestamp)) (partAt bytes (fields .signature)) (client .phase)
+  unfolding afterTests onReply
+  written-step k =
+      rw (handed-written (client .f) bytes (p .verdicts) fields (p .passes) k .decodes)
+      (ap (λ (own : List ℕ). onWritten client (replica (fields .sender)) (number (fields .timestamp)) own (client .phase)) (sym (signature-is AtClient (client .f) bytes (p .verdicts) fields (p .passes))))
 
-  pub proof-bounds : (fields .prepared ≤ fields .written) × (fields .written ≤ length bytes)
-  unfolding fieldsIn
-  proof-bounds = rw (found .same) (found .rises 6 7 (omega arith), (let inside = found .inside 7 (omega arith) in omega arith))
+  pub card-step : fields .kind ≡ 8
+      → afterTests client bytes
+      ≡ guard 14 (cardStands (cardAt bytes (fields .card)) (preparedPart (partAt bytes (fields .prepared))))
+      (onCard client (replica (fields .sender)) (fields .nonce) (cardAt bytes (fields .card)) (preparedPart (partAt bytes (fields .prepared))) (fields .addressed) (client .phase))
+  unfolding afterTests onReply
+  card-step k = rw (handed-card (client .f) bytes (p .verdicts) fields (p .passes) k .decodes)
 
-  pub digest-bounds : (fields .digest ≤ fields .card) × (fields .card ≤ length bytes)
-  unfolding fieldsIn
-  digest-bounds = rw (found .same) (found .rises 4 5 (omega arith), (let inside = found .inside 5 (omega arith) in omega arith))
+  pub proof-there : WholeIfThere (partAt bytes (fields .prepared))
+  proof-there = proof-whole AtClient (client .f) bytes (p .verdicts) fields (p .passes)
 
-  pub signature-bound : fields .signature ≤ length bytes
-  unfolding fieldsIn
-  signature-bound = rw (found .same) (let inside = found .inside 9 (omega arith) in omega arith)
+  pub own-length : length (partAt bytes (fields .signature)) ≡ 64
+  own-length = signature-length AtClient (client .f) bytes (p .verdicts) fields (p .passes)
 
-  proof-is : proofIn (field bytes 6) ≡ preparedAt bytes
-  proof-is = go (bit (mapIn bytes) 6) refl
-    where
-      go : (b : Bool) → bit (mapIn bytes) 6 ≡ b → proofIn (field bytes 6) ≡ cond b (some (preparedFrom (field bytes 6))) none
-      go true e = some-bytes (field bytes 6) (let whole = prepared-whole bytes (found .framed) e in omega arith)
-      go false e = rw (field-absent bytes 6 e)
+  -- The sender is a replica's number.
+  ranged : isReplica (client .f) (replica (fields .sender)) ≡ true → (1 ≤ fields .sender) × (fields .sender ≤ 16)
+  ranged e = let range = bounds 1 (replicaCount (client .f)) (fields .sender) e in (range .0, omega arith)
 
-  module _ (client : Client) where
-    pub stamp-step : fields .kind ≡ 5 → afterTests client bytes ≡ onStamp client (replica (fields .sender)) (fields .nonce) (proofIn (field bytes 6)) (fields .addressed) (client .phase)
-    unfolding afterTests onReply
-    stamp-step k = rw (reads-5 bytes fields (p .reads) k, proof-is)
+  pub prepared-sender : fields .kind ≡ 6 → (1 ≤ fields .sender) × (fields .sender ≤ 16)
+  prepared-sender k = ranged (handed-prepared (client .f) bytes (p .verdicts) fields (p .passes) k .ranged)
 
-    pub prepared-step : fields .kind ≡ 6 → afterTests client bytes ≡ onPrepared client (replica (fields .sender)) (number (fields .timestamp)) (digestIn bytes) (signature bytes) (client .phase)
-    unfolding afterTests onReply
-    prepared-step k = rw (reads-6 bytes fields (p .reads) k)
-
-    pub written-step : fields .kind ≡ 7 → afterTests client bytes ≡ onWritten client (replica (fields .sender)) (number (fields .timestamp)) (signature bytes) (client .phase)
-    unfolding afterTests onReply
-    written-step k = rw (reads-7 bytes fields (p .reads) k)
-
-    pub card-step : fields .kind ≡ 8 → afterTests client bytes
-        ≡ guard 14 (cardStands (cardIn bytes) (proofIn (field bytes 6))) (onCard client (replica (fields .sender)) (fields .nonce) (cardIn bytes) (proofIn (field bytes 6)) (fields .addressed) (client .phase))
-    unfolding afterTests onReply
-    card-step k = rw (reads-8 bytes fields (p .reads) k, proof-is)
-
-  -- A CARD's card, behind its length byte.
-  module _ (k : fields .kind ≡ 8) where
-    pub card-bounds : (fields .card + 1 ≤ fields .prepared) × (fields .prepared ≤ length bytes)
-    unfolding fieldsIn rules
-    card-bounds =
-        let next = place-present bytes 5 (card-set (taken-kind AtClient bytes fields (p .reads) 8 k)) in
-        let inside = found .inside 6 (omega arith) in
-        rw (found .same) (omega arith, omega arith)
-
-    pub card-part : take (fields .prepared - (fields .card + 1)) (drop (fields .card + 1) bytes) ≡ cardIn bytes
-    unfolding fieldsIn field
-    card-part = rw (found .same) (sym (behind-first bytes (place bytes 5) (place bytes 6)))
+  pub written-sender : fields .kind ≡ 7 → (1 ≤ fields .sender) × (fields .sender ≤ 16)
+  written-sender k = ranged (handed-written (client .f) bytes (p .verdicts) fields (p .passes) k .ranged)
 
   -- A message for a client of no other kind is a CARD.
   pub last-kind : (fields .kind ≡ 5 → ⊥) → (fields .kind ≡ 6 → ⊥) → (fields .kind ≡ 7 → ⊥) → fields .kind ≡ 8
-  last-kind a b c = ⊎-elim (λ e. absurd (a e)) (⊎-elim (λ e. absurd (b e)) (⊎-elim (λ e. absurd (c e)) (λ e. e))) (client-kind (found .taken))
+  last-kind a b c =
+      ⊎-elim (λ e. absurd (a e)) (⊎-elim (λ e. absurd (b e)) (⊎-elim (λ e. absurd (c e)) (λ e. e))) (reply-kind (client .f) bytes (p .verdicts) fields (p .passes))

@@ -1,32 +1,16 @@
--- What the client's code keeps in arrays: proofs as the bytes of a message, and proofs that it builds.
+-- What the client's code keeps in arrays: the proofs that it builds.
 use mathlib.Core.Path.{_≡_}
 use mathlib.Core.Bool.{Bool, cond, _&&_}
-use mathlib.Core.List.{List, [], _∷_, _++_}
-use mathlib.Core.Option.{Option, none, some}
-use Prim.Native.Nat.{ℕ, _+_, _*_, _≤_}
+use mathlib.Core.List.{List, _∷_, _++_}
+use Prim.Native.Nat.{ℕ, _+_, _*_}
 use lib.Dec.{ltb}
-use lib.ListN.{length, getD, take, drop}
+use lib.ListN.{length, take, drop}
+use Rattle.base.specs.Bytes.{filled}
 use Rattle.base.specs.ReplicaSet.{has}
 use Rattle.base.specs.declared.party.ReplicaId.{ReplicaId}
 use Rattle.base.specs.declared.replica_set.ReplicaSet.{ReplicaSet}
-use Rattle.wire.specs.Proof.{Entry, PreparedProof, preparedFrom, entriesBytes}
+use Rattle.wire.specs.Proof.{Entry, entriesBytes}
 use Rattle.protocol.specs.Client.{signatureAt}
-use Rattle.protocol.specs.Parts.{filled}
-
--- The proof that some bytes of a message are; no bytes are no proof.
-abbrev pub proofIn : List ℕ → Option PreparedProof
-proofIn [] = none
-proofIn (byte ∷ bytes) = some (preparedFrom (byte ∷ bytes))
-
--- The bytes of a proof are as many as their number of entries says, which the largest quorum bounds.
-pub record Reaches (proof : List ℕ) : Type 0 where
-  pub whole : 38 + 65 * getD proof 37 0 ≡ length proof
-  pub short : length proof ≤ 753
-
--- They are a proof, if they are there.
-abbrev pub IfProof : List ℕ → Type 0
-IfProof [] = Unit {0}
-IfProof (byte ∷ bytes) = Reaches (byte ∷ bytes)
 
 -- An entry more, at the place behind so many: signer and signature.
 abbrev pub entryOf : ReplicaId → List ℕ → List ℕ

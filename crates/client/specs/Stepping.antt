@@ -3,6 +3,7 @@ use mathlib.Core.Path.{_≡_}
 use mathlib.Core.List.{List}
 use Prim.Native.Nat.{ℕ}
 use lib.ListN.{length, replicate}
+use Rattle.base.specs.Bytes.{filled}
 use Rattle.base.specs.Outcome.{Outcome}
 use Rattle.base.specs.Party.{clientSetup, setupOutcome}
 use Rattle.base.specs.declared.party.ClientId.{ClientId}
@@ -10,7 +11,6 @@ use Rattle.base.specs.declared.timestamp.Timestamp.{Timestamp}
 use Rattle.wire.specs.declared.writer.Encoded.{Encoded}
 use Rattle.wire.specs.declared.writer.Encoded.the-variants.{Length as Wrote, Refused as Unwritten}
 use Rattle.protocol.specs.Client.{Turn, ClientCall, clientAnswers, madeClient, answerOutcome, stepOutcome}
-use Rattle.protocol.specs.Parts.{filled}
 use Rattle.protocol.specs.declared.client.Client.{Client}
 use Rattle.protocol.specs.declared.client.ClientAnswer.{ClientAnswer}
 use Rattle.protocol.specs.declared.client.ClientAnswer.the-variants.{Send, Done, Refused}

@@ -1,11 +1,11 @@
 // What a call returns.
 use crate::Stepped;
-use crate::arrays::card_array;
 use crate::record::with_phase;
 use base::timestamp::Timestamp;
 use protocol::client::Client;
 use protocol::client::ClientAnswer;
 use protocol::client::Phase;
+use wire::arrays::card_array;
 use wire::layout::LONGEST_CARD;
 use wire::writer::Encoded;
 ghost use mathlib.Core.Path.{_≡_};

@@ -1,6 +1,5 @@
 // The client engine: beginnings of writes and reads, and what a client makes of a message.
 mod answers;
-mod arrays;
 mod begin;
 mod messages;
 mod read;

@@ -10,6 +10,8 @@ use base::party::ReplicaId;
 use base::refusal::BAD_CARD;
 use protocol::client::Client;
 use wire::message::Fields;
+use wire::parts;
+use wire::parts::part;
 ghost use mathlib.Core.Path.{_≡_};
 ghost use mathlib.Core.List.{List};
 ghost use Prim.Native.Nat.{ℕ, _≤_};
@@ -20,61 +22,58 @@ ghost use Rattle.client.specs.Messages.{Passing, afterTests};
 ghost use Rattle.client.specs.Stepping.{callOf};
 
 fn take_stamp(client: Client, message: &[u8], fields: Fields, out: &mut [u8]) -> Stepped
-    requires { ⌜ (longest ≤ length (now out)) × Passing (now message) fields × (fields .kind ≡ 5) ⌝ }
+    requires { ⌜ (longest ≤ length (now out)) × Passing (client .f) (now message) fields × (fields .kind ≡ 5) ⌝ }
     ensures { λ r. ⌜ callOf r (now (out .exit)) ≡ clientAnswers client (now (out .entry)) (afterTests client (now (message .entry))) ⌝ }
 {
-    let from = fields.prepared;
-    let to = fields.written;
+    let proof_at = fields.prepared;
     let addressed = fields.addressed;
     let sender = ReplicaId(fields.sender);
     on_stamp(
         client,
         sender,
         fields.nonce,
-        &message[from..to],
+        part(message, proof_at),
         addressed,
         out,
     )
 }
 
 fn take_prepared(client: Client, message: &[u8], fields: Fields, out: &mut [u8]) -> Stepped
-    requires { ⌜ (longest ≤ length (now out)) × Passing (now message) fields × (fields .kind ≡ 6) ⌝ }
+    requires { ⌜ (longest ≤ length (now out)) × Passing (client .f) (now message) fields × (fields .kind ≡ 6) ⌝ }
     ensures { λ r. ⌜ callOf r (now (out .exit)) ≡ clientAnswers client (now (out .entry)) (afterTests client (now (message .entry))) ⌝ }
 {
-    let from = fields.digest;
-    let to = fields.card;
-    let own = fields.signature;
+    let digest_at = fields.digest;
+    let signature_at = fields.signature;
     let timestamp = fields.timestamp;
     let sender = ReplicaId(fields.sender);
     on_prepared(
         client,
         sender,
         timestamp,
-        &message[from..to],
-        &message[own..],
+        part(message, digest_at),
+        part(message, signature_at),
         out,
     )
 }
 
 fn take_written(client: Client, message: &[u8], fields: Fields) -> Stepped
-    requires { ⌜ Passing (now message) fields × (fields .kind ≡ 7) ⌝ }
+    requires { ⌜ Passing (client .f) (now message) fields × (fields .kind ≡ 7) ⌝ }
     ensures { λ r. ⌜ ((old : List ℕ) → callOf r old ≡ clientAnswers client old (afterTests client (now (message .entry)))) ⌝ }
 {
-    let own = fields.signature;
+    let signature_at = fields.signature;
     let timestamp = fields.timestamp;
-    on_written(client, ReplicaId(fields.sender), timestamp, &message[own..])
+    let sender = ReplicaId(fields.sender);
+    on_written(client, sender, timestamp, part(message, signature_at))
 }
 
 fn take_card(client: Client, message: &[u8], fields: Fields, out: &mut [u8]) -> Stepped
-    requires { ⌜ (longest ≤ length (now out)) × Passing (now message) fields × (fields .kind ≡ 8) ⌝ }
+    requires { ⌜ (longest ≤ length (now out)) × Passing (client .f) (now message) fields × (fields .kind ≡ 8) ⌝ }
     ensures { λ r. ⌜ callOf r (now (out .exit)) ≡ clientAnswers client (now (out .entry)) (afterTests client (now (message .entry))) ⌝ }
 {
-    // A length byte stands in front of the card.
-    let from = fields.card + 1;
-    let middle = fields.prepared;
-    let to = fields.written;
-    let card = &message[from..middle];
-    let proof = &message[middle..to];
+    let card_at = fields.card;
+    let proof_at = fields.prepared;
+    let card = parts::card(message, card_at);
+    let proof = part(message, proof_at);
     if !card_stands(card, proof) {
         return refused(BAD_CARD, client);
     }
@@ -84,7 +83,7 @@ fn take_card(client: Client, message: &[u8], fields: Fields, out: &mut [u8]) -> 
 }
 
 pub(super) fn take(client: Client, message: &[u8], fields: Fields, out: &mut [u8]) -> Stepped
-    requires { ⌜ (longest ≤ length (now out)) × Passing (now message) fields ⌝ }
+    requires { ⌜ (longest ≤ length (now out)) × Passing (client .f) (now message) fields ⌝ }
     ensures { λ r. ⌜ callOf r (now (out .exit)) ≡ clientAnswers client (now (out .entry)) (afterTests client (now (message .entry))) ⌝ }
 {
     let kind = fields.kind;

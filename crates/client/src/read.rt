@@ -21,8 +21,8 @@ ghost use mathlib.Core.Path.{_≡_};
 ghost use Prim.Native.Nat.{_≤_};
 ghost use lib.ListN.{length};
 ghost use Rattle.wire.specs.Message.{longest, WRITE};
+ghost use Rattle.wire.specs.Parts.{preparedPart, WholeIfThere};
 ghost use Rattle.protocol.specs.Client.{clientAnswers, currentCard, bestProof, withPhase, turn, send, afterCard, onCard, afterWriteBack};
-ghost use Rattle.client.specs.Arrays.{proofIn, IfProof};
 ghost use Rattle.client.specs.Stepping.{callOf, Takes, TakesAny};
 
 // WRITE the best card with its proof; the replicas that showed it count.
@@ -81,8 +81,8 @@ pub(super) fn on_card<'a>(
     addressed: ClientId,
     out: &mut [u8],
 ) -> Stepped
-    requires { ⌜ (longest ≤ length (now out)) × IfProof (now proof) × (length (now card) ≤ 17) ⌝ }
-    ensures { λ r. ⌜ callOf r (now (out .exit)) ≡ clientAnswers client (now (out .entry)) (onCard client sender nonce (now (card .entry)) (proofIn (now (proof .entry))) addressed (client .phase)) ⌝ }
+    requires { ⌜ (longest ≤ length (now out)) × WholeIfThere (now proof) × (length (now card) ≤ 17) ⌝ }
+    ensures { λ r. ⌜ callOf r (now (out .exit)) ≡ clientAnswers client (now (out .entry)) (onCard client sender nonce (now (card .entry)) (preparedPart (now (proof .entry))) addressed (client .phase)) ⌝ }
 {
     let phase = client.phase;
     let Phase::Cards(asked, best, counts, showed) = phase else {

@@ -1,18 +1,20 @@
 // Changes of a client's record.
-use crate::arrays::card_array;
-use crate::arrays::digest_array;
-use crate::arrays::entries_array;
 use crate::signatures::Built;
 use base::replica_set::ReplicaSet;
 use base::timestamp::Timestamp;
 use protocol::client::Client;
 use protocol::client::Phase;
+use wire::arrays::card_array;
+use wire::arrays::digest_array;
+use wire::arrays::entries_array;
+use wire::parts;
 ghost use mathlib.Core.Path.{_≡_};
 ghost use Prim.Native.Nat.{_≤_};
 ghost use lib.ListN.{length};
+ghost use Rattle.wire.specs.Parts.{Whole};
 ghost use Rattle.wire.specs.Proof.{preparedFrom};
 ghost use Rattle.protocol.specs.Client.{withPhase, beginning, withProof, withCard, withDigest, withSignatures, withLastWritten, built};
-ghost use Rattle.client.specs.Arrays.{Reaches, Keeps};
+ghost use Rattle.client.specs.Arrays.{Keeps};
 
 // The record anew: a field that is an enum is not stored to.
 pub(super) fn with_phase(client: Client, phase: Phase) -> Client
@@ -69,14 +71,14 @@ pub(super) fn beginning(client: Client, nonce: u64, phase: Phase, card: &[u8]) -
 
 // The prepared proof of the bytes, in place of the one that was kept.
 pub(super) fn with_proof(client: Client, proof: &[u8]) -> Client
-    requires { ⌜ Reaches (now proof) ⌝ }
+    requires { ⌜ Whole (now proof) ⌝ }
     ensures { λ r. ⌜ r ≡ withProof (preparedFrom (now (proof .entry))) client ⌝ }
 {
-    let digest = digest_array(&proof[5..37]);
-    let entries = entries_array(&proof[38..]);
+    let digest = digest_array(parts::digest(proof));
+    let entries = entries_array(parts::entries(proof));
     let mut next = client;
     next.digest = digest;
-    next.entry_count = proof[37];
+    next.entry_count = parts::entry_count(proof);
     next.entries = entries;
     next
 }

@@ -1,25 +1,25 @@
 // What a STAMP or a CARD changes of the largest timestamp, the replicas that showed it, and what is kept of its reply.
 // A proof is the part of the message that carries it, empty if it is missing.
-use crate::arrays::same_bytes;
 use crate::record::with_card;
 use crate::record::with_proof;
+use base::bytes::same;
 use base::party::ClientId;
 use base::party::ReplicaId;
 use base::replica_set::ReplicaSet;
 use base::timestamp::Timestamp;
 use protocol::client::Client;
 use wire::card::CardCheck;
+use wire::parts;
 ghost use mathlib.Core.Path.{_≡_};
 ghost use mathlib.Core.Bool.{_&&_};
 ghost use Prim.Native.Nat.{_≤_};
 ghost use lib.Dec.{eqb};
 ghost use lib.ListN.{length};
 ghost use Rattle.base.specs.Same.{same};
-ghost use Rattle.base.specs.Timestamp.{number, ofNumber};
+ghost use Rattle.base.specs.Timestamp.{number};
 ghost use Rattle.protocol.specs.Client.{bestOf, keepBetter, keepBetterCard, showedBy, isNew};
 ghost use Rattle.protocol.specs.Parts.{cardStands, startCard};
-ghost use Rattle.client.specs.Arrays.{proofIn, IfProof};
-ghost use Rattle.wire.specs.Parts.{preparedTimestamp};
+ghost use Rattle.wire.specs.Parts.{preparedPart, WholeIfThere};
 
 // Whether no reply of this replica was taken yet.
 fn is_new(counts: ReplicaSet, sender: ReplicaId) -> bool
@@ -48,32 +48,21 @@ pub(super) fn is_awaited(
     is_new(counts, sender)
 }
 
-// 0.0 for a missing proof.
-fn proof_timestamp(proof: &[u8]) -> Timestamp
-    requires { ⌜ IfProof (now proof) ⌝ }
-    ensures { λ r. ⌜ r ≡ ofNumber (preparedTimestamp (proofIn (now (proof .entry)))) ⌝ }
-{
-    if proof.len() == 0 {
-        return Timestamp::start();
-    }
-    Timestamp::from_bytes(proof[0], proof[1], proof[2], proof[3], proof[4])
-}
-
 // The larger timestamp; the first reply's on a tie.
 pub(super) fn best_of(best: Timestamp, proof: &[u8]) -> Timestamp
-    requires { ⌜ IfProof (now proof) ⌝ }
-    ensures { λ r. ⌜ r ≡ bestOf best (proofIn (now (proof .entry))) ⌝ }
+    requires { ⌜ WholeIfThere (now proof) ⌝ }
+    ensures { λ r. ⌜ r ≡ bestOf best (preparedPart (now (proof .entry))) ⌝ }
 {
-    let shown = proof_timestamp(proof);
+    let shown = parts::timestamp(proof);
     if best.is_before(shown) { shown } else { best }
 }
 
 // A better reply's proof is kept.
 pub(super) fn keep_better(client: Client, best: Timestamp, proof: &[u8]) -> Client
-    requires { ⌜ IfProof (now proof) ⌝ }
-    ensures { λ r. ⌜ r ≡ keepBetter best (proofIn (now (proof .entry))) client ⌝ }
+    requires { ⌜ WholeIfThere (now proof) ⌝ }
+    ensures { λ r. ⌜ r ≡ keepBetter best (preparedPart (now (proof .entry))) client ⌝ }
 {
-    if !best.is_before(proof_timestamp(proof)) {
+    if !best.is_before(parts::timestamp(proof)) {
         return client;
     }
     with_proof(client, proof)
@@ -85,10 +74,10 @@ pub(super) fn keep_better_card<'a>(
     card: &'a [u8],
     proof: &'a [u8],
 ) -> Client
-    requires { ⌜ IfProof (now proof) × (length (now card) ≤ 17) ⌝ }
-    ensures { λ r. ⌜ r ≡ keepBetterCard best (now (card .entry)) (proofIn (now (proof .entry))) client ⌝ }
+    requires { ⌜ WholeIfThere (now proof) × (length (now card) ≤ 17) ⌝ }
+    ensures { λ r. ⌜ r ≡ keepBetterCard best (now (card .entry)) (preparedPart (now (proof .entry))) client ⌝ }
 {
-    if !best.is_before(proof_timestamp(proof)) {
+    if !best.is_before(parts::timestamp(proof)) {
         return client;
     }
     with_card(with_proof(client, proof), card)
@@ -101,10 +90,10 @@ pub(super) fn showed_by(
     sender: ReplicaId,
     showed: ReplicaSet,
 ) -> ReplicaSet
-    requires { ⌜ IfProof (now proof) ⌝ }
-    ensures { λ r. ⌜ r ≡ showedBy best (proofIn (now (proof .entry))) sender showed ⌝ }
+    requires { ⌜ WholeIfThere (now proof) ⌝ }
+    ensures { λ r. ⌜ r ≡ showedBy best (preparedPart (now (proof .entry))) sender showed ⌝ }
 {
-    let shown = proof_timestamp(proof);
+    let shown = parts::timestamp(proof);
     if best.is_before(shown) {
         return ReplicaSet::empty().with(sender);
     }
@@ -119,13 +108,13 @@ fn is_start_card(card: &[u8]) -> bool
     ensures { λ r. ⌜ r ≡ same (now (card .entry)) startCard ⌝ }
 {
     let start = [0u8; 2];
-    same_bytes(card, &start)
+    same(card, &start)
 }
 
 // Test 14 of a CARD.
 pub(super) fn card_stands<'a>(card: &'a [u8], proof: &'a [u8]) -> bool
-    requires { ⌜ IfProof (now proof) ⌝ }
-    ensures { λ r. ⌜ r ≡ cardStands (now (card .entry)) (proofIn (now (proof .entry))) ⌝ }
+    requires { ⌜ WholeIfThere (now proof) ⌝ }
+    ensures { λ r. ⌜ r ≡ cardStands (now (card .entry)) (preparedPart (now (proof .entry))) ⌝ }
 {
     if proof.len() == 0 {
         return is_start_card(card);
@@ -134,7 +123,7 @@ pub(super) fn card_stands<'a>(card: &'a [u8], proof: &'a [u8]) -> bool
         return false;
     };
     let digest = wire::sha256::sha256(card).bytes;
-    same_bytes(&digest, &proof[5..37])
+    same(&digest, parts::digest(proof))
 }
 
 // Whether a WRITTEN has the timestamp awaited, and its replica's was not taken yet.
@@ -166,7 +155,7 @@ pub(super) fn is_awaited_prepared<'a>(
     if !timestamp.is(asked) {
         return false;
     }
-    if !same_bytes(digest, kept) {
+    if !same(digest, kept) {
         return false;
     }
     is_new(counts, sender)

@@ -1,5 +1,5 @@
 // The signatures counted in a phase, and the proofs built of them.
-use crate::arrays::put;
+use base::bytes::put;
 use base::party::ReplicaId;
 use base::replica_set::ReplicaSet;
 use wire::layout::ENTRY;

@@ -30,8 +30,8 @@ ghost use lib.ListN.{length};
 ghost use Rattle.base.specs.ReplicaSet.{with};
 ghost use Rattle.base.specs.Timestamp.{number, successor};
 ghost use Rattle.wire.specs.Message.{longest};
+ghost use Rattle.wire.specs.Parts.{preparedPart, WholeIfThere};
 ghost use Rattle.protocol.specs.Client.{clientAnswers, toPrepare, afterStamp, onStamp, afterPrepared, onPrepared, afterWritten, withSignature, withSignatures};
-ghost use Rattle.client.specs.Arrays.{proofIn, IfProof};
 ghost use Rattle.client.specs.Stepping.{callOf, Takes, TakesAny};
 
 // PREPARE the successor of the largest timestamp. The last count has none: the write ends.
@@ -93,8 +93,8 @@ pub(super) fn on_stamp(
     addressed: ClientId,
     out: &mut [u8],
 ) -> Stepped
-    requires { ⌜ (longest ≤ length (now out)) × IfProof (now proof) ⌝ }
-    ensures { λ r. ⌜ callOf r (now (out .exit)) ≡ clientAnswers client (now (out .entry)) (onStamp client sender nonce (proofIn (now (proof .entry))) addressed (client .phase)) ⌝ }
+    requires { ⌜ (longest ≤ length (now out)) × WholeIfThere (now proof) ⌝ }
+    ensures { λ r. ⌜ callOf r (now (out .exit)) ≡ clientAnswers client (now (out .entry)) (onStamp client sender nonce (preparedPart (now (proof .entry))) addressed (client .phase)) ⌝ }
 {
     let phase = client.phase;
     let Phase::Stamps(asked, best, counts) = phase else {

@@ -111,6 +111,7 @@ few-entries f proof h =
 
 -- The message that 2 to 11 let through.
 pub record Handed (party : Party) (f : ℕ) (bytes verdicts : List ℕ) (message : Message) : Type 0 where
+  pub decodes : decode party bytes ≡ accepted message
   pub admits : admitted party f bytes verdicts ≡ accepted message
   pub ranged : inItsRange f (senderOf message) ≡ true
   pub passed : Passed f message verdicts
@@ -127,7 +128,7 @@ module _ (party : Party) (f : ℕ) (bytes verdicts : List ℕ) (fields : Fields)
       let a = acceptance-accepted party f bytes verdicts fields e in
       let h = admitted-passed party f bytes verdicts (a .0) (a .1) in
       let same : a .0 ≡ m = cc (h .decodes) in
-      subst (λ (m : Message). Handed party f bytes verdicts m) same (record { admits = a .1; ranged = h .ranged; passed = h .passed })
+      subst (λ (m : Message). Handed party f bytes verdicts m) same (record { decodes = h .decodes; admits = a .1; ranged = h .ranged; passed = h .passed })
 
   digest-is : partAt bytes (fields .digest) ≡ field bytes 4
   unfolding fieldsIn field

@@ -3,7 +3,7 @@ use mathlib.Core.Path.{sym, ap, _∙_}
 use Rattle.protocol.specs.Client.{clientStep}
 use Rattle.wire.specs.Decode.{readingOutcome}
 use Rattle.client.proofs.Calling.{step-calls, too-short, is-refused, behind-output}
-use Rattle.client.proofs.Steps.{step-refused, step-passes, step-passing}
+use Rattle.client.proofs.Parting.{step-refused, passed-step}
 use borrow.Author.Needs.{needs}
 use Rattle.client.proofs.step.Statement.{statement}
 use Rattle.client.proofs.step.Tie as tie
@@ -24,7 +24,7 @@ take-requires c κs =
     let old = a .out .now in
     let passed = sym (c .before .before .before .before .accept .ensures) ∙ ap readingOutcome (c .before .before .fields .given .1) in
     let fields = c .before .before .fields .given .0 .0 in
-    (c .before .before .before .before .before .if1 .left, step-passing (a .client) bytes verdicts fields passed)
+    (c .before .before .before .before .before .if1 .left, record { verdicts = verdicts; passes = passed })
 
 returns-2 : tie.Need-returns-2
 returns-2 c =
@@ -35,7 +35,7 @@ returns-2 c =
     let passed = sym (c .before .before .before .before .before .before .before .accept .ensures) ∙ ap readingOutcome (c .before .before .before .before .before .fields .given .1) in
     let fields = c .before .before .before .before .before .fields .given .0 .0 in
     let taken = c .before .before .take in
-    step-calls (a .client) old (taken .result) (taken .last .1 .1 .1 .0) bytes verdicts (behind-output (a .client) old (taken .result) (taken .last .1 .1 .1 .0) (clientStep (a .client) bytes verdicts) _ (c .before .before .before .before .before .before .before .before .if1 .left) (step-passes (a .client) bytes verdicts fields passed) (taken .ensures))
+    step-calls (a .client) old (taken .result) (taken .last .1 .1 .1 .0) bytes verdicts (behind-output (a .client) old (taken .result) (taken .last .1 .1 .1 .0) (clientStep (a .client) bytes verdicts) _ (c .before .before .before .before .before .before .before .before .if1 .left) (passed-step (a .client) bytes verdicts fields passed) (taken .ensures))
 
 returns-3 : tie.Need-returns-3
 returns-3 c =

@@ -1,74 +1,35 @@
 -- `client::messages::take_prepared` meets its contract. Assumes nothing.
-use native.Mathlib.Omega.{arith}
-use Rattle.client.proofs.Parting.{digest-bounds, signature-bound, digest-part, signature-part, signature-length, prepared-step}
+use mathlib.Core.Path.{sym, ap, ap₂, _∙_}
+use mathlib.Core.List.{List}
+use Prim.Native.Nat.{ℕ}
 use borrow.Author.Needs.{needs}
+use Rattle.base.specs.Counting.{replica}
+use Rattle.base.specs.Timestamp.{number}
+use Rattle.protocol.specs.Client.{onPrepared, clientAnswers}
+use Rattle.client.proofs.Parting.{prepared-step, prepared-sender, own-length}
 use Rattle.client.proofs.messages.take_prepared.Statement.{statement}
 use Rattle.client.proofs.messages.take_prepared.Tie as tie
 
-sub-on-prepared : tie.Need-sub-on-prepared
-sub-on-prepared c =
-    let s = c .before .before .before in
-    let bytes = s .args .message .now in
-    let fields = s .args .fields in
-    let bounds = digest-bounds bytes fields (s .pre .1) in
-    omega arith
-
-part-on-prepared-start : tie.Need-part-on-prepared-start
-part-on-prepared-start c =
-    let s = c .before .before .before in
-    let bytes = s .args .message .now in
-    let fields = s .args .fields in
-    let bounds = digest-bounds bytes fields (s .pre .1) in
-    omega arith
-
-part-on-prepared-end : tie.Need-part-on-prepared-end
-part-on-prepared-end c =
-    let s = c .before .before .before in
-    let bytes = s .args .message .now in
-    let fields = s .args .fields in
-    let bounds = digest-bounds bytes fields (s .pre .1) in
-    omega arith
-
-sub-on-prepared-2 : tie.Need-sub-on-prepared-2
-sub-on-prepared-2 c =
-    let s = c .before .before .before .before in
-    let bytes = s .args .message .now in
-    let fields = s .args .fields in
-    let bounds = signature-bound bytes fields (s .pre .1) in
-    omega arith
-
-part-on-prepared-start-2 : tie.Need-part-on-prepared-start-2
-part-on-prepared-start-2 c =
-    let s = c .before .before .before .before in
-    let bytes = s .args .message .now in
-    let fields = s .args .fields in
-    let bounds = signature-bound bytes fields (s .pre .1) in
-    omega arith
+abbrev start : tie.After-part2 → tie.Start
+start c = c .before .before .before .before .before .before .before
 
 on-prepared-requires : tie.Need-on-prepared-requires
 on-prepared-requires c κs =
-    let s = c .before .before .before .before .before .before in
-    let bytes = s .args .message .now in
-    let fields = s .args .fields in
-    (s .pre .0, s .pre .1 .low, s .pre .1 .high, rw (signature-part bytes fields (s .pre .1)) (signature-length bytes fields (s .pre .1)))
+    let s = start (c .before) in
+    let range = prepared-sender (s .args .client) (s .args .message .now) (s .args .fields) (s .pre .1) (s .pre .2) in
+    (s .pre .0, range .0, range .1, rw (c .before .part2 .ensures) (own-length (s .args .client) (s .args .message .now) (s .args .fields) (s .pre .1)))
 
 returns : tie.Need-returns
 returns c =
-    let s = c .before .before .before .before .before .before .before .before .before in
-    let bytes = s .args .message .now in
-    let fields = s .args .fields in
-    rw (prepared-step bytes fields (s .pre .1) (s .args .client) (s .pre .2)) (rw (digest-part bytes fields (s .pre .1), signature-part bytes fields (s .pre .1)) at (c .before .before .on-prepared .ensures))
+    let p = c .before .before .before .before in
+    let s = start p in
+    let a = s .args in
+    let fields = a .fields in
+    c .before .before .on-prepared .ensures
+    ∙ ap₂ (λ (digest own : List ℕ). clientAnswers (a .client) (a .out .now) (onPrepared (a .client) (replica (fields .sender)) (number (fields .timestamp)) digest own (a .client .phase))) (p .before .part .ensures) (p .part2 .ensures)
+    ∙ ap (clientAnswers (a .client) (a .out .now)) (sym (prepared-step (a .client) (a .message .now) fields (s .pre .1) (s .pre .2)))
 
 pub take-prepared-spec : {M : Type 1} → statement M
 take-prepared-spec =
     tie.close
-    (tie.spec
-    sub-on-prepared
-    part-on-prepared-start
-    part-on-prepared-end
-    sub-on-prepared-2
-    part-on-prepared-start-2
-    (λ c. search needs)
-    on-prepared-requires
-    (λ c. search needs)
-    returns)
+    (tie.spec (λ c κs. search needs) (λ c κs. search needs) on-prepared-requires (λ c. search needs) returns)

@@ -1,55 +1,32 @@
 -- `client::messages::take_stamp` meets its contract. Assumes nothing.
-use native.Mathlib.Omega.{arith}
-use Rattle.client.proofs.Parting.{proof-bounds, proof-part, stamp-step}
+use mathlib.Core.Path.{sym, ap, _∙_}
+use mathlib.Core.List.{List}
+use Prim.Native.Nat.{ℕ}
 use borrow.Author.Needs.{needs}
+use Rattle.base.specs.Counting.{replica}
+use Rattle.wire.specs.Parts.{preparedPart}
+use Rattle.protocol.specs.Client.{onStamp, clientAnswers}
+use Rattle.client.proofs.Parting.{stamp-step, proof-there}
 use Rattle.client.proofs.messages.take_stamp.Statement.{statement}
 use Rattle.client.proofs.messages.take_stamp.Tie as tie
 
-sub-on-stamp : tie.Need-sub-on-stamp
-sub-on-stamp c =
-    let s = c .before .before .before in
-    let bytes = s .args .message .now in
-    let fields = s .args .fields in
-    let bounds = proof-bounds bytes fields (s .pre .1) in
-    omega arith
-
-part-on-stamp-start : tie.Need-part-on-stamp-start
-part-on-stamp-start c =
-    let s = c .before .before .before in
-    let bytes = s .args .message .now in
-    let fields = s .args .fields in
-    let bounds = proof-bounds bytes fields (s .pre .1) in
-    omega arith
-
-part-on-stamp-end : tie.Need-part-on-stamp-end
-part-on-stamp-end c =
-    let s = c .before .before .before in
-    let bytes = s .args .message .now in
-    let fields = s .args .fields in
-    let bounds = proof-bounds bytes fields (s .pre .1) in
-    omega arith
+abbrev start : tie.After-part → tie.Start
+start c = c .before .before .before .before .before
 
 on-stamp-requires : tie.Need-on-stamp-requires
 on-stamp-requires c κs =
-    let s = c .before .before .before .before .before in
-    let bytes = s .args .message .now in
-    let fields = s .args .fields in
-    (s .pre .0, rw (proof-part bytes fields (s .pre .1)) (s .pre .1 .proof))
+    let s = start (c .before) in
+    (s .pre .0, rw (c .before .part .ensures) (proof-there (s .args .client) (s .args .message .now) (s .args .fields) (s .pre .1)))
 
 returns : tie.Need-returns
 returns c =
-    let s = c .before .before .before .before .before .before .before .before in
-    let bytes = s .args .message .now in
-    let fields = s .args .fields in
-    rw (stamp-step bytes fields (s .pre .1) (s .args .client) (s .pre .2)) (rw (proof-part bytes fields (s .pre .1)) at (c .before .before .on-stamp .ensures))
+    let p = c .before .before .before .before in
+    let s = start p in
+    let a = s .args in
+    let fields = a .fields in
+    c .before .before .on-stamp .ensures
+    ∙ ap (λ (proof : List ℕ). clientAnswers (a .client) (a .out .now) (onStamp (a .client) (replica (fields .sender)) (fields .nonce) (preparedPart proof) (fields .addressed) (a .client .phase))) (p .part .ensures)
+    ∙ ap (clientAnswers (a .client) (a .out .now)) (sym (stamp-step (a .client) (a .message .now) fields (s .pre .1) (s .pre .2)))
 
 pub take-stamp-spec : {M : Type 1} → statement M
-take-stamp-spec =
-    tie.close
-    (tie.spec
-    sub-on-stamp
-    part-on-stamp-start
-    part-on-stamp-end
-    on-stamp-requires
-    (λ c. search needs)
-    returns)
+take-stamp-spec = tie.close (tie.spec (λ c κs. search needs) on-stamp-requires (λ c. search needs) returns)

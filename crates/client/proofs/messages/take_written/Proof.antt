@@ -1,41 +1,34 @@
 -- `client::messages::take_written` meets its contract. Assumes nothing.
-use native.Mathlib.Omega.{arith}
-use Rattle.client.proofs.Parting.{signature-bound, signature-part, signature-length, written-step}
+use mathlib.Core.Path.{sym, ap, _∙_}
+use mathlib.Core.List.{List}
+use Prim.Native.Nat.{ℕ}
 use borrow.Author.Needs.{needs}
+use Rattle.base.specs.Counting.{replica}
+use Rattle.base.specs.Timestamp.{number}
+use Rattle.protocol.specs.Client.{onWritten, clientAnswers}
+use Rattle.client.proofs.Parting.{written-step, written-sender, own-length}
 use Rattle.client.proofs.messages.take_written.Statement.{statement}
 use Rattle.client.proofs.messages.take_written.Tie as tie
 
-sub-on-written : tie.Need-sub-on-written
-sub-on-written c =
-    let s = c .before .before in
-    let bytes = s .args .message .now in
-    let fields = s .args .fields in
-    let bounds = signature-bound bytes fields (s .pre .0) in
-    omega arith
-
-part-on-written-start : tie.Need-part-on-written-start
-part-on-written-start c =
-    let s = c .before .before in
-    let bytes = s .args .message .now in
-    let fields = s .args .fields in
-    let bounds = signature-bound bytes fields (s .pre .0) in
-    omega arith
+abbrev start : tie.After-part → tie.Start
+start c = c .before .before .before .before
 
 on-written-requires : tie.Need-on-written-requires
 on-written-requires c κs =
-    let s = c .before .before .before in
-    let bytes = s .args .message .now in
-    let fields = s .args .fields in
-    (s .pre .0 .low, s .pre .0 .high, rw (signature-part bytes fields (s .pre .0)) (signature-length bytes fields (s .pre .0)))
+    let s = start c in
+    let range = written-sender (s .args .client) (s .args .message .now) (s .args .fields) (s .pre .0) (s .pre .1) in
+    (range .0, range .1, rw (c .part .ensures) (own-length (s .args .client) (s .args .message .now) (s .args .fields) (s .pre .0)))
 
 returns : tie.Need-returns
 returns c =
-    let s = c .before .before .before .before in
-    let bytes = s .args .message .now in
-    let fields = s .args .fields in
-    λ old. rw (written-step bytes fields (s .pre .0) (s .args .client) (s .pre .1)) (rw (signature-part bytes fields (s .pre .0)) at (c .on-written .ensures old))
+    let p = c .before in
+    let s = start p in
+    let a = s .args in
+    let fields = a .fields in
+    λ old.
+    c .on-written .ensures old
+    ∙ ap (λ (own : List ℕ). clientAnswers (a .client) old (onWritten (a .client) (replica (fields .sender)) (number (fields .timestamp)) own (a .client .phase))) (p .part .ensures)
+    ∙ ap (clientAnswers (a .client) old) (sym (written-step (a .client) (a .message .now) fields (s .pre .0) (s .pre .1)))
 
 pub take-written-spec : {M : Type 1} → statement M
-take-written-spec =
-    tie.close
-    (tie.spec sub-on-written part-on-written-start (λ c. search needs) on-written-requires returns)
+take-written-spec = tie.close (tie.spec (λ c κs. search needs) on-written-requires returns)

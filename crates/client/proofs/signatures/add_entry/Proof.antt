@@ -1,12 +1,13 @@
 -- `client::signatures::add_entry` meets its contract. Assumes nothing.
 use mathlib.Core.Path.{_≡_, sym, _∙_}
 use mathlib.Core.List.{_∷_}
-use Prim.Native.Nat.{_+_, _-_, _*_}
+use Prim.Native.Nat.{_+_, _-_, _*_, _≤_}
 use native.Mathlib.Omega.{arith}
 use borrow.Author.Needs.{needs}
 use borrow.Author.Tests.{not-true, not-false, lt-ltb, le-ltb}
-use lib.ListN.{length, take, drop, length-set, length-take, length-drop}
-use Rattle.client.proofs.Filling.{byte-then}
+use lib.ListN.{length, take, drop, set, length-set, length-take, length-drop}
+use Rattle.base.proofs.Stored.{stored-fits}
+use Rattle.client.proofs.Gathering.{byte-then}
 use Rattle.client.proofs.signatures.add_entry.Statement.{statement}
 use Rattle.client.proofs.signatures.add_entry.Tie as tie
 
@@ -20,9 +21,6 @@ returns-2 c =
     let there = sym (c .before .before .has .ensures) ∙ not-false _ (c .before .if1 .left) in
     let full = le-ltb _ _ (c .if2 .taken) in
     record { next-is = rw (there, full); holds = rw (there, full) }
-
-put-requires : tie.Need-put-requires
-put-requires c κs = simp (length-set, length-take, length-drop) (omega arith)
 
 same-length : tie.Need-same-length
 same-length c = c .before .before .put .kept .0 ∙ simp length-set
@@ -38,7 +36,8 @@ returns-3 c =
     let from = 64 * (a .id .0 - 1) in
     let wide : from + 64 - from ≡ 64 = omega arith in
     let many : length (take 64 (drop from (a .signatures .now))) ≡ 64 = simp (length-take, length-drop) (omega (arith, s .pre)) in
-    let put = rw wide at (c .before .before .put .ensures) in
+    let room′ : at + 1 + length (take 64 (drop from (a .signatures .now))) ≤ length (set (a .entries .now) at (a .id .0)) = simp length-set (omega (arith, s .pre)) in
+    let put = rw wide at (c .before .before .put .ensures) ∙ stored-fits (at + 1) (take 64 (drop from (a .signatures .now))) (set (a .entries .now) at (a .id .0)) room′ in
     let size : at + 65 ≡ at + length (a .id .0 ∷ take 64 (drop from (a .signatures .now))) = omega arith in
     record { next-is = rw (there, room); holds = rw (there, room, size) (put ∙ byte-then (a .entries .now) (take 64 (drop from (a .signatures .now))) at (a .id .0) (omega (arith, s .pre))) }
 
@@ -59,7 +58,7 @@ add-entry-spec =
     (λ c. search needs)
     (λ c. search needs)
     (λ c. search needs)
-    put-requires
+    (λ c κs. search needs)
     (λ c. search needs)
     same-length
     returns-3)

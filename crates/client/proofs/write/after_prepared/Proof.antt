@@ -9,7 +9,7 @@ use Rattle.protocol.specs.Client.{withPhase, withSignatures, built, currentCard
 use Rattle.protocol.specs.declared.client.Phase.the-variants.{Prepareds, Writtens}
 use Rattle.protocol.specs.declared.client.ClientAnswer.the-variants.{Counted}
 use Rattle.client.proofs.Records.{sized, kept-built}
-use Rattle.client.proofs.Filling.{zeros}
+use Rattle.base.proofs.Filling.{zeros}
 use Rattle.client.proofs.Answering.{plain-call, sends}
 use borrow.Author.Needs.{needs}
 use Rattle.client.proofs.write.after_prepared.Statement.{statement}
