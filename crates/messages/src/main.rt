@@ -9,6 +9,7 @@ use wire::card_part::later_card;
 use wire::message::Fields;
 use wire::message::Party;
 use wire::message::Reading;
+use wire::parts;
 ghost use mathlib.Core.Path.{_≡_};
 ghost use Prim.Native.Nat.{_≤_};
 ghost use lib.ListN.{length};
@@ -59,32 +60,11 @@ fn print_kind(kind: u8) {
     }
 }
 
-// The bytes from a place on.
-fn tail(bytes: &[u8], at: usize) -> &[u8] {
-    if at <= bytes.len() {
-        return &bytes[at..];
-    }
-    &bytes[0..0]
-}
-
-// So many bytes from the front, or all.
-fn front(bytes: &[u8], n: usize) -> &[u8] {
-    if n <= bytes.len() {
-        return &bytes[0..n];
-    }
-    bytes
-}
-
-// A proof's timestamp, and the number of its entries, which stands at `number`.
-fn print_proof(proof: &[u8], number: usize) {
-    if proof.len() < 5 {
-        return;
-    }
-    print_timestamp(Timestamp::from_bytes(proof[0], proof[1], proof[2], proof[3], proof[4]));
-    if number < proof.len() {
-        text::print(b" entries ");
-        print_byte(proof[number]);
-    }
+// A proof's timestamp, and the number of its entries.
+fn print_proof(proof: &[u8], entries: u8) {
+    print_timestamp(parts::timestamp(proof));
+    text::print(b" entries ");
+    print_byte(entries);
 }
 
 fn print_numbers(fields: Fields) {
@@ -104,16 +84,21 @@ fn print_numbers(fields: Fields) {
 fn print_parts(bytes: &[u8], fields: Fields) {
     let map = fields.map;
     if print_name(map, DIGEST, b" digest ") {
-        text::print_hex(front(tail(bytes, fields.digest), 32));
+        let at = fields.digest;
+        text::print_hex(parts::part(bytes, at));
     }
     if print_name(map, CARD, b" card ") {
         text::print_hex(wire::card_part::card_part(bytes));
     }
     if print_name(map, PREPARED, b" prepared ") {
-        print_proof(tail(bytes, fields.prepared), 37);
+        let at = fields.prepared;
+        let proof = parts::part(bytes, at);
+        print_proof(proof, parts::entry_count(proof));
     }
     if print_name(map, WRITTEN, b" written ") {
-        print_proof(tail(bytes, fields.written), 5);
+        let at = fields.written;
+        let proof = parts::part(bytes, at);
+        print_proof(proof, parts::written_entry_count(proof));
     }
     if print_name(map, ADDRESSED, b" addressed ") {
         print_byte(fields.addressed.0);

@@ -44,12 +44,15 @@ writtenTimestamp (some proof) = proof .timestamp
 unfoldable pub timestampPart : List ℕ → Timestamp
 timestampPart proof = cond (ltb (length proof) 5) start (ofNumber (fromBytes (take 5 proof)))
 
--- The digest of a prepared proof, how many entries it has, and their bytes.
+-- The digest of a prepared proof, how many entries it has (a written proof too), and their bytes.
 unfoldable pub digestPart : List ℕ → List ℕ
 digestPart proof = cond (ltb (length proof) 37) [] (take 32 (drop 5 proof))
 
 unfoldable pub countPart : List ℕ → ℕ
 countPart proof = getD proof 37 0
+
+unfoldable pub writtenCount : List ℕ → ℕ
+writtenCount proof = getD proof 5 0
 
 unfoldable pub entriesPart : List ℕ → List ℕ
 entriesPart proof = drop 38 proof

@@ -2,12 +2,13 @@
 use crate::layout::DIGEST;
 use crate::layout::PREPARED_HEAD;
 use crate::layout::TIMESTAMP;
+use crate::layout::WRITTEN_HEAD;
 use crate::message::Span;
 use crate::slices::behind;
 use crate::slices::between;
 use base::timestamp::Timestamp;
 ghost use mathlib.Core.Path.{_≡_};
-ghost use Rattle.wire.specs.Parts.{partAt, cardAt, timestampPart, digestPart, countPart, entriesPart};
+ghost use Rattle.wire.specs.Parts.{partAt, cardAt, timestampPart, digestPart, countPart, writtenCount, entriesPart};
 
 // The bytes at a place: a digest, a proof, the signature.
 pub fn part(bytes: &[u8], at: Span) -> &[u8]
@@ -44,7 +45,7 @@ pub fn digest(proof: &[u8]) -> &[u8]
     &proof[TIMESTAMP..end]
 }
 
-// How many entries a prepared proof has, and their bytes.
+// How many entries a prepared proof has, and how many a written one.
 pub fn entry_count(proof: &[u8]) -> u8
     ensures { λ r. ⌜ r ≡ countPart (now (proof .entry)) ⌝ }
 {
@@ -54,6 +55,16 @@ pub fn entry_count(proof: &[u8]) -> u8
     proof[PREPARED_HEAD - 1]
 }
 
+pub fn written_entry_count(proof: &[u8]) -> u8
+    ensures { λ r. ⌜ r ≡ writtenCount (now (proof .entry)) ⌝ }
+{
+    if proof.len() < WRITTEN_HEAD {
+        return 0;
+    }
+    proof[WRITTEN_HEAD - 1]
+}
+
+// The bytes of a prepared proof's entries.
 pub fn entries(proof: &[u8]) -> &[u8]
     ensures { λ r. ⌜ now r ≡ entriesPart (now (proof .entry)) ⌝ }
 {
