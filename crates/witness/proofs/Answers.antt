@@ -3,6 +3,7 @@ use mathlib.Core.Path.{_≡_, refl}
 use mathlib.Core.Bool.{Bool, true, false, _||_, not, false≢true}
 use mathlib.Core.List.{List, [], _∷_}
 use Prim.Native.Nat.{ℕ}
+use native.Mathlib.Omega.{arith}
 use borrow.Author.Tests.{eqb-false}
 use lib.Dec.{eqb}
 use lib.ListN.{getD}
@@ -64,6 +65,15 @@ is-refused (accepted counted) number e = other-code 1 4 [] (number ∷ []) refl 
 is-refused (accepted (done timestamp card)) number e = other-code 2 4 (timestamp .count ∷ timestamp .client .0 ∷ card) (number ∷ []) refl e
 is-refused (accepted ended) number e = other-code 3 4 [] (number ∷ []) refl e
 is-refused (refused other) number e = let same : other ≡ number = cc in λ i. refused (same i)
+
+abbrev pub isRefused : Outcome Answer → Bool
+isRefused (accepted answer) = false
+isRefused (refused number) = true
+
+-- An answer is not what is told to be refused.
+pub not-refused : (answer : Answer) (told : Outcome Answer) → code (accepted answer) ≡ code told → isRefused told ≡ true → ⊥
+not-refused answer (accepted told) e h = no-test h
+not-refused answer (refused number) e h = let is = is-refused (accepted answer) number e in let z : _≡_ {A = ℕ} 0 1 = cc in omega arith
 
 -- What an answer's numbers say: neither done nor ended; counted.
 abbrev pub goesOn : List ℕ → Bool

@@ -21,7 +21,7 @@ use Rattle.wire.specs.Acceptance.{replica, client}
 use Rattle.wire.specs.Message.{Message, READ-STAMP, PREPARE, WRITE, READ, STAMP, PREPARED, WRITTEN, CARD}
 use Rattle.wire.specs.Proof.{PreparedProof, WrittenProof}
 use Rattle.witness.proofs.Answers.{code}
-use Rattle.witness.proofs.Cast.{replica-1, replica-2, replica-3, replica-4, client-1, client-2, client-3, client-4, 1·1, 1·4, 2·2, 3·1, entry, from-replica, from-client, one, three, four, seven, not-genuine, service, lathe, service-digest, lathe-digest, cards, right-digests, different-cards}
+use Rattle.witness.proofs.Cast.{replica-1, replica-2, replica-3, replica-4, client-1, client-2, client-3, client-4, 1·1, 1·4, 2·2, 3·1, entry, from-replica, from-client, one, three, four, seven, not-genuine, service, lathe, scrapped, service-digest, lathe-digest, cards, right-digests, different-cards}
 use Rattle.witness.proofs.Computing.{messages, steps, digests}
 use Rattle.witness.proofs.Replay.{plays, freshStore, played}
 use Rattle.witness.proofs.Story.{Line, _↝_, _↛_, each, wellTold, told, Told, hasBytes, NoOtherCards, AllTrue, trueVerdicts, true-verdicts, different-digests, only-counted, Sends, sends-told, done-told, refused-told, finished-told, allBytes, genuine-told}
@@ -68,10 +68,13 @@ stale id = CARD id 1 startCard none client-3
 abbrev write-back : Message
 write-back = WRITE client-3 service proof
 
--- Client 4 asks for 1.4 with any digest.
+-- Client 4 asks for 1.4 with any digest, and shows the proof of 1.1 with another card.
 
 abbrev asks-1·4 : List ℕ → Message
 asks-1·4 digest = PREPARE client-4 1·4 digest none none
+
+abbrev other-card : Message
+other-card = WRITE client-4 scrapped proof
 
 -- The second write: client 2 writes `lathe` at 2.2, and shows the proof of 1.1.
 
@@ -211,6 +214,8 @@ story =
     ∷ to-client client-1 (from-replica replica-1 written-3) one ↝ counted
     ∷ to-client client-1 (from-replica replica-2 written-3) one ↝ counted
     ∷ to-client client-1 (from-replica replica-4 written-3) one ↝ done at-3·1 service
+    -- 66: client 4 shows the proof of 1.1 with another card.
+    ∷ to-replica replica-3 (from-client client-4 other-card) four ↛ 14
     ∷ []
 
 well-told : each (wellTold 3 3) 0 story ≡ true
@@ -293,10 +298,15 @@ third-shows = sends-told run story as-told 54 _ prepare-3 refl
 
 -- ---- What is refused
 
--- A faulty client's second digest for one timestamp; a beginning of a busy client; a signature with the verdict 0.
-pub refusals : (answerAt run 23 ≡ refused 15) × (answerAt run 49 ≡ refused 17) × (answerAt run 61 ≡ refused 8)
+-- A faulty client's second digest for one timestamp; a beginning of a busy client; a signature with the verdict 0; a card that is not the proof's.
+pub refusals : (answerAt run 23 ≡ refused 15) × (answerAt run 49 ≡ refused 17) × (answerAt run 61 ≡ refused 8) × (answerAt run 66 ≡ refused 14)
 unfolding story
-refusals = (refused-told run story as-told 23 _ 15 refl, refused-told run story as-told 49 _ 17 refl, refused-told run story as-told 61 _ 8 refl)
+refusals = (
+  refused-told run story as-told 23 _ 15 refl,
+  refused-told run story as-told 49 _ 17 refl,
+  refused-told run story as-told 61 _ 8 refl,
+  refused-told run story as-told 66 _ 14 refl,
+)
 
 -- ---- The faulty client and replica take part
 

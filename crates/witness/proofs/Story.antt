@@ -1,6 +1,6 @@
 -- A run told line by line, each event with its answer: by tests that compute, a told run meets the premises. Assumes nothing.
 use mathlib.Core.Path.{_≡_, refl, sym, ap, subst, _∙_}
-use mathlib.Core.Logic.{_⊎_, inl, inr}
+use mathlib.Core.Logic.{_⊎_, inl, inr, ⊎-elim}
 use mathlib.Core.Bool.{Bool, true, false, _&&_, _||_, not}
 use mathlib.Core.List.{List, [], _∷_}
 use mathlib.Core.Option.{Option, none, some}
@@ -32,7 +32,7 @@ use Rattle.wire.specs.Sha256.{sha256}
 use Rattle.wire.specs.declared.message.Party.the-variants.{Replica as AtReplica, Client as AtClient}
 use Rattle.base.proofs.Same.{same-equal}
 use Rattle.base.proofs.Booleans.{or-true}
-use Rattle.witness.proofs.Answers.{no-test, code, is-sent, is-done, is-accepted, is-refused, goesOn, isCounted, is-counted}
+use Rattle.witness.proofs.Answers.{no-test, code, is-sent, is-done, is-accepted, is-refused, isRefused, not-refused, goesOn, isCounted, is-counted}
 use Rattle.witness.proofs.Cards.{Known, isKnown, isKnownIfThere, is-one, rightDigests, differentDigests, different}
 
 -- What happened, and what was answered or refused.
@@ -231,9 +231,12 @@ abbrev pub AllBetween : List Line → (List ℕ → Bool) → Sender → ℕ →
 AllBetween lines good party begun finished = each (goodBetween good party begun finished) 0 lines ≡ true
 
 module _ (R : Run) (lines : List Line) where
-  -- The run has no other cards than these.
+  -- The run has no other cards than these; those of refused events do not count.
+  abbrev isKnownOrRefused : List Known → ℕ → Line → Bool
+  isKnownOrRefused cards t line = isRefused (line .answer) || isKnownIfThere cards (cardOf R (some (line .event)))
+
   abbrev pub NoOtherCards : List Known → Type 0
-  NoOtherCards cards = each (λ t line. isKnownIfThere cards (cardOf R (some (line .event)))) 0 lines ≡ true
+  NoOtherCards cards = each (isKnownOrRefused cards) 0 lines ≡ true
 
   -- A verdict is true: it is not 1, or its signer is faulty, or sent the bytes earlier.
   isTrue : ℕ → Signature → ℕ → Bool
@@ -350,8 +353,11 @@ module _ (R : Run) (lines : List Line) (told : Told R lines) where
           let nothing : none ≡ some card = carried none at in
           let z : _≡_ {A = ℕ} 0 1 = cc in absurd (omega arith)
       go (some line) at =
-          let test = each-tested (λ s l. isKnownIfThere cards (cardOf R (some (l .event)))) (of-run .time) lines line no-other at in
-          subst (λ (c : Option (List ℕ)). isKnownIfThere cards c ≡ true) (carried (some line) at) test
+          let test = each-tested (isKnownOrRefused R lines cards) (of-run .time) lines line no-other at in
+          let (answer, answered) = of-run .not-refused in
+          ⊎-elim (λ is-refused. absurd (not-refused answer (line .answer) (sym (ap code answered) ∙ answer-told (of-run .time) line at) is-refused))
+          (λ is-known. subst (λ (c : Option (List ℕ)). isKnownIfThere cards c ≡ true) (carried (some line) at) is-known)
+          (or-true (isRefused (line .answer)) (isKnownIfThere cards (cardOf R (some (line .event)))) test)
 
   pub different-digests : (cards : List Known) → NoOtherCards R lines cards → rightDigests cards ≡ true → differentDigests cards ≡ true → (card card′ : List ℕ) → CardOfRun R card → CardOfRun R card′ → sha256 card ≡ sha256 card′ → card ≡ card′
   different-digests cards no-other right all card card′ of-run of-run′ e =
