@@ -14,9 +14,10 @@ use Rattle.base.specs.declared.party.ReplicaId.{ReplicaId}
 use Rattle.base.specs.declared.timestamp.Timestamp.{Timestamp}
 use Rattle.protocol.specs.Client.{send, counted, done}
 use Rattle.protocol.specs.Parts.{startCard}
+use Rattle.run.proofs.Demand3.{demand-3}
 use Rattle.run.specs.Claims.{Finished, Claims}
-use Rattle.run.specs.Premises.{CardOfRun}
-use Rattle.run.specs.Run.{begins-read, to-client, Run}
+use Rattle.run.specs.Premises.{TrueAt, CardOfRun}
+use Rattle.run.specs.Run.{begins-read, to-client, Run, event}
 use Rattle.wire.specs.Message.{Message, READ, CARD}
 use Rattle.wire.specs.Proof.{PreparedProof}
 use Rattle.wire.specs.Sha256.{sha256}
@@ -96,3 +97,9 @@ verdicts-needed =
       -- The second read began after the first one finished, and lies before it.
       claims-fail = λ claims. claims .in-order finished-later finished-stale (lit< tt) (inl (lit< tt));
     }
+
+-- So it is the verdicts that are at fault: were they true, the theorem would hold of the run.
+pub not-all-true : (needed : VerdictsNeeded) → ((t : ℕ) → TrueAt (needed .run) t (event (needed .run) t)) → ⊥
+not-all-true needed true-verdicts =
+    needed .claims-fail
+    (demand-3 (needed .run) (record { few-faulty = needed .few-faulty; true-verdicts = true-verdicts; different-digests = needed .different-digests }))
