@@ -4,6 +4,7 @@ use mathlib.Core.Bool.{Bool, true, false, cond}
 use mathlib.Core.List.{List}
 use mathlib.Core.Option.{Option, none, some}
 use Prim.Native.Nat.{ℕ, _^_, _≤_, _<_}
+use native.Mathlib.Omega.{arith}
 use lib.Dec.{ltb}
 use lib.ListN.{length}
 use Rattle.base.specs.BigEndian.{Bytes}
@@ -29,7 +30,7 @@ pub beginning-fits : (nonce : ℕ) (phase : Phase) (card : List ℕ) (client : C
 beginning-fits nonce phase card client small bytes fits =
     record {
       id-fits = fits .id-fits;
-      nonce-fits = small;
+      nonce-fits = omega arith;
       card-fits = filled-fits 17 card bytes;
       digest-fits = zeros-fit 32;
       entries-fit = zeros-fit 715;

@@ -24,7 +24,7 @@ use Rattle.wire.specs.Card.{isCard}
 use Rattle.wire.specs.Message.{Message, PREPARE, WRITE, STAMP, PREPARED, WRITTEN, CARD, IsSignature, PreparedFits, WrittenFits, IfThere, Legal, Fits, size, writtenSize}
 use Rattle.wire.specs.Proof.{PreparedProof}
 use Rattle.wire.specs.Sha256.{sha256}
-use Rattle.protocol.specs.Client.{done, Turn, currentCard, bestProof, lastWritten, built, withSignature, withSignatures, withDigest, withLastWritten, isNew, bestOf, showedBy, toPrepare, afterStamp, onStamp, afterPrepared, onPrepared, afterWritten, afterWriteBack, onWritten, afterCard, onCard}
+use Rattle.protocol.specs.Client.{done, Turn, currentCard, bestProof, lastWritten, built, withSignature, withSignatures, withDigest, withLastWritten, enough, isNew, bestOf, showedBy, toPrepare, afterStamp, onStamp, afterPrepared, onPrepared, afterWritten, afterWriteBack, onWritten, afterCard, onCard}
 use Rattle.protocol.specs.Parts.{startCard, entriesIn, ifIssued, cardStands}
 use Rattle.protocol.specs.declared.client.Client.{Client}
 use Rattle.protocol.specs.declared.client.Phase.{Phase}
@@ -133,7 +133,7 @@ module _ (before : Client) (verdicts : List ℕ) (message : Message) (passed : P
     after-stamp : Accepts (ClientFacts before verdicts message) (afterStamp nonce (bestOf best proof) (with counts sender) client)
     unfolding afterStamp
     after-stamp =
-        by-cases (λ quorum. to-prepare (quorum-before client kept (with counts sender) quorum) (successor (bestOf best proof) (client .id)) refl)
+        by-cases (enough client (with counts sender)) (λ quorum. to-prepare (quorum-before client kept (with counts sender) quorum) (successor (bestOf best proof) (client .id)) refl)
         (λ few. by-value (took _ (phase-kept before client kept (Stamps nonce (bestOf best proof) (with counts sender))) best-fit tt
         (stamp-counted sender nonce proof best counts is-message at new same-card leaves)))
 
@@ -151,7 +151,7 @@ module _ (before : Client) (verdicts : List ℕ) (message : Message) (passed : P
         let entries-fit = built-fit (replicaCount (before .f)) replicas signatures (omega arith) signatures-fit in
         let few = built-few (replicaCount (before .f)) replicas signatures in
         let proof : PreparedProof = record { timestamp = number timestamp; digest = before .digest; entries = built before replicas signatures } in
-        by-cases
+        by-cases (enough before replicas)
         (λ quorum. by-value (took _
         (phase-kept before (withSignatures (replicate 1_024 0) before) (signatures-changed before before (itself-kept before fits) (replicate 1_024 0) (zeros-fit 1_024)) (Writtens timestamp empty))
         timestamp-fits
@@ -167,7 +167,7 @@ module _ (before : Client) (verdicts : List ℕ) (message : Message) (passed : P
     after-written is-message at =
         let replicas = with counts sender in
         let entries-fit = built-fit (replicaCount (before .f)) replicas signatures (omega arith) signatures-fit in
-        by-cases
+        by-cases (enough before replicas)
         (λ quorum. by-value (took _
         (phase-kept before (withLastWritten timestamp (built before replicas signatures) (withSignatures signatures before))
         (written-changed before (withSignatures signatures before) signed-kept timestamp (built before replicas signatures) timestamp-fits entries-fit) Idle)
@@ -180,7 +180,7 @@ module _ (before : Client) (verdicts : List ℕ) (message : Message) (passed : P
       → message ≡ WRITTEN sender (number timestamp) → before .phase ≡ WriteBack timestamp counts → Accepts (ClientFacts before verdicts message) (afterWriteBack timestamp (with counts sender) before)
   unfolding afterWriteBack
   after-write-back sender timestamp counts timestamp-fits new is-message at =
-      by-cases
+      by-cases (enough before (with counts sender))
       (λ quorum. by-value (took _ (phase-kept before before (itself-kept before fits) Idle) tt tt
       (back-enough sender timestamp counts is-message at new quorum leaves)))
       (λ less. by-value (took _ (phase-kept before before (itself-kept before fits) (WriteBack timestamp (with counts sender))) timestamp-fits tt
@@ -192,21 +192,31 @@ module _ (before : Client) (verdicts : List ℕ) (message : Message) (passed : P
       → (client : Client) → Kept before client → currentCard client ≡ betterCard best proof card before
       → Accepts (ClientFacts before verdicts message) (afterCard nonce (bestOf best proof) (with counts sender) (showedBy best proof sender showed) client)
   unfolding afterCard
-  after-card sender nonce card proof best counts showed best-fit is-message at new stands client kept better =
-      let now = bestOf best proof in
-      let showing = showedBy best proof sender showed in
-      by-cases
-      (λ quorum.
-      let full = quorum-before client kept (with counts sender) quorum in
-      by-cases
-      (λ agree. by-value (took _ (phase-kept before client kept Idle) tt tt
-      (cards-agree sender nonce card proof best counts showed is-message at new stands full (quorum-before client kept showing agree)
-      (record { answer-is = ap (done now) better; phase-is = refl }))))
-      (λ differ. by-value (took _ (phase-kept before client kept (WriteBack now showing)) best-fit
-      (write-legal client (kept .fits) (bestProof client now) (proof-fits client (kept .fits) now best-fit) (entries-in-length (client .entries) (client .«entry_count»)))
-      (cards-differ sender nonce card proof best counts showed (bestProof client now) is-message at new stands full better (record { answer-is = cc; phase-is = refl })))))
-      (λ less. by-value (took _ (phase-kept before client kept (Cards nonce now (with counts sender) showing)) best-fit tt
-      (card-counted sender nonce card proof best counts showed is-message at new stands better leaves)))
+  after-card sender nonce card proof best counts showed best-fit is-message at new stands client kept better = go (enough client (with counts sender)) (enough client showing) refl refl
+    where
+      now : Timestamp
+      now = bestOf best proof
+
+      showing : ReplicaSet
+      showing = showedBy best proof sender showed
+
+      go : (full agree : Bool) → enough client (with counts sender) ≡ full → enough client showing ≡ agree
+          → Accepts (ClientFacts before verdicts message) (afterCard nonce now (with counts sender) showing client)
+      go true true quorum agree =
+          simp (quorum, agree)
+          (by-value (took _ (phase-kept before client kept _) tt tt
+          (cards-agree sender nonce card proof best counts showed is-message at new stands (quorum-before client kept (with counts sender) quorum) (quorum-before client kept showing agree)
+          (record { answer-is = ap (done now) better; phase-is = refl }))))
+      go true false quorum differ =
+          simp (quorum, differ)
+          (by-value (took _ (phase-kept before client kept _) best-fit
+          (write-legal client (kept .fits) (bestProof client now) (proof-fits client (kept .fits) now best-fit) (entries-in-length (client .entries) (client .«entry_count»)))
+          (cards-differ sender nonce card proof best counts showed (bestProof client now) is-message at new stands (quorum-before client kept (with counts sender) quorum) better
+          (record { answer-is = cc; phase-is = refl }))))
+      go false agree less agrees =
+          simp less
+          (by-value (took _ (phase-kept before client kept _) best-fit tt
+          (card-counted sender nonce card proof best counts showed is-message at new stands better leaves)))
 
 -- ---- Phases: the others await another kind
 

@@ -1,7 +1,7 @@
 -- What one step of a replica does: the facts that runs use. Assumes nothing.
 use mathlib.Core.Path.{_≡_, refl, sym, ap, subst, _∙_}
 use mathlib.Core.Logic.{_⊎_, inl, inr, ⊎-elim}
-use mathlib.Core.Bool.{Bool, true, false, _&&_, cond}
+use mathlib.Core.Bool.{Bool, true, false, cond, false≢true}
 use mathlib.Core.List.{List}
 use mathlib.Core.Option.{Option, none, some}
 use Prim.Native.Nat.{ℕ, _+_, _-_, _*_, _/_, _%_, _^_, _≤_, _<_}
@@ -10,27 +10,27 @@ use borrow.Author.Tests.{ltb-true, ltb-false, leb-true, eqb-true, eqb-false}
 use lib.Dec.{eqb, leb, ltb}
 use lib.ListN.{getD, set, length-set}
 use lib.Seq.{getD-set-same, getD-set-other}
-use Rattle.base.specs.Outcome.{Outcome, accepted, refused, guard, _>>=_}
+use Rattle.base.specs.Outcome.{accepted, guard}
 use Rattle.base.specs.Party.{isClient}
 use Rattle.base.specs.Same.{same}
 use Rattle.base.specs.Timestamp.{number, ofNumber, successor}
 use Rattle.base.specs.declared.party.ClientId.{ClientId}
 use Rattle.base.specs.declared.party.ReplicaId.{ReplicaId}
 use Rattle.base.specs.declared.timestamp.Timestamp.{Timestamp}
-use Rattle.base.proofs.Booleans.{and-true-both, or-true}
-use Rattle.base.proofs.Outcome.{guard-accepted}
+use Rattle.base.proofs.Booleans.{and-true-both}
 use Rattle.base.proofs.Range.{bounds}
 use Rattle.base.proofs.Same.{same-equal}
 use Rattle.wire.specs.Message.{Message, READ-STAMP, PREPARE, WRITE, READ, STAMP, PREPARED, WRITTEN, CARD, IfThere, IsDigest, PreparedFits, WrittenFits, CardFits, Fits, preparedSize, size, Legal}
 use Rattle.wire.specs.Acceptance.{senderOf, inItsRange}
 use Rattle.wire.specs.Checks.{writtenOf}
 use Rattle.wire.specs.Proof.{PreparedProof, WrittenProof}
-use Rattle.protocol.specs.Parts.{entriesIn, cardStands}
-use Rattle.protocol.specs.Replica.{Reply, heldTimestamp, heldProof, heldCard, slotCount, slotDigest, slotTimestamp, raised, withWritten, withSlot, holding, withSlots, withHeld, slotIs, slotTakes, isOwn, isTimestamp, afterPrepare, afterWrite, answering, onRequest}
+use Rattle.protocol.specs.Parts.{entriesIn}
+use Rattle.protocol.specs.Replica.{Reply, heldTimestamp, heldProof, heldCard, slotCount, slotDigest, slotTimestamp, raised, withWritten, withSlot, holding, withSlots, withHeld, slotIs, slotTakes, isTimestamp, afterPrepare, afterWrite, onReadStamp, onPrepare, onWrite, onRead, onRequest}
 use Rattle.protocol.specs.declared.replica.Held.{Held}
 use Rattle.protocol.specs.declared.replica.Replica.{Replica}
 use Rattle.protocol.specs.declared.replica.Slots.{Slots}
 use Rattle.protocol.proofs.ArrayLaws.{replaced-length, replaced-bytes, replaced-here, replaced-before, replaced-behind, filled-fits, card-in-bytes, card-in-short, entries-in-length, entries-in-fit, entries-filled, issued-there, issued-timestamp, issued-size}
+use Rattle.protocol.proofs.Accepts.{Accepts, by-test, by-value, by-refusal, by-guard, by-next}
 use Rattle.protocol.proofs.Fit.{SlotsFit, HeldFits, ReplicaFits}
 use Rattle.wire.proofs.Passed.{Passed}
 use Rattle.wire.specs.Parts.{preparedTimestamp}
@@ -125,11 +125,10 @@ written-legal id timestamp hi ht = record { fits = (hi, ht); short = omega arith
 -- ---- READ-STAMP and READ
 
 stamp-facts : (before : Replica) (verdicts : List ℕ) (client : ClientId) (nonce : ℕ) → ReplicaFits before → Fits (READ-STAMP client nonce)
-    → Passed (before .f) (READ-STAMP client nonce) verdicts
-    → ReplicaFacts before verdicts (READ-STAMP client nonce) (record { message = STAMP (before .id) nonce (heldProof (before .register .held)) client; next = before })
+    → Passed (before .f) (READ-STAMP client nonce) verdicts → Accepts (ReplicaFacts before verdicts (READ-STAMP client nonce)) (onReadStamp before client nonce)
 unfolding Fits
 stamp-facts before verdicts client nonce fits message-fits passed =
-    record {
+    by-value (record {
       same-f = refl;
       same-id = refl;
       fits = fits;
@@ -144,13 +143,13 @@ stamp-facts before verdicts client nonce fits message-fits passed =
       written-rises = omega arith;
       written-shown = inl refl;
       slot-change = λ c low high. inl refl;
-    }
+    })
 
 card-facts : (before : Replica) (verdicts : List ℕ) (client : ClientId) (nonce : ℕ) → ReplicaFits before → Fits (READ client nonce) → Passed (before .f) (READ client nonce) verdicts
-    → ReplicaFacts before verdicts (READ client nonce) (record { message = CARD (before .id) nonce (heldCard (before .register .held)) (heldProof (before .register .held)) client; next = before })
+    → Accepts (ReplicaFacts before verdicts (READ client nonce)) (onRead before client nonce)
 unfolding Fits
 card-facts before verdicts client nonce fits message-fits passed =
-    record {
+    by-value (record {
       same-f = refl;
       same-id = refl;
       fits = fits;
@@ -165,27 +164,33 @@ card-facts before verdicts client nonce fits message-fits passed =
       written-rises = omega arith;
       written-shown = inl refl;
       slot-change = λ c low high. inl refl;
-    }
+    })
 
 -- ---- WRITE
+
+-- What is held after a WRITE: at least its timestamp, and nothing earlier than before.
+record Stored (before : Held) (timestamp : ℕ) (after : Held) : Type 0 where
+  holds : timestamp ≤ heldTimestamp after
+  rises : heldTimestamp before ≤ heldTimestamp after
+  fits : HeldFits after
 
 module _ (before : Replica) (verdicts : List ℕ) (client : ClientId) (card : List ℕ) (proof : PreparedProof) (fits : ReplicaFits before)
     (message-fits : Fits (WRITE client card proof)) (passed : Passed (before .f) (WRITE client card proof) verdicts) where
   -- WRITTEN, with what is held afterwards; the slots are as they were.
-  wrote : (after : Held) → HeldFits after → heldTimestamp (before .register .held) ≤ heldTimestamp after → proof .timestamp ≤ heldTimestamp after
+  wrote : (after : Held) → Stored (before .register .held) (proof .timestamp) after
       → ReplicaFacts before verdicts (WRITE client card proof) (record { message = WRITTEN (before .id) (proof .timestamp); next = withHeld before after })
   unfolding Fits
-  wrote after after-fits rises holds =
+  wrote after stored =
       record {
         same-f = refl;
         same-id = refl;
-        fits = record { id-fits = fits .id-fits; slots-fit = fits .slots-fit; held-fits = after-fits };
+        fits = record { id-fits = fits .id-fits; slots-fit = fits .slots-fit; held-fits = stored .fits };
         legal = written-legal (before .id) (proof .timestamp) (fits .id-fits) (message-fits .2 .0);
         passed = passed;
-        held-rises = rises;
+        held-rises = stored .rises;
         slots-rise = λ c low high. inl (refl, refl);
         prepared-sent = λ id timestamp digest e. let z : _≡_ {A = ℕ} 0 1 = cc in absurd (omega arith);
-        written-sent = λ id timestamp e. (cc, let z : proof .timestamp ≡ timestamp = cc in omega arith);
+        written-sent = λ id timestamp e. (cc, let z : proof .timestamp ≡ timestamp = cc in omega (arith, stored .holds));
         stamp-sent = λ id asked proof c e. let z : _≡_ {A = ℕ} 0 1 = cc in absurd (omega arith);
         card-sent = λ id asked card proof c e. let z : _≡_ {A = ℕ} 0 1 = cc in absurd (omega arith);
         written-rises = omega arith;
@@ -203,18 +208,19 @@ module _ (before : Replica) (verdicts : List ℕ) (client : ClientId) (card : Li
         entries-fit = entries-filled (proof .entries) (message-fits .2 .2 .1);
       }
 
-  write-facts : ReplicaFacts before verdicts (WRITE client card proof) (record { message = WRITTEN (before .id) (proof .timestamp); next = withHeld before (afterWrite card proof (before .register .held)) })
+  stored : Stored (before .register .held) (proof .timestamp) (afterWrite card proof (before .register .held))
   unfolding afterWrite
-  write-facts = go (ltb (heldTimestamp (before .register .held)) (proof .timestamp)) refl
-    where
-      go : (b : Bool) → ltb (heldTimestamp (before .register .held)) (proof .timestamp) ≡ b
-          → ReplicaFacts before verdicts (WRITE client card proof) (record { message = WRITTEN (before .id) (proof .timestamp); next = withHeld before (cond b (holding card proof) (before .register .held)) })
-      go true larger =
-          let l = ltb-true (heldTimestamp (before .register .held)) (proof .timestamp) larger in
-          wrote (holding card proof) holding-fits (omega arith) (omega arith)
-      go false larger =
-          let l = ltb-false (heldTimestamp (before .register .held)) (proof .timestamp) larger in
-          wrote (before .register .held) (fits .held-fits) (omega arith) l
+  stored =
+      by-test (Stored (before .register .held) (proof .timestamp))
+      (λ larger.
+      let l = ltb-true (heldTimestamp (before .register .held)) (proof .timestamp) larger in
+      record { holds = omega arith; rises = omega arith; fits = holding-fits })
+      (λ other.
+      let l = ltb-false (heldTimestamp (before .register .held)) (proof .timestamp) other in
+      record { holds = l; rises = omega arith; fits = fits .held-fits })
+
+  write-facts : Accepts (ReplicaFacts before verdicts (WRITE client card proof)) (onWrite before card proof)
+  write-facts = by-guard 14 (λ stands. by-value (wrote (afterWrite card proof (before .register .held)) stored))
 
 -- ---- PREPARE
 
@@ -313,14 +319,15 @@ next-number timestamp t client e = go (eqb (t .count) 4_294_967_295) e
 takes-cases : (client : ClientId) (timestamp written : ℕ) (slots : Slots) → slotTakes client timestamp written slots ≡ true
     → (slotCount slots client ≡ 0) ⊎ ((slotTimestamp slots client ≤ written) × (slotTimestamp slots client < timestamp))
 takes-cases client timestamp written slots e =
-    ⊎-elim (λ unused. inl (eqb-true (slotCount slots client) 0 unused)) (λ closed. inr (both closed))
-    (or-true (eqb (slotCount slots client) 0) (leb (slotTimestamp slots client) written && ltb (slotTimestamp slots client) timestamp) e)
+    go (eqb (slotCount slots client) 0) (leb (slotTimestamp slots client) written) (ltb (slotTimestamp slots client) timestamp) refl refl refl
   where
-    both : (leb (slotTimestamp slots client) written && ltb (slotTimestamp slots client) timestamp) ≡ true
-        → (slotTimestamp slots client ≤ written) × (slotTimestamp slots client < timestamp)
-    both k =
-        let b = and-true-both (leb (slotTimestamp slots client) written) (ltb (slotTimestamp slots client) timestamp) k in
-        (leb-true (slotTimestamp slots client) written (b .0), ltb-true (slotTimestamp slots client) timestamp (b .1))
+    go : (unused closed below : Bool) → eqb (slotCount slots client) 0 ≡ unused → leb (slotTimestamp slots client) written ≡ closed → ltb (slotTimestamp slots client) timestamp ≡ below
+        → (slotCount slots client ≡ 0) ⊎ ((slotTimestamp slots client ≤ written) × (slotTimestamp slots client < timestamp))
+    go true closed below u c b = inl (eqb-true (slotCount slots client) 0 u)
+    go false true true u c b = inr (leb-true (slotTimestamp slots client) written c, ltb-true (slotTimestamp slots client) timestamp b)
+    -- Neither: then it is not taken.
+    go false true false u c b = absurd (false≢true (simp (u, c, b) at e))
+    go false false below u c b = absurd (false≢true (simp (u, c) at e))
 
 -- A client is this one, or has another number.
 for-each : (P : ClientId → Type 0) (client c : ClientId) → P client → ((c .0 ≡ client .0 → ⊥) → P c) → P c
@@ -345,12 +352,14 @@ module _ (before : Replica) (verdicts : List ℕ) (client : ClientId) (timestamp
   own-count : 1 ≤ timestamp / 256
   own-count = omega (arith, next-number timestamp (ofNumber (preparedTimestamp proof)) client is-next)
 
-  -- PREPARED, with the slots afterwards; what is held is as it was.
+  -- The facts of PREPARED, with the slots afterwards; what is held is as it was.
+  abbrev After : Slots → Type 0
+  After after = ReplicaFacts before verdicts (PREPARE client timestamp digest proof last) (record { message = PREPARED (before .id) timestamp digest; next = withSlots before after })
+
   prepared : (after : Slots) → SlotsFit after → number (after .written) ≡ raised last (before .register .slots)
       → ((c : ClientId) → 1 ≤ c .0 → c .0 ≤ 64 → SlotRises (before .register .slots) after c)
       → slotCount after client ≡ timestamp / 256 → slotDigest after client ≡ digest
-      → ((c : ClientId) → 1 ≤ c .0 → c .0 ≤ 64 → SlotChange (before .register .slots) after (PREPARE client timestamp digest proof last) c)
-      → ReplicaFacts before verdicts (PREPARE client timestamp digest proof last) (record { message = PREPARED (before .id) timestamp digest; next = withSlots before after })
+      → ((c : ClientId) → 1 ≤ c .0 → c .0 ≤ 64 → SlotChange (before .register .slots) after (PREPARE client timestamp digest proof last) c) → After after
   unfolding Fits
   prepared after after-fits written rise count-is digest-is change =
       record {
@@ -379,9 +388,7 @@ module _ (before : Replica) (verdicts : List ℕ) (client : ClientId) (timestamp
   written-fits = raised-fits last (before .register .slots) (fits .slots-fit) (message-fits .4)
 
   -- The slot has timestamp and digest already.
-  prepared-again : slotIs client timestamp digest (before .register .slots) ≡ true
-      → ReplicaFacts before verdicts (PREPARE client timestamp digest proof last)
-      (record { message = PREPARED (before .id) timestamp digest; next = withSlots before (withWritten (raised last (before .register .slots)) (before .register .slots)) })
+  prepared-again : slotIs client timestamp digest (before .register .slots) ≡ true → After (withWritten (raised last (before .register .slots)) (before .register .slots))
   prepared-again e =
       let both = and-true-both (eqb (slotTimestamp (before .register .slots) client) timestamp) (same (slotDigest (before .register .slots) client) digest) e in
       let stands = eqb-true (slotTimestamp (before .register .slots) client) timestamp (both .0) in
@@ -429,7 +436,7 @@ module _ (before : Replica) (verdicts : List ℕ) (client : ClientId) (timestamp
         let put : slotTimestamp after-put client ≡ timestamp = omega (arith, count-put) in
         inr (⊎-elim (λ unused. inl unused) (λ closed. inr (omega arith)) cases, (digest, proof, last, rw put refl))
 
-    prepared-new : ReplicaFacts before verdicts (PREPARE client timestamp digest proof last) (record { message = PREPARED (before .id) timestamp digest; next = withSlots before after-put })
+    prepared-new : After after-put
     unfolding Fits after-put
     prepared-new =
         prepared after-put
@@ -440,70 +447,37 @@ module _ (before : Replica) (verdicts : List ℕ) (client : ClientId) (timestamp
         count-put digest-put
         (λ c low high. for-each (λ c. SlotChange (before .register .slots) after-put (PREPARE client timestamp digest proof last) c) client c sender-change (λ other. inl (others-kept c low other .0)))
 
-  prepare-facts : (after : Slots) → afterPrepare client timestamp digest last (before .register .slots) ≡ accepted after
-      → ReplicaFacts before verdicts (PREPARE client timestamp digest proof last) (record { message = PREPARED (before .id) timestamp digest; next = withSlots before after })
-  unfolding afterPrepare after-put
-  prepare-facts after e = go (slotIs client timestamp digest (before .register .slots)) refl e
+  after-prepare : Accepts After (afterPrepare client timestamp digest last (before .register .slots))
+  unfolding afterPrepare guard after-put
+  after-prepare = go (slotIs client timestamp digest (before .register .slots)) (slotTakes client timestamp (raised last (before .register .slots)) (before .register .slots)) refl refl
     where
-      Facts : Slots → Type 0
-      Facts slots =
-          ReplicaFacts before verdicts (PREPARE client timestamp digest proof last) (record { message = PREPARED (before .id) timestamp digest; next = withSlots before slots })
+      go : (is takes : Bool) → slotIs client timestamp digest (before .register .slots) ≡ is → slotTakes client timestamp (raised last (before .register .slots)) (before .register .slots) ≡ takes
+          → Accepts After (afterPrepare client timestamp digest last (before .register .slots))
+      go true takes stands t = simp stands (by-value (prepared-again stands))
+      go false true other t = simp (other, t) (by-value (prepared-new t))
+      go false false other t = simp (other, t) by-refusal
 
-      written : ℕ
-      written = raised last (before .register .slots)
-
-      again : Slots
-      again = withWritten written (before .register .slots)
-
-      put : Slots
-      put = withWritten written (withSlot client timestamp digest (before .register .slots))
-
-      go : (b : Bool) → slotIs client timestamp digest (before .register .slots) ≡ b
-          → cond b (accepted again) (guard 15 (slotTakes client timestamp written (before .register .slots)) (accepted put)) ≡ accepted after → Facts after
-      go true stands k = let same : again ≡ after = cc in subst Facts same (prepared-again stands)
-      go false stands k =
-          let taken = guard-accepted 15 (slotTakes client timestamp written (before .register .slots)) (accepted put) after k in
-          let taken-as = taken .1 in
-          let same : put ≡ after = cc in
-          subst Facts same (prepared-new (taken .0))
+prepare-facts : (before : Replica) (verdicts : List ℕ) (client : ClientId) (timestamp : ℕ) (digest : List ℕ) (proof : Option PreparedProof) (last : Option WrittenProof) → ReplicaFits before
+    → Fits (PREPARE client timestamp digest proof last) → Passed (before .f) (PREPARE client timestamp digest proof last) verdicts → isClient client ≡ true
+    → Accepts (ReplicaFacts before verdicts (PREPARE client timestamp digest proof last)) (onPrepare before client timestamp digest proof last)
+prepare-facts before verdicts client timestamp digest proof last fits message-fits passed from-client =
+    by-guard 12 (λ own. by-guard 13 (λ is-next.
+    by-next (after-prepare before verdicts client timestamp digest proof last fits message-fits passed from-client is-next) (λ after facts. by-value facts)))
 
 -- ---- All kinds
 
--- What is answered after an outcome.
-answered : (replica : Replica) (message : Message) (outcome : Outcome Slots) (reply : Reply)
-    → (outcome >>= λ slots. answering message (withSlots replica slots)) ≡ accepted reply
-    → (after : Slots) × (outcome ≡ accepted after) × (_≡_ {A = Reply} (record { message = message; next = withSlots replica after }) reply)
-answered replica message (accepted after) reply e = (after, refl, (cc))
-answered replica message (refused number) reply e = let z : _≡_ {A = ℕ} 0 1 = cc in absurd (omega arith)
+module _ (before : Replica) (verdicts : List ℕ) (fits : ReplicaFits before) where
+  facts : (message : Message) → Fits message → inItsRange (before .f) (senderOf message) ≡ true → Passed (before .f) message verdicts → Accepts (ReplicaFacts before verdicts message) (onRequest before message)
+  unfolding onRequest
+  facts (READ-STAMP client nonce) message-fits ranged passed = stamp-facts before verdicts client nonce fits message-fits passed
+  facts (PREPARE client timestamp digest proof last) message-fits ranged passed = prepare-facts before verdicts client timestamp digest proof last fits message-fits passed ranged
+  facts (WRITE client card proof) message-fits ranged passed = write-facts before verdicts client card proof fits message-fits passed
+  facts (READ client nonce) message-fits ranged passed = card-facts before verdicts client nonce fits message-fits passed
+  facts (STAMP sender nonce proof client) message-fits ranged passed = by-refusal
+  facts (PREPARED sender timestamp digest) message-fits ranged passed = by-refusal
+  facts (WRITTEN sender timestamp) message-fits ranged passed = by-refusal
+  facts (CARD sender nonce card proof client) message-fits ranged passed = by-refusal
 
 pub replica-facts : (before : Replica) (verdicts : List ℕ) (message : Message) (reply : Reply) → ReplicaFits before → Rattle.wire.specs.Message.Fits message
     → inItsRange (before .f) (senderOf message) ≡ true → Passed (before .f) message verdicts → onRequest before message ≡ accepted reply → ReplicaFacts before verdicts message reply
-unfolding onRequest
-replica-facts before verdicts (READ-STAMP client nonce) reply fits message-fits ranged passed e =
-    let made : Reply = record { message = STAMP (before .id) nonce (heldProof (before .register .held)) client; next = before } in
-    let same : made ≡ reply = cc in
-    subst (ReplicaFacts before verdicts (READ-STAMP client nonce)) same (stamp-facts before verdicts client nonce fits message-fits passed)
-replica-facts before verdicts (PREPARE client timestamp digest proof last) reply fits message-fits ranged passed e =
-    let request = PREPARE client timestamp digest proof last in
-    let prepared = afterPrepare client timestamp digest last (before .register .slots) in
-    let made : Outcome Reply = prepared >>= λ slots. answering (PREPARED (before .id) timestamp digest) (withSlots before slots) in
-    let is-next = isTimestamp timestamp (successor (ofNumber (preparedTimestamp proof)) client) in
-    let twelfth = guard-accepted 12 (isOwn client last) (guard 13 is-next made) reply e in
-    let thirteenth = guard-accepted 13 is-next made reply (twelfth .1) in
-    let a = answered before (PREPARED (before .id) timestamp digest) prepared reply (thirteenth .1) in
-    subst (ReplicaFacts before verdicts request) (a .2)
-    (prepare-facts before verdicts client timestamp digest proof last fits message-fits passed ranged (thirteenth .0) (a .0) (a .1))
-replica-facts before verdicts (WRITE client card proof) reply fits message-fits ranged passed e =
-    let made : Reply = record { message = WRITTEN (before .id) (proof .timestamp); next = withHeld before (afterWrite card proof (before .register .held)) } in
-    let fourteenth = guard-accepted 14 (cardStands card (some proof)) (accepted made) reply e in
-    let answers = fourteenth .1 in
-    let same : made ≡ reply = cc in
-    subst (ReplicaFacts before verdicts (WRITE client card proof)) same (write-facts before verdicts client card proof fits message-fits passed)
-replica-facts before verdicts (READ client nonce) reply fits message-fits ranged passed e =
-    let made : Reply = record { message = CARD (before .id) nonce (heldCard (before .register .held)) (heldProof (before .register .held)) client; next = before } in
-    let same : made ≡ reply = cc in
-    subst (ReplicaFacts before verdicts (READ client nonce)) same (card-facts before verdicts client nonce fits message-fits passed)
-replica-facts before verdicts (STAMP sender nonce proof client) reply fits message-fits ranged passed e = let z : _≡_ {A = ℕ} 0 1 = cc in absurd (omega arith)
-replica-facts before verdicts (PREPARED sender timestamp digest) reply fits message-fits ranged passed e = let z : _≡_ {A = ℕ} 0 1 = cc in absurd (omega arith)
-replica-facts before verdicts (WRITTEN sender timestamp) reply fits message-fits ranged passed e = let z : _≡_ {A = ℕ} 0 1 = cc in absurd (omega arith)
-replica-facts before verdicts (CARD sender nonce card proof client) reply fits message-fits ranged passed e = let z : _≡_ {A = ℕ} 0 1 = cc in absurd (omega arith)
+replica-facts before verdicts message reply fits message-fits ranged passed e = facts before verdicts fits message message-fits ranged passed .holds reply e

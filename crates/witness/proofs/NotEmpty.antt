@@ -1,4 +1,4 @@
--- A run at f = 1 that meets the premises: a write, a read in one phase, a read that writes back; replica 4 is faulty. Assumes nothing.
+-- A run at f = 1 that meets the premises, so that the theorem says something of it: three writes, two reads, replica 4 and client 4 faulty. Assumes nothing.
 use mathlib.Core.Path.{_≡_, refl, subst}
 use mathlib.Core.Bool.{true, false, false≢true}
 use mathlib.Core.List.{List, [], _∷_}
@@ -6,49 +6,35 @@ use mathlib.Core.Option.{none, some}
 use Prim.Native.Nat.{ℕ, _<_}
 use lib.Dec.{lit<, lit≤}
 use Rattle.base.specs.Counting.{count}
-use Rattle.base.specs.Outcome.{accepted}
+use Rattle.base.specs.Outcome.{accepted, refused}
 use Rattle.base.specs.Range.{within}
 use Rattle.base.specs.declared.party.ClientId.{ClientId}
 use Rattle.base.specs.declared.party.ReplicaId.{ReplicaId}
 use Rattle.base.specs.declared.timestamp.Timestamp.{Timestamp}
-use Rattle.protocol.specs.Client.{Answer, send, counted, done}
+use Rattle.protocol.specs.Client.{send, counted, done}
 use Rattle.protocol.specs.Parts.{startCard}
-use Rattle.run.specs.Claims.{Finished, Genuine}
-use Rattle.run.specs.Premises.{Premises, preparedSignatures}
+use Rattle.run.proofs.Demand3.{demand-3}
+use Rattle.run.specs.Claims.{Finished, Genuine, Claims}
+use Rattle.run.specs.Premises.{Premises}
+use Rattle.run.specs.Run.{begins-write, begins-read, to-replica, to-client, Run, event, answerAt, At, Correct, Sent}
 use Rattle.wire.specs.Acceptance.{replica, client}
-use Rattle.run.specs.Run.{Event, begins-write, begins-read, to-replica, to-client, Run, event, answerAt, At, Correct, Sent}
 use Rattle.wire.specs.Message.{Message, READ-STAMP, PREPARE, WRITE, READ, STAMP, PREPARED, WRITTEN, CARD}
-use Rattle.wire.specs.Proof.{PreparedProof, preparedBytes}
+use Rattle.wire.specs.Proof.{PreparedProof, WrittenProof}
 use Rattle.witness.proofs.Answers.{code}
-use Rattle.witness.proofs.Cards.{Known, rightDigests, differentDigests}
-use Rattle.witness.proofs.Cast.{replica-1, replica-2, replica-3, replica-4, client-1, client-2, client-3, 1·1, entry, from-replica, from-client, one, four}
+use Rattle.witness.proofs.Cast.{replica-1, replica-2, replica-3, replica-4, client-1, client-2, client-3, client-4, 1·1, 1·4, 2·2, 3·1, entry, from-replica, from-client, one, three, four, seven, not-genuine, service, lathe, scrapped, service-digest, lathe-digest, cards, right-digests, different-cards}
 use Rattle.witness.proofs.Computing.{messages, steps, digests}
-use Rattle.witness.proofs.Player.{plays, freshStore, played}
-use Rattle.witness.proofs.Story.{Line, each, wellTold, told, Told, hasBytes, NoOtherCards, AllTrue, trueVerdicts, true-verdicts, different-digests, none-between, only-counted, accepted-told, done-told, Sends, sends-told, allBytes, all-bytes, true-for-all}
+use Rattle.witness.proofs.Replay.{plays, freshStore, played}
+use Rattle.witness.proofs.Story.{Line, _↝_, _↛_, each, wellTold, told, Told, hasBytes, NoOtherCards, AllTrue, trueVerdicts, true-verdicts, different-digests, only-counted, Sends, sends-told, done-told, refused-told, finished-told, allBytes, genuine-told}
 
 -- ---- What is said
 
--- The card of a scrapped wheel set.
-abbrev card : List ℕ
-card = 0x00 ∷ 0x20 ∷ 0x04 ∷ []
+-- The first write: client 1 writes `service` at 1.1. The faulty replica's signature counts in the proof.
 
-abbrev digest : List ℕ
-digest =
-    0x2a ∷ 0xb7 ∷ 0x93 ∷ 0x74 ∷ 0x18 ∷ 0x5a ∷ 0x77 ∷ 0x16 ∷ 0xa7 ∷ 0xa3 ∷ 0x4b ∷ 0xee ∷ 0xa8 ∷ 0xd2 ∷ 0x07 ∷ 0xb3 ∷
-    0x1e ∷ 0xf7 ∷ 0x61 ∷ 0x18 ∷ 0x0c ∷ 0x71 ∷ 0xd7 ∷ 0xc3 ∷ 0xd5 ∷ 0x15 ∷ 0x0d ∷ 0x06 ∷ 0x85 ∷ 0x04 ∷ 0x82 ∷ 0x7e ∷ []
+abbrev at-1·1 : Timestamp
+at-1·1 = record { count = 1; client = client-1 }
 
-abbrev start-digest : List ℕ
-start-digest =
-    0x96 ∷ 0xa2 ∷ 0x96 ∷ 0xd2 ∷ 0x24 ∷ 0xf2 ∷ 0x85 ∷ 0xc6 ∷ 0x7b ∷ 0xee ∷ 0x93 ∷ 0xc3 ∷ 0x0f ∷ 0x8a ∷ 0x30 ∷ 0x91 ∷
-    0x57 ∷ 0xf0 ∷ 0xda ∷ 0xa3 ∷ 0x5d ∷ 0xc5 ∷ 0xb8 ∷ 0x7e ∷ 0x41 ∷ 0x0b ∷ 0x78 ∷ 0x63 ∷ 0x0a ∷ 0x09 ∷ 0xcf ∷ 0xc7 ∷ []
-
--- 1.1
-abbrev timestamp : Timestamp
-timestamp = record { count = 1; client = client-1 }
-
--- The faulty replica's signature counts in it.
 abbrev proof : PreparedProof
-proof = record { timestamp = 1·1; digest = digest; entries = entry replica-1 ∷ entry replica-2 ∷ entry replica-4 ∷ [] }
+proof = record { timestamp = 1·1; digest = service-digest; entries = entry replica-1 ∷ entry replica-2 ∷ entry replica-4 ∷ [] }
 
 abbrev asks-stamp : Message
 asks-stamp = READ-STAMP client-1 1
@@ -57,40 +43,100 @@ abbrev stamp : ReplicaId → Message
 stamp id = STAMP id 1 none client-1
 
 abbrev prepare : Message
-prepare = PREPARE client-1 1·1 digest none none
+prepare = PREPARE client-1 1·1 service-digest none none
 
 abbrev prepared : ReplicaId → Message
-prepared id = PREPARED id 1·1 digest
+prepared id = PREPARED id 1·1 service-digest
 
 abbrev write : Message
-write = WRITE client-1 card proof
+write = WRITE client-1 service proof
 
 abbrev written : ReplicaId → Message
 written id = WRITTEN id 1·1
+
+-- The reads of clients 2 and 3. A stale CARD shows 0.0, as if nothing had been written.
 
 abbrev asks-card : ClientId → Message
 asks-card id = READ id 1
 
 abbrev shows : ClientId → ReplicaId → Message
-shows to id = CARD id 1 card (some proof) to
+shows to id = CARD id 1 service (some proof) to
 
--- The starting card, as if nothing had been written.
 abbrev stale : ReplicaId → Message
 stale id = CARD id 1 startCard none client-3
 
 abbrev write-back : Message
-write-back = WRITE client-3 card proof
+write-back = WRITE client-3 service proof
 
--- ---- What happens: replicas 1 to 3 and clients 1 to 3 are correct, replica 4 is faulty
+-- Client 4 asks for 1.4 with any digest, and shows the proof of 1.1 with another card.
 
-infix 80 _↝_
-abbrev _↝_ : Event → Answer → Line
-event ↝ answer = record { event = event; answer = answer }
+abbrev asks-1·4 : List ℕ → Message
+asks-1·4 digest = PREPARE client-4 1·4 digest none none
+
+abbrev other-card : Message
+other-card = WRITE client-4 scrapped proof
+
+-- The second write: client 2 writes `lathe` at 2.2, and shows the proof of 1.1.
+
+abbrev at-2·2 : Timestamp
+at-2·2 = record { count = 2; client = client-2 }
+
+abbrev proof-2 : PreparedProof
+proof-2 = record { timestamp = 2·2; digest = lathe-digest; entries = entry replica-1 ∷ entry replica-2 ∷ entry replica-4 ∷ [] }
+
+abbrev asks-stamp-2 : Message
+asks-stamp-2 = READ-STAMP client-2 2
+
+abbrev stamp-2 : ReplicaId → Message
+stamp-2 id = STAMP id 2 (some proof) client-2
+
+abbrev prepare-2 : Message
+prepare-2 = PREPARE client-2 2·2 lathe-digest (some proof) none
+
+abbrev prepared-2 : ReplicaId → Message
+prepared-2 id = PREPARED id 2·2 lathe-digest
+
+abbrev write-2 : Message
+write-2 = WRITE client-2 lathe proof-2
+
+abbrev written-2 : ReplicaId → Message
+written-2 id = WRITTEN id 2·2
+
+-- The third write: client 1 writes `service` again at 3.1, and shows the proof of 2.2 and its own written proof of 1.1.
+
+abbrev at-3·1 : Timestamp
+at-3·1 = record { count = 3; client = client-1 }
+
+abbrev own-written : WrittenProof
+own-written = record { timestamp = 1·1; entries = entry replica-1 ∷ entry replica-2 ∷ entry replica-4 ∷ [] }
+
+abbrev proof-3 : PreparedProof
+proof-3 = record { timestamp = 3·1; digest = service-digest; entries = entry replica-1 ∷ entry replica-2 ∷ entry replica-4 ∷ [] }
+
+abbrev asks-stamp-3 : Message
+asks-stamp-3 = READ-STAMP client-1 2
+
+abbrev stamp-3 : ReplicaId → Message
+stamp-3 id = STAMP id 2 (some proof-2) client-1
+
+abbrev prepare-3 : Message
+prepare-3 = PREPARE client-1 3·1 service-digest (some proof-2) (some own-written)
+
+abbrev prepared-3 : ReplicaId → Message
+prepared-3 id = PREPARED id 3·1 service-digest
+
+abbrev write-3 : Message
+write-3 = WRITE client-1 service proof-3
+
+abbrev written-3 : ReplicaId → Message
+written-3 id = WRITTEN id 3·1
+
+-- ---- What happens: replicas 1 to 3 and clients 1 to 3 are correct
 
 story : List Line
 story =
     -- 0 to 5: client 1 begins a write and gets the STAMPs of replicas 1 and 2, and one that replica 4 made up. It asks for 1.1.
-    begins-write client-1 card ↝ send asks-stamp
+    begins-write client-1 service ↝ send asks-stamp
     ∷ to-replica replica-1 (from-client client-1 asks-stamp) one ↝ send (stamp replica-1)
     ∷ to-replica replica-2 (from-client client-1 asks-stamp) one ↝ send (stamp replica-2)
     ∷ to-client client-1 (from-replica replica-1 stamp) one ↝ counted
@@ -107,24 +153,69 @@ story =
     ∷ to-replica replica-2 (from-client client-1 write) four ↝ send (written replica-2)
     ∷ to-client client-1 (from-replica replica-1 written) one ↝ counted
     ∷ to-client client-1 (from-replica replica-2 written) one ↝ counted
-    ∷ to-client client-1 (from-replica replica-4 written) one ↝ done timestamp card
+    ∷ to-client client-1 (from-replica replica-4 written) one ↝ done at-1·1 service
     -- 16 to 21: client 2 reads. Replicas 1, 2 and 4 show 1.1: it is done in one phase.
     ∷ begins-read client-2 ↝ send (asks-card client-2)
     ∷ to-replica replica-1 (from-client client-2 (asks-card client-2)) one ↝ send (shows client-2 replica-1)
     ∷ to-replica replica-2 (from-client client-2 (asks-card client-2)) one ↝ send (shows client-2 replica-2)
     ∷ to-client client-2 (from-replica replica-1 (shows client-2)) four ↝ counted
     ∷ to-client client-2 (from-replica replica-2 (shows client-2)) four ↝ counted
-    ∷ to-client client-2 (from-replica replica-4 (shows client-2)) four ↝ done timestamp card
-    -- 22 to 27: client 3 reads. Replica 4 shows 0.0, so that only two show 1.1: it is written back.
+    ∷ to-client client-2 (from-replica replica-4 (shows client-2)) four ↝ done at-1·1 service
+    -- 22 and 23: client 4 asks replica 3 for 1.4 with one digest, and then with another.
+    ∷ to-replica replica-3 (from-client client-4 (asks-1·4 service-digest)) one ↝ send (PREPARED replica-3 1·4 service-digest)
+    ∷ to-replica replica-3 (from-client client-4 (asks-1·4 lathe-digest)) one ↛ 15
+    -- 24 to 29: client 3 reads. Replica 4 shows 0.0, so that only two show 1.1: it is written back.
     ∷ begins-read client-3 ↝ send (asks-card client-3)
     ∷ to-replica replica-1 (from-client client-3 (asks-card client-3)) one ↝ send (shows client-3 replica-1)
     ∷ to-replica replica-2 (from-client client-3 (asks-card client-3)) one ↝ send (shows client-3 replica-2)
     ∷ to-client client-3 (from-replica replica-1 (shows client-3)) four ↝ counted
     ∷ to-client client-3 (from-replica replica-2 (shows client-3)) four ↝ counted
     ∷ to-client client-3 (from-replica replica-4 stale) one ↝ send write-back
-    -- 28 and 29: replica 3, which held 0.0, takes it: the read is done.
+    -- 30 to 35: before that is done client 2 begins a write. All show 1.1, so it asks for 2.2.
+    ∷ begins-write client-2 lathe ↝ send asks-stamp-2
+    ∷ to-replica replica-1 (from-client client-2 asks-stamp-2) one ↝ send (stamp-2 replica-1)
+    ∷ to-replica replica-2 (from-client client-2 asks-stamp-2) one ↝ send (stamp-2 replica-2)
+    ∷ to-client client-2 (from-replica replica-1 stamp-2) four ↝ counted
+    ∷ to-client client-2 (from-replica replica-2 stamp-2) four ↝ counted
+    ∷ to-client client-2 (from-replica replica-4 stamp-2) four ↝ send prepare-2
+    -- 36 and 37: replica 3, which held 0.0, takes what client 3 writes back: the read is done, while the write goes on.
     ∷ to-replica replica-3 (from-client client-3 write-back) four ↝ send (written replica-3)
-    ∷ to-client client-3 (from-replica replica-3 written) one ↝ done timestamp card
+    ∷ to-client client-3 (from-replica replica-3 written) one ↝ done at-1·1 service
+    -- 38 to 42: the PREPAREDs of 2.2.
+    ∷ to-replica replica-1 (from-client client-2 prepare-2) four ↝ send (prepared-2 replica-1)
+    ∷ to-replica replica-2 (from-client client-2 prepare-2) four ↝ send (prepared-2 replica-2)
+    ∷ to-client client-2 (from-replica replica-1 prepared-2) one ↝ counted
+    ∷ to-client client-2 (from-replica replica-2 prepared-2) one ↝ counted
+    ∷ to-client client-2 (from-replica replica-4 prepared-2) one ↝ send write-2
+    -- 43 to 47: the WRITTENs of 2.2: the second write is done.
+    ∷ to-replica replica-1 (from-client client-2 write-2) four ↝ send (written-2 replica-1)
+    ∷ to-replica replica-2 (from-client client-2 write-2) four ↝ send (written-2 replica-2)
+    ∷ to-client client-2 (from-replica replica-1 written-2) one ↝ counted
+    ∷ to-client client-2 (from-replica replica-2 written-2) one ↝ counted
+    ∷ to-client client-2 (from-replica replica-4 written-2) one ↝ done at-2·2 lathe
+    -- 48 to 54: client 1 begins its second write, and is busy then. It asks for 3.1.
+    ∷ begins-write client-1 service ↝ send asks-stamp-3
+    ∷ begins-read client-1 ↛ 17
+    ∷ to-replica replica-1 (from-client client-1 asks-stamp-3) one ↝ send (stamp-3 replica-1)
+    ∷ to-replica replica-2 (from-client client-1 asks-stamp-3) one ↝ send (stamp-3 replica-2)
+    ∷ to-client client-1 (from-replica replica-1 stamp-3) four ↝ counted
+    ∷ to-client client-1 (from-replica replica-2 stamp-3) four ↝ counted
+    ∷ to-client client-1 (from-replica replica-4 stamp-3) four ↝ send prepare-3
+    -- 55 to 59: its slots at 1.1 are closed by its written proof, and take 3.1.
+    ∷ to-replica replica-1 (from-client client-1 prepare-3) seven ↝ send (prepared-3 replica-1)
+    ∷ to-replica replica-2 (from-client client-1 prepare-3) seven ↝ send (prepared-3 replica-2)
+    ∷ to-client client-1 (from-replica replica-1 prepared-3) one ↝ counted
+    ∷ to-client client-1 (from-replica replica-2 prepared-3) one ↝ counted
+    ∷ to-client client-1 (from-replica replica-4 prepared-3) one ↝ send write-3
+    -- 60 to 65: a WRITTEN in replica 2's name that it did not send has the verdict 0. Then the right ones come: the third write is done.
+    ∷ to-replica replica-1 (from-client client-1 write-3) four ↝ send (written-3 replica-1)
+    ∷ to-client client-1 (from-replica replica-2 written-3) not-genuine ↛ 8
+    ∷ to-replica replica-2 (from-client client-1 write-3) four ↝ send (written-3 replica-2)
+    ∷ to-client client-1 (from-replica replica-1 written-3) one ↝ counted
+    ∷ to-client client-1 (from-replica replica-2 written-3) one ↝ counted
+    ∷ to-client client-1 (from-replica replica-4 written-3) one ↝ done at-3·1 service
+    -- 66: client 4 shows the proof of 1.1 with another card.
+    ∷ to-replica replica-3 (from-client client-4 other-card) four ↛ 14
     ∷ []
 
 well-told : each (wellTold 3 3) 0 story ≡ true
@@ -146,22 +237,11 @@ verdicts-true : AllTrue run story
 unfolding run story messages trueVerdicts
 verdicts-true = refl
 
-cards : List Known
-cards = record { card = card; digest = digest } ∷ record { card = startCard; digest = start-digest } ∷ []
-
 no-other-cards : NoOtherCards run story cards
 unfolding story messages cards
 no-other-cards = refl
 
-right-digests : rightDigests cards ≡ true
-unfolding messages digests cards rightDigests
-right-digests = refl
-
-different-cards : differentDigests cards ≡ true
-unfolding messages cards differentDigests
-different-cards = refl
-
--- ---- The run meets the premises
+-- ---- The run meets the premises, and the theorem is applied to it
 
 pub premises : Premises run
 unfolding run count within
@@ -172,68 +252,67 @@ premises =
       different-digests = different-digests run story as-told cards no-other-cards right-digests different-cards;
     }
 
+pub claims : Claims run
+claims = demand-3 run premises
+
 -- ---- Its finished operations
 
-pub finished-write : Finished run
-unfolding run story code messages
-finished-write =
-    record {
-      id = client-1;
-      is-write = true;
-      begun = 0;
-      finished = 15;
-      timestamp = timestamp;
-      card = card;
-      begins = (card, refl);
-      not-refused = accepted-told run story as-told 0 _ refl;
-      after = lit< tt;
-      at-client = (to-client client-1 (from-replica replica-4 written) one, refl, refl);
-      is-done = done-told run story as-told 15 _ timestamp card refl;
-      none-between = none-between run story as-told client-1 0 15 refl;
-    }
+pub first-write : Finished run
+unfolding story code messages
+first-write = finished-told run story as-told true client-1 0 15 _ _ _ at-1·1 service (service, refl) refl (lit< tt) refl refl refl
 
-pub finished-read : Finished run
-unfolding run story code messages
-finished-read =
-    record {
-      id = client-2;
-      is-write = false;
-      begun = 16;
-      finished = 21;
-      timestamp = timestamp;
-      card = card;
-      begins = refl;
-      not-refused = accepted-told run story as-told 16 _ refl;
-      after = lit< tt;
-      at-client = (to-client client-2 (from-replica replica-4 (shows client-2)) four, refl, refl);
-      is-done = done-told run story as-told 21 _ timestamp card refl;
-      none-between = none-between run story as-told client-2 16 21 refl;
-    }
+pub read : Finished run
+unfolding story code messages
+read = finished-told run story as-told false client-2 16 21 _ _ _ at-1·1 service refl refl (lit< tt) refl refl refl
 
 -- Client 2 sends nothing after its READ.
 pub in-one-phase : (t : ℕ) → 16 < t → t < 21 → At run t (client client-2) → answerAt run t ≡ accepted counted
 unfolding story code messages
 in-one-phase = only-counted run story as-told client-2 16 21 refl
 
-pub finished-write-back : Finished run
-unfolding run story code messages
-finished-write-back =
-    record {
-      id = client-3;
-      is-write = false;
-      begun = 22;
-      finished = 29;
-      timestamp = timestamp;
-      card = card;
-      begins = refl;
-      not-refused = accepted-told run story as-told 22 _ refl;
-      after = lit< tt;
-      at-client = (to-client client-3 (from-replica replica-3 written) one, refl, refl);
-      is-done = done-told run story as-told 29 _ timestamp card refl;
-      none-between = none-between run story as-told client-3 22 29 refl;
-    }
+pub read-with-write-back : Finished run
+unfolding story code messages
+read-with-write-back = finished-told run story as-told false client-3 24 37 _ _ _ at-1·1 service refl refl (lit< tt) refl refl refl
 
--- ---- The faulty replica takes part
+pub second-write : Finished run
+unfolding story code messages
+second-write = finished-told run story as-told true client-2 30 47 _ _ _ at-2·2 lathe (lathe, refl) refl (lit< tt) refl refl refl
+
+pub third-write : Finished run
+unfolding story code messages
+third-write = finished-told run story as-told true client-1 48 65 _ _ _ at-3·1 service (service, refl) refl (lit< tt) refl refl refl
+
+-- A read and a write overlap: each began before the other finished.
+pub overlap : (read-with-write-back .begun < second-write .finished) × (second-write .begun < read-with-write-back .finished)
+unfolding finished-told read-with-write-back second-write
+overlap = (lit< tt, lit< tt)
+
+-- The second write shows the proof of 1.1, the third one that of 2.2 and the client's own written proof of 1.1.
+pub second-shows : Sends run 35 (PREPARE client-2 2·2 lathe-digest (some proof) none)
+unfolding story
+second-shows = sends-told run story as-told 35 _ prepare-2 refl
+
+pub third-shows : Sends run 54 (PREPARE client-1 3·1 service-digest (some proof-2) (some own-written))
+unfolding story
+third-shows = sends-told run story as-told 54 _ prepare-3 refl
+
+-- ---- What is refused
+
+-- A faulty client's second digest for one timestamp; a beginning of a busy client; a signature with the verdict 0; a card that is not the proof's.
+pub refusals : (answerAt run 23 ≡ refused 15) × (answerAt run 49 ≡ refused 17) × (answerAt run 61 ≡ refused 8) × (answerAt run 66 ≡ refused 14)
+unfolding story
+refusals = (
+  refused-told run story as-told 23 _ 15 refl,
+  refused-told run story as-told 49 _ 17 refl,
+  refused-told run story as-told 61 _ 8 refl,
+  refused-told run story as-told 66 _ 14 refl,
+)
+
+-- ---- The faulty client and replica take part
+
+pub client-4-is-faulty : Correct run (client client-4) → ⊥
+unfolding run within
+client-4-is-faulty correct = false≢true correct
 
 pub replica-4-is-faulty : Correct run (replica replica-4) → ⊥
 unfolding run within
@@ -244,31 +323,26 @@ pub replica-4-sent-nothing : (bytes : List ℕ) (t : ℕ) → Sent run (replica 
 replica-4-sent-nothing bytes t sent = replica-4-is-faulty (subst (Correct run) (sent .by .2) (run .at-correct (sent .time) (sent .by .0) (sent .by .1)))
 
 -- Its PREPARED, with verdict 1, makes the quorum: the WRITE's proof has its signature.
-pub its-prepared-counts : (event run 10 ≡ some (to-client client-1 (from-replica replica-4 prepared) (1 ∷ []))) × Sends run 10 (WRITE client-1 card proof)
+pub its-prepared-counts : (event run 10 ≡ some (to-client client-1 (from-replica replica-4 prepared) (1 ∷ []))) × Sends run 10 (WRITE client-1 service proof)
 unfolding run story
 its-prepared-counts = (refl, sends-told run story as-told 10 _ write refl)
 
 -- So does its WRITTEN.
-pub its-written-counts : (event run 15 ≡ some (to-client client-1 (from-replica replica-4 written) (1 ∷ []))) × (answerAt run 15 ≡ accepted (done timestamp card))
+pub its-written-counts : (event run 15 ≡ some (to-client client-1 (from-replica replica-4 written) (1 ∷ []))) × (answerAt run 15 ≡ accepted (done at-1·1 service))
 unfolding run story
-its-written-counts = (refl, done-told run story as-told 15 _ timestamp card refl)
+its-written-counts = (refl, done-told run story as-told 15 _ at-1·1 service refl)
 
 -- Its CARD of 0.0 forces the write-back.
-pub its-stale-card-forces-write-back : (event run 27 ≡ some (to-client client-3 (from-replica replica-4 stale) (1 ∷ []))) × Sends run 27 (WRITE client-3 card proof)
+pub its-stale-card-forces-write-back : (event run 29 ≡ some (to-client client-3 (from-replica replica-4 stale) (1 ∷ []))) × Sends run 29 (WRITE client-3 service proof)
 unfolding run story
-its-stale-card-forces-write-back = (refl, sends-told run story as-told 27 _ write-back refl)
+its-stale-card-forces-write-back = (refl, sends-told run story as-told 29 _ write-back refl)
 
--- ---- The proof of 1.1 is genuine
+-- ---- Claims read off
 
-pub genuine-proof : Genuine run proof
+genuine-proof : Genuine run proof
 unfolding run story steps allBytes trueVerdicts
-genuine-proof =
-    record {
-      bytes = preparedBytes proof;
-      verdicts = 1 ∷ 1 ∷ 1 ∷ [];
-      are-bytes = all-bytes (preparedBytes proof) refl;
-      reads = refl;
-      one-each = refl;
-      passes = refl;
-      true-verdicts = true-for-all run story as-told 30 (preparedSignatures proof) (1 ∷ 1 ∷ 1 ∷ []) refl;
-    }
+genuine-proof = genuine-told run story as-told proof three refl refl refl refl refl
+
+-- Whoever gathers a prepared proof of 1.1 has this digest in it.
+pub one-digest-at-1·1 : (other : PreparedProof) → Genuine run other → other .timestamp ≡ 1·1 → other .digest ≡ service-digest
+one-digest-at-1·1 other genuine at = claims .one-digest other proof genuine genuine-proof at

@@ -1,6 +1,6 @@
 -- A run told line by line, each event with its answer: by tests that compute, a told run meets the premises. Assumes nothing.
 use mathlib.Core.Path.{_≡_, refl, sym, ap, subst, _∙_}
-use mathlib.Core.Logic.{_⊎_, inl, inr}
+use mathlib.Core.Logic.{_⊎_, inl, inr, ⊎-elim}
 use mathlib.Core.Bool.{Bool, true, false, _&&_, _||_, not}
 use mathlib.Core.List.{List, [], _∷_}
 use mathlib.Core.Option.{Option, none, some}
@@ -9,7 +9,7 @@ use native.Mathlib.Nat.{zero-add}
 use native.Mathlib.Omega.{arith}
 use borrow.Author.Tests.{eqb-true, eq-eqb, ltb-true, lt-leb}
 use lib.Dec.{eqb, leb, ltb, lit<, lit≤}
-use lib.ListN.{getElem?}
+use lib.ListN.{length, getElem?}
 use Rattle.base.proofs.Booleans.{and-true-both}
 use Rattle.base.proofs.Range.{inside, bounds}
 use Rattle.base.specs.BigEndian.{Bytes}
@@ -20,23 +20,33 @@ use Rattle.base.specs.declared.party.ClientId.{ClientId}
 use Rattle.base.specs.declared.party.ReplicaId.{ReplicaId}
 use Rattle.base.specs.declared.timestamp.Timestamp.{Timestamp}
 use Rattle.protocol.specs.Client.{Answer, send, counted, done, ended}
-use Rattle.run.specs.Claims.{GoesOn}
-use Rattle.run.specs.Premises.{Signature, signaturesOf, TrueVerdicts, TrueFor, TrueAt, cardOf, Accepted, CardOfRun}
+use Rattle.run.specs.Claims.{GoesOn, Begins, Finished, Genuine}
+use Rattle.run.specs.Premises.{Signature, signaturesOf, preparedSignatures, TrueVerdicts, TrueFor, TrueAt, cardOf, CardOfRun}
 use Rattle.wire.specs.Acceptance.{Sender, replica, client}
 use Rattle.run.specs.Run.{Event, begins-write, begins-read, to-replica, to-client, partyOf, HasBytes, CorrectIn, Run, event, answerTo, answerAt, At, Sent}
 use Rattle.wire.specs.Decode.{decode}
 use Rattle.wire.specs.Message.{Message, body}
+use Rattle.wire.specs.Proof.{PreparedProof, preparedBytes, readPrepared}
+use Rattle.wire.specs.Checks.{proofOutcome}
 use Rattle.wire.specs.Sha256.{sha256}
 use Rattle.wire.specs.declared.message.Party.the-variants.{Replica as AtReplica, Client as AtClient}
 use Rattle.base.proofs.Same.{same-equal}
 use Rattle.base.proofs.Booleans.{or-true}
-use Rattle.witness.proofs.Answers.{no-test, code, is-sent, is-done, is-accepted, goesOn, isCounted, is-counted}
+use Rattle.witness.proofs.Answers.{no-test, code, is-sent, is-done, is-accepted, is-refused, isRefused, not-refused, goesOn, isCounted, is-counted}
 use Rattle.witness.proofs.Cards.{Known, isKnown, isKnownIfThere, is-one, rightDigests, differentDigests, different}
 
--- What happened, and what was answered.
+-- What happened, and what was answered or refused.
 pub record Line : Type 0 where
   pub event : Event
-  pub answer : Answer
+  pub answer : Outcome Answer
+
+infix 80 _↝_
+abbrev pub _↝_ : Event → Answer → Line
+event ↝ answer = record { event = event; answer = accepted answer }
+
+infix 80 _↛_
+abbrev pub _↛_ : Event → ℕ → Line
+event ↛ number = record { event = event; answer = refused number }
 
 abbrev pub eventsOf : List Line → List Event
 eventsOf [] = []
@@ -184,18 +194,21 @@ same-party-self : (p : Sender) → sameParty p p ≡ true
 same-party-self (replica a) = eq-eqb (a .0) (a .0) refl
 same-party-self (client a) = eq-eqb (a .0) (a .0) refl
 
-abbrev sends : List ℕ → Bool → Answer → Bool
-sends bytes true (send message) = same (body message) bytes
-sends bytes true counted = false
-sends bytes true (done timestamp card) = false
-sends bytes true ended = false
+abbrev sends : List ℕ → Bool → Outcome Answer → Bool
+sends bytes true (accepted (send message)) = same (body message) bytes
+sends bytes true (accepted counted) = false
+sends bytes true (accepted (done timestamp card)) = false
+sends bytes true (accepted ended) = false
+sends bytes true (refused number) = false
 sends bytes false answer = false
 
-message-sent : (bytes : List ℕ) (by : Bool) (answer : Answer) → sends bytes by answer ≡ true → (by ≡ true) × ((message : Message) × (answer ≡ send message) × (body message ≡ bytes))
-message-sent bytes true (send message) h = (refl, (message, refl, same-equal (body message) bytes h))
-message-sent bytes true counted h = no-test h
-message-sent bytes true (done timestamp card) h = no-test h
-message-sent bytes true ended h = no-test h
+message-sent : (bytes : List ℕ) (by : Bool) (answer : Outcome Answer) → sends bytes by answer ≡ true
+    → (by ≡ true) × ((message : Message) × (answer ≡ accepted (send message)) × (body message ≡ bytes))
+message-sent bytes true (accepted (send message)) h = (refl, (message, refl, same-equal (body message) bytes h))
+message-sent bytes true (accepted counted) h = no-test h
+message-sent bytes true (accepted (done timestamp card)) h = no-test h
+message-sent bytes true (accepted ended) h = no-test h
+message-sent bytes true (refused number) h = no-test h
 message-sent bytes false answer h = no-test h
 
 abbrev sentIn : Sender → List ℕ → Option Line → Bool
@@ -212,15 +225,18 @@ sentBefore lines party bytes (suc t) = sentIn party bytes (getElem? lines t) || 
 -- The party's answers between two events are good.
 abbrev pub goodBetween : (List ℕ → Bool) → Sender → ℕ → ℕ → ℕ → Line → Bool
 goodBetween good party begun finished t line =
-    leb t begun || (leb finished t || (not (sameParty (partyOf (line .event)) party) || good (code (accepted (line .answer)))))
+    leb t begun || (leb finished t || (not (sameParty (partyOf (line .event)) party) || good (code (line .answer))))
 
 abbrev pub AllBetween : List Line → (List ℕ → Bool) → Sender → ℕ → ℕ → Type 0
 AllBetween lines good party begun finished = each (goodBetween good party begun finished) 0 lines ≡ true
 
 module _ (R : Run) (lines : List Line) where
-  -- The run has no other cards than these.
+  -- The run has no other cards than these; those of refused events do not count.
+  abbrev isKnownOrRefused : List Known → ℕ → Line → Bool
+  isKnownOrRefused cards t line = isRefused (line .answer) || isKnownIfThere cards (cardOf R (some (line .event)))
+
   abbrev pub NoOtherCards : List Known → Type 0
-  NoOtherCards cards = each (λ t line. isKnownIfThere cards (cardOf R (some (line .event)))) 0 lines ≡ true
+  NoOtherCards cards = each (isKnownOrRefused cards) 0 lines ≡ true
 
   -- A verdict is true: it is not 1, or its signer is faulty, or sent the bytes earlier.
   isTrue : ℕ → Signature → ℕ → Bool
@@ -254,19 +270,19 @@ Sends R t message = (m : Message) × (answerAt R t ≡ accepted (send m)) × (bo
 -- The lines are those of the run: its events, and the answers that it gives.
 pub record Told (R : Run) (lines : List Line) : Type 0 where
   pub events : R .events ≡ eventsOf lines
-  pub answers : Each (λ t line. code (answerTo R t (some (line .event))) ≡ code (accepted (line .answer))) 0 lines
+  pub answers : Each (λ t line. code (answerTo R t (some (line .event))) ≡ code (line .answer)) 0 lines
 
 module _ (R : Run) (lines : List Line) (told : Told R lines) where
   event-is : (t : ℕ) → event R t ≡ eventIn (getElem? lines t)
   event-is t = ap (λ (es : List Event). getElem? es t) (told .events) ∙ event-in t lines
 
-  event-told : (t : ℕ) (line : Line) → getElem? lines t ≡ some line → event R t ≡ some (line .event)
+  pub event-told : (t : ℕ) (line : Line) → getElem? lines t ≡ some line → event R t ≡ some (line .event)
   event-told t line at = event-is t ∙ ap eventIn at
 
-  pub answer-told : (t : ℕ) (line : Line) → getElem? lines t ≡ some line → code (answerAt R t) ≡ code (accepted (line .answer))
+  pub answer-told : (t : ℕ) (line : Line) → getElem? lines t ≡ some line → code (answerAt R t) ≡ code (line .answer)
   answer-told t line at =
       ap (λ (e : Option Event). code (answerTo R t e)) (event-told t line at)
-      ∙ each-at (λ s l. code (answerTo R s (some (l .event))) ≡ code (accepted (l .answer))) t lines line (told .answers) at
+      ∙ each-at (λ s l. code (answerTo R s (some (l .event))) ≡ code (l .answer)) t lines line (told .answers) at
 
   later : {party : Sender} {bytes : List ℕ} {t : ℕ} → Sent R party bytes t → Sent R party bytes (suc t)
   later s =
@@ -281,7 +297,7 @@ module _ (R : Run) (lines : List Line) (told : Told R lines) where
       here none at test = no-test test
       here (some line) at test =
           let m = message-sent bytes (sameParty (partyOf (line .event)) party) (line .answer) test in
-          let s = is-sent (answerAt R t) (m .1 .0) (answer-told t line at ∙ ap (λ (a : Answer). code (accepted a)) (m .1 .1)) in
+          let s = is-sent (answerAt R t) (m .1 .0) (answer-told t line at ∙ ap code (m .1 .1)) in
           record {
             time = t;
             earlier = omega arith;
@@ -337,8 +353,11 @@ module _ (R : Run) (lines : List Line) (told : Told R lines) where
           let nothing : none ≡ some card = carried none at in
           let z : _≡_ {A = ℕ} 0 1 = cc in absurd (omega arith)
       go (some line) at =
-          let test = each-tested (λ s l. isKnownIfThere cards (cardOf R (some (l .event)))) (of-run .time) lines line no-other at in
-          subst (λ (c : Option (List ℕ)). isKnownIfThere cards c ≡ true) (carried (some line) at) test
+          let test = each-tested (isKnownOrRefused R lines cards) (of-run .time) lines line no-other at in
+          let (answer, answered) = of-run .not-refused in
+          ⊎-elim (λ is-refused. absurd (not-refused answer (line .answer) (sym (ap code answered) ∙ answer-told (of-run .time) line at) is-refused))
+          (λ is-known. subst (λ (c : Option (List ℕ)). isKnownIfThere cards c ≡ true) (carried (some line) at) is-known)
+          (or-true (isRefused (line .answer)) (isKnownIfThere cards (cardOf R (some (line .event)))) test)
 
   pub different-digests : (cards : List Known) → NoOtherCards R lines cards → rightDigests cards ≡ true → differentDigests cards ≡ true → (card card′ : List ℕ) → CardOfRun R card → CardOfRun R card′ → sha256 card ≡ sha256 card′ → card ≡ card′
   different-digests cards no-other right all card card′ of-run of-run′ e =
@@ -355,7 +374,7 @@ module _ (R : Run) (lines : List Line) (told : Told R lines) where
       by-party : sameParty (partyOf (line .0 .event)) party ≡ true
       by-party = ap (λ (e : Event). sameParty (partyOf e) party) (line .2) ∙ ap (λ (p : Sender). sameParty p party) (at .2) ∙ same-party-self party
 
-      tested-here : good (code (accepted (line .0 .answer))) ≡ true
+      tested-here : good (code (line .0 .answer)) ≡ true
       tested-here =
           let test = each-tested (goodBetween good party begun finished) t lines (line .0) all (line .1) in
           rw (lt-leb t begun after, lt-leb finished t before, by-party) at test
@@ -371,11 +390,46 @@ module _ (R : Run) (lines : List Line) (told : Told R lines) where
 
   -- ---- What a line says of the run
 
-  pub sends-told : (t : ℕ) (e : Event) (message : Message) → getElem? lines t ≡ some (record { event = e; answer = send message }) → Sends R t message
-  sends-told t e message at = is-sent (answerAt R t) message (answer-told t (record { event = e; answer = send message }) at)
+  pub sends-told : (t : ℕ) (e : Event) (message : Message) → getElem? lines t ≡ some (e ↝ send message) → Sends R t message
+  sends-told t e message at = is-sent (answerAt R t) message (answer-told t (e ↝ send message) at)
 
-  pub done-told : (t : ℕ) (e : Event) (timestamp : Timestamp) (card : List ℕ) → getElem? lines t ≡ some (record { event = e; answer = done timestamp card }) → answerAt R t ≡ accepted (done timestamp card)
-  done-told t e timestamp card at = is-done (answerAt R t) timestamp card (answer-told t (record { event = e; answer = done timestamp card }) at)
+  pub done-told : (t : ℕ) (e : Event) (timestamp : Timestamp) (card : List ℕ) → getElem? lines t ≡ some (e ↝ done timestamp card) → answerAt R t ≡ accepted (done timestamp card)
+  done-told t e timestamp card at = is-done (answerAt R t) timestamp card (answer-told t (e ↝ done timestamp card) at)
 
-  pub accepted-told : (t : ℕ) (line : Line) → getElem? lines t ≡ some line → Accepted R t
-  accepted-told t line at = is-accepted (answerAt R t) (line .answer) (answer-told t line at)
+  pub refused-told : (t : ℕ) (e : Event) (number : ℕ) → getElem? lines t ≡ some (e ↛ number) → answerAt R t ≡ refused number
+  refused-told t e number at = is-refused (answerAt R t) number (answer-told t (e ↛ number) at)
+
+  -- An operation that begins and is done, with neither done nor ended between.
+  unfoldable pub finished-told : (w : Bool) (id : ClientId) (begun finished : ℕ) (first last : Event) (answer : Answer) (timestamp : Timestamp) (card : List ℕ)
+      → Begins R w id (some first) → getElem? lines begun ≡ some (first ↝ answer) → begun < finished
+      → getElem? lines finished ≡ some (last ↝ done timestamp card) → partyOf last ≡ client id → AllBetween lines goesOn (client id) begun finished → Finished R
+  finished-told w id begun finished first last answer timestamp card begins begun-at after done-at by all =
+      record {
+        id = id;
+        is-write = w;
+        begun = begun;
+        finished = finished;
+        timestamp = timestamp;
+        card = card;
+        begins = subst (Begins R w id) (sym (event-told begun (first ↝ answer) begun-at)) begins;
+        not-refused = is-accepted (answerAt R begun) answer (answer-told begun (first ↝ answer) begun-at);
+        after = after;
+        at-client = (last, event-told finished (last ↝ done timestamp card) done-at, by);
+        is-done = done-told finished last timestamp card done-at;
+        none-between = none-between id begun finished all;
+      }
+
+  -- A prepared proof that passes 9 to 11 with verdicts that are true at the end of the run.
+  pub genuine-told : (proof : PreparedProof) (verdicts : List ℕ) → allBytes (preparedBytes proof) ≡ true → readPrepared (preparedBytes proof) ≡ accepted proof
+      → length verdicts ≡ length (proof .entries) → proofOutcome (R .f) (proof .entries) verdicts (proof .timestamp) ≡ accepted tt
+      → trueVerdicts R lines (length (R .events)) (preparedSignatures proof) verdicts ≡ true → Genuine R proof
+  genuine-told proof verdicts bytes reads one-each passes true-verdicts =
+      record {
+        bytes = preparedBytes proof;
+        verdicts = verdicts;
+        are-bytes = all-bytes (preparedBytes proof) bytes;
+        reads = reads;
+        one-each = one-each;
+        passes = passes;
+        true-verdicts = true-for-all (length (R .events)) (preparedSignatures proof) verdicts true-verdicts;
+      }

@@ -11,7 +11,7 @@ use lib.Dec.{eqb, ltb}
 use lib.ListN.{length, getD, getElem?, set, length-set}
 use lib.Seq.{getD-set-same, getD-set-other}
 use Rattle.base.proofs.Booleans.{and-true-both}
-use Rattle.base.specs.Outcome.{Outcome, accepted}
+use Rattle.base.specs.Outcome.{Outcome}
 use Rattle.base.specs.Same.{same}
 use Rattle.base.specs.declared.party.ClientId.{ClientId}
 use Rattle.base.specs.declared.party.ReplicaId.{ReplicaId}
@@ -19,7 +19,6 @@ use Rattle.protocol.specs.Client.{Answer, Turn, freshClient, beginWrite, beginR
 use Rattle.protocol.specs.Replica.{Reply, freshReplica, replicaStep}
 use Rattle.protocol.specs.declared.client.Client.{Client}
 use Rattle.protocol.specs.declared.replica.Replica.{Replica}
-use Rattle.wire.specs.Acceptance.{}
 use Rattle.run.specs.Run.{Event, begins-write, begins-read, to-replica, to-client, nextReplica, nextClient, afterAtReplica, afterAtClient, replicaAnswer, clientAnswer, Run, event, replicaAt, clientAt, answerTo}
 use Rattle.base.proofs.Same.{same-equal}
 use Rattle.witness.proofs.Answers.{code}
@@ -120,7 +119,7 @@ unfolding code
 plays store [] = true
 plays store (line ∷ lines) =
     let played = play store (line .event) in
-    (inStore store (line .event) && same (code (played .answer)) (code (accepted (line .answer)))) && plays (played .next) lines
+    (inStore store (line .event) && same (code (played .answer)) (code (line .answer))) && plays (played .next) lines
 
 module _ (R : Run) where
   -- The fresh records of replicas 1 to 4 and clients 1 to 3; place 0 is no party's.
@@ -193,15 +192,15 @@ module _ (R : Run) where
       ap (λ (c : Client). clientAnswer (clientStep c bytes verdicts)) (sym (holds .clients (id .0) (ltb-true (id .0) (length (store .clients)) there)))
 
   each-played : (t : ℕ) (store : Store) (lines : List Line) → ((i : ℕ) → event R (t + i) ≡ getElem? (eventsOf lines) i) → Holds t store → plays store lines ≡ true
-      → Each (λ s line. code (answerTo R s (some (line .event))) ≡ code (accepted (line .answer))) t lines
+      → Each (λ s line. code (answerTo R s (some (line .event))) ≡ code (line .answer)) t lines
   unfolding plays
   each-played t store [] events holds test = tt
   each-played t store (line ∷ lines) events holds test =
-      let both = and-true-both (inStore store (line .event) && same (code (play store (line .event) .answer)) (code (accepted (line .answer)))) (plays (play store (line .event) .next) lines) test in
-      let here = and-true-both (inStore store (line .event)) (same (code (play store (line .event) .answer)) (code (accepted (line .answer)))) (both .0) in
+      let both = and-true-both (inStore store (line .event) && same (code (play store (line .event) .answer)) (code (line .answer))) (plays (play store (line .event) .next) lines) test in
+      let here = and-true-both (inStore store (line .event)) (same (code (play store (line .event) .answer)) (code (line .answer))) (both .0) in
       let now : t + 0 ≡ t = omega arith in
       let found : event R t ≡ some (line .event) = subst (λ (s : ℕ). event R s ≡ some (line .event)) now (events 0) in (
-        ap code (answers-right t store (line .event) (here .0) holds) ∙ same-equal (code (play store (line .event) .answer)) (code (accepted (line .answer))) (here .1),
+        ap code (answers-right t store (line .event) (here .0) holds) ∙ same-equal (code (play store (line .event) .answer)) (code (line .answer)) (here .1),
         each-played (suc t) (play store (line .event) .next) lines (λ i. let then : t + suc i ≡ suc t + i = omega arith in subst (λ (s : ℕ). event R s ≡ getElem? (eventsOf lines) i) then (events (suc i)))
             (still-holds t store (line .event) found (here .0) holds) (both .1),
       )
