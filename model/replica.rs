@@ -1,6 +1,6 @@
 //! The model of a replica (a holder of document 01).
-use crate::card::STARTING_CARD;
-use crate::message::*;
+use super::card::STARTING_CARD;
+use super::message::*;
 use std::collections::BTreeMap;
 
 /// What a replica prepared last for a client (a line of document 01).

@@ -1,7 +1,7 @@
 //! Plays a script by the model: what the proved program has to print, line by line.
-use crate::client::Client;
-use crate::message::{Answer, Message, Refusal, Timestamp};
-use crate::replica::Replica;
+use super::client::Client;
+use super::message::{Answer, Message, Refusal, Timestamp};
+use super::replica::Replica;
 use std::collections::BTreeMap;
 use std::fmt;
 

@@ -1,7 +1,7 @@
 //! The model of a client (a desk of document 01).
-use crate::card::keeps_table;
-use crate::message::*;
-use crate::plain_sha256::unrolled as sha256;
+use super::card::keeps_table;
+use super::message::*;
+use super::sha256::sha256;
 use std::collections::{BTreeMap, BTreeSet};
 
 /// What a replica showed in a TIMESTAMP or a CARD.

@@ -1,5 +1,4 @@
-//! A plain Rust SHA-256, to measure the proved one by: the fastest of the shapes that were tried. The model in tests/
-//! uses it too.
+//! A plain Rust SHA-256: the fastest of the shapes that were tried, since the bench measures the proved one by it.
 
 const K: [u32; 64] = [
     0x428a2f98, 0x71374491, 0xb5c0fbcf, 0xe9b5dba5, 0x3956c25b, 0x59f111f1, 0x923f82a4, 0xab1c5ed5,
@@ -98,7 +97,7 @@ fn padded(rest: &[u8]) -> [u32; 16] {
 }
 
 /// Full blocks from the message, then its end with the padding in one or two blocks.
-pub fn unrolled(message: &[u8]) -> [u8; 32] {
+pub fn sha256(message: &[u8]) -> [u8; 32] {
     let mut hash = INITIAL_HASH;
     let mut blocks = message.chunks_exact(64);
     for block in &mut blocks {

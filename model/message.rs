@@ -1,6 +1,6 @@
 //! Messages, their parts, and the tests 1 to 11 and 14, which need no record.
-use crate::card::{keeps_table, STARTING_CARD};
-use crate::plain_sha256::unrolled as sha256;
+use super::card::{keeps_table, STARTING_CARD};
+use super::sha256::sha256;
 use std::ops::RangeInclusive;
 
 pub type Digest = [u8; 32];
