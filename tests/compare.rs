@@ -181,7 +181,8 @@ fn compare(program: &str, seed: u64, calls: usize) -> io::Result<bool> {
 /// Compares on the scripts in files. `Ok(false)` where one differs.
 fn compare_files(program: &str, files: &[String]) -> io::Result<bool> {
     for file in files {
-        let text = std::fs::read_to_string(file)?;
+        let text = std::fs::read_to_string(file)
+            .map_err(|error| io::Error::new(error.kind(), format!("{file}: {error}")))?;
         let lines: Vec<String> = text.lines().map(String::from).collect();
         if let Some(Difference {
             at,
