@@ -54,9 +54,10 @@ function named(hex) {
 # The party that sent a message, by what it says itself.
 function source(hex) { return (kind(hex) > 4 ? "replica " : "client ") sender(hex) }
 
-# Takes a line apart: call, whom, text and the hex of the message that is handed over. Remembers what was sent.
-function take(n,    word, words, from) {
-    words = split(line[n], word, " ")
+# Takes a line apart: call and whom it is about, the card of a write (text), the message that is handed over; and its answer.
+# Remembers what was sent.
+function take(n,    word, from) {
+    split(line[n], word, " ")
     from = word[1] == "lent" ? 2 : 0
     call = word[from + 1]
     whom = ""
