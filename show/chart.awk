@@ -165,6 +165,9 @@ function lost_reply(number,    i) {
     return number " " kind_name[kind(sent[number])] " lost"
 }
 
+# Whether the reply that is handed over fits into the row, behind one from a replica in this column.
+function fits(last) { return column(source(message)) > last + 6 + 7 * length(label(message, number_of(handed))) }
+
 function client_row(n,    client, refusal, k, last) {
     client = whom
     k = kind(message)
@@ -177,7 +180,7 @@ function client_row(n,    client, refusal, k, last) {
         if (says != "counted") { n++; break }
         last = column(source(message))
         take(++n)
-    } while (n <= lines && call == "to-client" && whom == client && kind(message) == k && says != "refused" && column(source(message)) > last)
+    } while (n <= lines && call == "to-client" && whom == client && kind(message) == k && says != "refused" && fits(last))
     take(n - 1)
     to_client(client, refusal)
     if (says == "sent") sends(client)
