@@ -1,9 +1,9 @@
--- `runs::words::decimal` meets its contract. Assumes nothing.
+-- `scripts::words::decimal` meets its contract. Assumes nothing.
 use Prim.Native.Nat.{_-_}
 use lib.ListN.{length}
 use borrow.Author.Needs.{needs}
-use Rattle.runs.proofs.words.decimal.Statement.{statement}
-use Rattle.runs.proofs.words.decimal.Tie as tie
+use Rattle.scripts.proofs.words.decimal.Statement.{statement}
+use Rattle.scripts.proofs.words.decimal.Tie as tie
 
 abbrev Inv-loop : tie.InvT-loop
 Inv-loop word n₀ i₀ n i = Unit {0}

@@ -1,8 +1,8 @@
--- `runs::tasks::command` meets its contract. Assumes nothing.
+-- `scripts::tasks::command` meets its contract. Assumes nothing.
 use Prim.Native.Nat.{_-_}
 use borrow.Author.Needs.{needs}
-use Rattle.runs.proofs.tasks.command.Statement.{statement}
-use Rattle.runs.proofs.tasks.command.Tie as tie
+use Rattle.scripts.proofs.tasks.command.Statement.{statement}
+use Rattle.scripts.proofs.tasks.command.Tie as tie
 
 abbrev Inv-loop : tie.InvT-loop
 Inv-loop name n₀ t4 n = Unit {0}

@@ -1,18 +1,18 @@
--- `runs::words::space` meets its contract. Assumes nothing.
+-- `scripts::answers::touched` meets its contract. Assumes nothing.
 use Prim.Native.Nat.{_-_}
 use lib.ListN.{length}
 use borrow.Author.Needs.{needs}
-use Rattle.runs.proofs.words.space.Statement.{statement}
-use Rattle.runs.proofs.words.space.Tie as tie
+use Rattle.scripts.proofs.answers.touched.Statement.{statement}
+use Rattle.scripts.proofs.answers.touched.Tie as tie
 
 abbrev Inv-loop : tie.InvT-loop
-Inv-loop line from at₀ at = Unit {0}
+Inv-loop rest i₀ i = Unit {0}
 
 abbrev μ-loop : tie.MeasureT-loop
-μ-loop line from at₀ at = length line - at
+μ-loop rest i₀ i = length rest - i
 
-pub space-spec : {M : Type 1} → statement M
-space-spec =
+pub touched-spec : {M : Type 1} → statement M
+touched-spec =
     tie.close
     (tie.spec
     Inv-loop

@@ -1,10 +1,10 @@
--- `runs::play_lines` meets its contract. That a turn of the loop comes forward is two facts that lie too deep for a search. Assumes nothing.
+-- `scripts::play_lines` meets its contract. That a turn of the loop comes forward is two facts that lie too deep for a search. Assumes nothing.
 use Prim.Native.Nat.{_-_}
 use native.Mathlib.Omega.{arith}
 use lib.ListN.{length}
 use borrow.Author.Needs.{needs}
-use Rattle.runs.proofs.play_lines.Statement.{statement}
-use Rattle.runs.proofs.play_lines.Tie as tie
+use Rattle.scripts.proofs.play_lines.Statement.{statement}
+use Rattle.scripts.proofs.play_lines.Tie as tie
 
 abbrev Inv-loop : tie.InvT-loop
 Inv-loop script replicas₀ clients₀ held₀ store₀ sent₀ from₀ replicas clients held store sent from = Unit {0}

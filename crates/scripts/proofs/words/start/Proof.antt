@@ -1,8 +1,8 @@
--- `runs::words::start` meets its contract. Assumes nothing.
+-- `scripts::words::start` meets its contract. Assumes nothing.
 use Prim.Native.Nat.{_-_}
 use borrow.Author.Needs.{needs}
-use Rattle.runs.proofs.words.start.Statement.{statement}
-use Rattle.runs.proofs.words.start.Tie as tie
+use Rattle.scripts.proofs.words.start.Statement.{statement}
+use Rattle.scripts.proofs.words.start.Tie as tie
 
 abbrev Inv-loop : tie.InvT-loop
 Inv-loop line number at₀ n₀ at n = Unit {0}
