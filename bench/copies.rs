@@ -4,6 +4,7 @@
 //! The three functions are defined here, so that the linker takes them and not the C library's. Copies of up to about a
 //! hundred bytes of known length are no calls, and are not counted: the compiler writes them out.
 mod plain_replica;
+#[path = "../model/sha256.rs"]
 mod plain_sha256;
 #[path = "../rust/replica.rs"]
 mod replica;

@@ -1,5 +1,5 @@
 //! A plain Rust replica, to measure the proved one by: slices and fixed arrays, no heap.
-use crate::plain_sha256::unrolled as sha256;
+use crate::plain_sha256::sha256;
 use std::ops::RangeInclusive;
 
 const LONGEST_MESSAGE: usize = 1_579;

@@ -2,12 +2,13 @@
 //! either: time, instructions (by callgrind) and bytes copied (listed by `copies`, whose output is the standard input).
 //! With the argument `rows` it prints the rows of docs/SPEED.md's table. Run by `bench/run`.
 mod plain_replica;
+#[path = "../model/sha256.rs"]
 mod plain_sha256;
 #[path = "../rust/replica.rs"]
 mod replica;
 mod steps;
 
-use plain_sha256::unrolled as sha256;
+use plain_sha256::sha256;
 use std::hint::black_box;
 use std::process::Command;
 use std::time::{Duration, Instant};

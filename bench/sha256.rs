@@ -1,8 +1,9 @@
 //! Times the proved SHA-256 of the crate `wire` beside a plain Rust one, after comparing their digests. With the argument
 //! `rows` it prints the rows of docs/SPEED.md's table. Run by `bench/run`, which links the static library of `wire`.
+#[path = "../model/sha256.rs"]
 mod plain_sha256;
 
-use plain_sha256::unrolled;
+use plain_sha256::sha256;
 use std::env;
 use std::hint::black_box;
 use std::time::Instant;
@@ -23,7 +24,7 @@ fn proved(message: &[u8]) -> [u8; 32] {
 
 #[inline(never)]
 fn plain(message: &[u8]) -> [u8; 32] {
-    unrolled(message)
+    sha256(message)
 }
 
 fn bytes(length: usize) -> Vec<u8> {

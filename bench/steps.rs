@@ -1,6 +1,6 @@
 //! The steps that are measured, and the replicas that take them: the proved one, through its Rust wrapper, and the plain
 //! one. All at f = 5, with a card of 17 bytes and proofs of 11 entries.
-use crate::plain_sha256::unrolled as sha256;
+use crate::plain_sha256::sha256;
 use crate::{plain_replica, replica};
 use std::hint::black_box;
 

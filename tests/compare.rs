@@ -1,21 +1,16 @@
-//! Compares the proved program with the model over scripts of random runs.
+//! Compares the proved program with the model over scripts: of random runs, or those in files.
 //!
-//! `compare PROGRAM [SEED [CALLS]]`: PROGRAM reads a script and prints a line per line of it. Built by
-//! `rustc -O --edition 2021 tests/compare.rs -o target/compare`.
+//! `compare PROGRAM [SEED [CALLS]]` or `compare PROGRAM --files FILE...`: PROGRAM reads a script and prints a line per line
+//! of it. Built by `rustc -O --edition 2021 tests/compare.rs -o target/compare`.
 mod arguments;
-mod card;
-mod client;
 mod forge;
 mod generate;
-mod message;
-#[path = "../bench/plain_sha256.rs"]
-mod plain_sha256;
-mod random;
-mod replica;
-mod script;
+#[path = "../model/mod.rs"]
+mod model;
 mod tally;
 
-use script::{Output, Player};
+use model::random;
+use model::script::{Output, Player};
 use std::io::{self, Write};
 use std::process::{Command, ExitCode, Stdio};
 
@@ -66,11 +61,11 @@ fn first_difference(expected: &[Output], given: &[String]) -> Option<Difference>
     None
 }
 
-/// Plays a shrunk script anew in both.
-fn difference(program: &str, lines: &[String]) -> Option<Difference> {
+/// Plays a script in both.
+fn difference(program: &str, lines: &[String]) -> io::Result<Option<Difference>> {
     let mut player = Player::default();
     let expected: Vec<Output> = lines.iter().map(|line| player.play(line)).collect();
-    first_difference(&expected, &run_program(program, lines).ok()?)
+    Ok(first_difference(&expected, &run_program(program, lines)?))
 }
 
 /// The lines with all messages in hex, so that removing lines renumbers none.
@@ -94,7 +89,7 @@ struct Failure<'a> {
 impl Failure<'_> {
     /// Takes another script if it differs too.
     fn try_instead(&mut self, lines: Vec<String>) -> bool {
-        let Some(difference) = difference(self.program, &lines) else {
+        let Ok(Some(difference)) = difference(self.program, &lines) else {
             return false;
         };
         self.lines = lines;
@@ -183,15 +178,42 @@ fn compare(program: &str, seed: u64, calls: usize) -> io::Result<bool> {
     Ok(shortfalls.is_empty())
 }
 
+/// Compares on the scripts in files. `Ok(false)` where one differs.
+fn compare_files(program: &str, files: &[String]) -> io::Result<bool> {
+    for file in files {
+        let text = std::fs::read_to_string(file)
+            .map_err(|error| io::Error::new(error.kind(), format!("{file}: {error}")))?;
+        let lines: Vec<String> = text.lines().map(String::from).collect();
+        if let Some(Difference {
+            at,
+            expected,
+            given,
+        }) = difference(program, &lines)?
+        {
+            println!("{file}, line {}, must print\n{expected}", at + 1);
+            println!("but {program} prints\n{given}");
+            return Ok(false);
+        }
+    }
+    println!("{} scripts in files compared: all equal", files.len());
+    Ok(true)
+}
+
 fn main() -> ExitCode {
     let words: Vec<String> = std::env::args().skip(1).collect();
     let Some((program, words)) = words.split_first() else {
-        eprintln!("compare PROGRAM [SEED [CALLS]]");
+        eprintln!("compare PROGRAM [SEED [CALLS]] or compare PROGRAM --files FILE...");
         return ExitCode::from(2);
     };
-    let (seed, calls) = arguments::seed_and_calls(words);
-    println!("seed {seed}");
-    match compare(program, seed, calls) {
+    let equal = match words {
+        [word, files @ ..] if word == "--files" => compare_files(program, files),
+        _ => {
+            let (seed, calls) = arguments::seed_and_calls(words);
+            println!("seed {seed}");
+            compare(program, seed, calls)
+        }
+    };
+    match equal {
         Ok(true) => ExitCode::SUCCESS,
         Ok(false) => ExitCode::FAILURE,
         Err(error) => {

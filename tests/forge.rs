@@ -1,8 +1,8 @@
 //! Cards, and messages with defects: what damage and faulty parties hand over.
-use crate::card::FIELDS;
-use crate::message::*;
-use crate::plain_sha256::unrolled as sha256;
-use crate::random::Random;
+use crate::model::card::FIELDS;
+use crate::model::message::*;
+use crate::model::random::Random;
+use crate::model::sha256::sha256;
 
 /// A script takes messages up to this length.
 const LONGEST_SCRIPTED: usize = 4000;

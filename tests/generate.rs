@@ -1,10 +1,10 @@
 //! Scripts of random runs. The model plays each line as it is made, so that the next one can build on its answer.
-use crate::card::STARTING_CARD;
 use crate::forge::*;
-use crate::message::*;
-use crate::plain_sha256::unrolled as sha256;
-use crate::random::Random;
-use crate::script::{all_genuine, hex, Output, Player, KEPT_MESSAGES};
+use crate::model::card::STARTING_CARD;
+use crate::model::message::*;
+use crate::model::random::Random;
+use crate::model::script::{all_genuine, hex, Output, Player, KEPT_MESSAGES};
+use crate::model::sha256::sha256;
 use std::collections::{BTreeMap, BTreeSet};
 
 /// Below the 1,048,576 bytes that the proved program reads, with room for the longest line.

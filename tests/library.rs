@@ -3,21 +3,16 @@
 //!
 //! `library [SEED [CALLS]]`
 mod arguments;
-mod card;
-mod client;
 mod forge;
 mod generate;
 #[allow(dead_code)] // the other comparisons use more of it
-mod message;
-#[path = "../bench/plain_sha256.rs"]
-mod plain_sha256;
-mod random;
-mod replica;
-mod script;
+#[path = "../model/mod.rs"]
+mod model;
 #[path = "../rust/replica.rs"]
 mod wrapper;
 
-use script::{unhex, Output, Player};
+use model::random;
+use model::script::{self, unhex, Output, Player};
 use std::collections::BTreeMap;
 use std::process::ExitCode;
 use wrapper::{Answer, ReplicaId, LONGEST_MESSAGE};

@@ -1,7 +1,7 @@
 //! How often each call had each answer, and whether that is often enough.
-use crate::message::{Message, LONGEST_MESSAGE};
-use crate::message::KIND_NAMES;
-use crate::script::{lent, unhex, Output};
+use crate::model::message::KIND_NAMES;
+use crate::model::message::{Message, LONGEST_MESSAGE};
+use crate::model::script::{lent, unhex, Output};
 use std::collections::BTreeMap;
 
 /// Rows beside the answers: outputs on both sides of test 1; answered messages of the largest length; messages that are too

@@ -1,7 +1,7 @@
 //! Cards for the program `cards`: good ones, damaged ones, and lines that are no hex.
-use crate::card::{keeps_table, FIELDS};
+use crate::model::card::{keeps_table, FIELDS};
+use crate::model::random::Random;
 use crate::program::{hex, Failure, Line, Program};
-use crate::random::Random;
 use crate::tally::Tally;
 
 const LINES: usize = 20_000;

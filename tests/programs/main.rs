@@ -2,29 +2,19 @@
 //!
 //! `programs DIRECTORY [SEED]`: DIRECTORY has the programs. Built by
 //! `rustc -O --edition 2021 tests/programs/main.rs -o target/programs`.
-#[path = "../card.rs"]
-mod card;
 mod cards;
-#[path = "../client.rs"]
-mod client;
-#[path = "../message.rs"]
-mod message;
 mod messages;
+#[allow(dead_code)] // the other comparisons use more of it
+#[path = "../../model/mod.rs"]
+mod model;
 mod odd;
-#[path = "../../bench/plain_sha256.rs"]
-mod plain_sha256;
 mod player;
 mod plays;
 mod program;
-#[path = "../random.rs"]
-#[allow(dead_code)] // the other comparisons use more of it
-mod random;
-#[path = "../replica.rs"]
-mod replica;
 mod tally;
 
+use model::random::Random;
 use program::{Failure, Program};
-use random::Random;
 use std::process::ExitCode;
 use std::time::{SystemTime, UNIX_EPOCH};
 use tally::Tally;

@@ -1,8 +1,8 @@
 //! Messages for the program `messages`: two at a time for the later card, and the first by itself for its fields.
 use crate::cards::{damaged_card, good_card};
-use crate::message::*;
+use crate::model::message::*;
+use crate::model::random::Random;
 use crate::program::{hex, Failure, Line, Program};
-use crate::random::Random;
 use crate::tally::Tally;
 
 const PAIRS: usize = 10_000;

@@ -1,6 +1,6 @@
 //! Lines that the player's grammar does not have, or hardly has.
+use crate::model::random::Random;
 use crate::program::hex;
-use crate::random::Random;
 
 /// A name, and such a line.
 type Odd = (&'static str, fn(&mut Random) -> Vec<u8>);

@@ -1,8 +1,8 @@
 //! The model of the run player: four replicas and four clients, f = 1, first nonce 1, all verdicts 1.
-use crate::client::Client;
-use crate::message::{Answer, Message, Refusal, Timestamp, LONGEST_MESSAGE};
+use crate::model::client::Client;
+use crate::model::message::{Answer, Message, Refusal, Timestamp, LONGEST_MESSAGE};
+use crate::model::replica::Replica;
 use crate::program::hex;
-use crate::replica::Replica;
 use std::fmt;
 
 pub const HEADER: &str = "holders 4 desks 4";

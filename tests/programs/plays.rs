@@ -1,9 +1,9 @@
 //! Scripts for the program `player`, steered so that operations finish.
 use crate::cards::{damaged_card, good_card};
+use crate::model::random::Random;
 use crate::odd::ODD_LINES;
 use crate::player::{printed, Player, Said, MOST_LINES, PARTIES};
 use crate::program::{hex, Failure, Program};
-use crate::random::Random;
 use crate::tally::Tally;
 use std::collections::BTreeMap;
 

@@ -1,0 +1,314 @@
+//! The model of a client (a desk of document 01).
+use super::card::keeps_table;
+use super::message::*;
+use super::sha256::sha256;
+use std::collections::{BTreeMap, BTreeSet};
+
+/// What a replica showed in a TIMESTAMP or a CARD.
+#[derive(Clone)]
+struct Shown {
+    replica: u8,
+    proof: Option<PreparedProof>,
+    card: Vec<u8>,
+}
+
+impl Shown {
+    fn timestamp(&self) -> Timestamp {
+        self.proof
+            .as_ref()
+            .map_or(Timestamp::START, |proof| proof.timestamp)
+    }
+}
+
+#[derive(Clone)]
+enum Phase {
+    Idle,
+    /// The replies are kept in the order in which they came.
+    ReadTimestamps {
+        card: Vec<u8>,
+        replies: Vec<Shown>,
+    },
+    Prepare {
+        card: Vec<u8>,
+        timestamp: Timestamp,
+        replies: BTreeMap<u8, Signature>,
+    },
+    Write {
+        card: Vec<u8>,
+        timestamp: Timestamp,
+        replies: BTreeMap<u8, Signature>,
+    },
+    Read {
+        replies: Vec<Shown>,
+    },
+    WriteBack {
+        card: Vec<u8>,
+        timestamp: Timestamp,
+        counted: BTreeSet<u8>,
+    },
+}
+
+#[derive(Clone)]
+pub struct Client {
+    f: u8,
+    id: u8,
+    /// The nonce of the next operation; `None` after 2^64 - 1 was used.
+    next_nonce: Option<u64>,
+    /// The nonce of the operation begun last.
+    nonce: u64,
+    /// Of the client's own last finished write.
+    written: Option<WrittenProof>,
+    phase: Phase,
+}
+
+/// The first of the replies with the largest timestamp.
+fn latest(replies: Vec<Shown>) -> Shown {
+    let later = |best: Shown, next: Shown| {
+        if next.timestamp() > best.timestamp() {
+            next
+        } else {
+            best
+        }
+    };
+    replies
+        .into_iter()
+        .reduce(later)
+        .expect("a quorum of replies")
+}
+
+/// The map keeps the replicas in rising order.
+fn entries(replies: BTreeMap<u8, Signature>) -> Vec<Entry> {
+    replies
+        .into_iter()
+        .map(|(replica, signature)| Entry { replica, signature })
+        .collect()
+}
+
+impl Client {
+    pub fn new(f: u8, id: u8, first_nonce: u64) -> Result<Client, Refusal> {
+        let in_range = FAULT_BOUNDS.contains(&f) && CLIENTS.contains(&id) && first_nonce != 0;
+        refuse_if(16, !in_range)?;
+        Ok(Client {
+            f,
+            id,
+            next_nonce: Some(first_nonce),
+            nonce: 0,
+            written: None,
+            phase: Phase::Idle,
+        })
+    }
+
+    pub fn begin_write(&mut self, card: &[u8], room: usize) -> Result<Answer, Refusal> {
+        check_room(room)?;
+        refuse_if(14, !keeps_table(card))?;
+        self.take_nonce()?;
+        self.phase = Phase::ReadTimestamps {
+            card: card.to_vec(),
+            replies: Vec::new(),
+        };
+        Ok(self.ask(READ_TIMESTAMP))
+    }
+
+    pub fn begin_read(&mut self, room: usize) -> Result<Answer, Refusal> {
+        check_room(room)?;
+        self.take_nonce()?;
+        self.phase = Phase::Read {
+            replies: Vec::new(),
+        };
+        Ok(self.ask(READ))
+    }
+
+    fn take_nonce(&mut self) -> Result<(), Refusal> {
+        refuse_if(17, !matches!(self.phase, Phase::Idle))?;
+        self.nonce = self.next_nonce.ok_or(17)?;
+        self.next_nonce = self.nonce.checked_add(1);
+        Ok(())
+    }
+
+    fn ask(&self, kind: u8) -> Answer {
+        let question = Message {
+            nonce: Some(self.nonce),
+            ..Message::new(kind, self.id)
+        };
+        Answer::Sent(question.encode())
+    }
+
+    pub fn receive(
+        &mut self,
+        bytes: &[u8],
+        verdicts: &[u8],
+        room: usize,
+    ) -> Result<Answer, Refusal> {
+        check_room(room)?;
+        let reply = check(
+            bytes,
+            verdicts,
+            TIMESTAMP..=CARD,
+            1..=replicas(self.f),
+            self.f,
+        )?;
+        reply.check_card()?;
+        refuse_if(18, !self.awaits(&reply))?;
+        Ok(self.take(reply))
+    }
+
+    /// Test 18.
+    fn awaits(&self, reply: &Message) -> bool {
+        let mine = reply.nonce == Some(self.nonce) && reply.addressed == Some(self.id);
+        let sender = reply.sender;
+        let is_new = |replies: &[Shown]| replies.iter().all(|earlier| earlier.replica != sender);
+        match &self.phase {
+            Phase::Idle => false,
+            Phase::ReadTimestamps { replies, .. } => {
+                reply.kind == TIMESTAMP && mine && is_new(replies)
+            }
+            Phase::Prepare {
+                card,
+                timestamp,
+                replies,
+            } => {
+                reply.kind == PREPARED
+                    && reply.timestamp == Some(*timestamp)
+                    && reply.digest == Some(sha256(card))
+                    && !replies.contains_key(&sender)
+            }
+            Phase::Write {
+                timestamp, replies, ..
+            } => {
+                reply.kind == WRITTEN
+                    && reply.timestamp == Some(*timestamp)
+                    && !replies.contains_key(&sender)
+            }
+            Phase::Read { replies } => reply.kind == CARD && mine && is_new(replies),
+            Phase::WriteBack {
+                timestamp, counted, ..
+            } => {
+                reply.kind == WRITTEN
+                    && reply.timestamp == Some(*timestamp)
+                    && !counted.contains(&sender)
+            }
+        }
+    }
+
+    /// Takes an awaited reply; a quorum of them ends the phase.
+    fn take(&mut self, reply: Message) -> Answer {
+        let quorum = quorum(self.f);
+        let full = match &mut self.phase {
+            Phase::Idle => unreachable!("an idle client awaits nothing"),
+            Phase::ReadTimestamps { replies, .. } | Phase::Read { replies } => {
+                let card = reply.card.unwrap_or_default();
+                replies.push(Shown {
+                    replica: reply.sender,
+                    proof: reply.prepared,
+                    card,
+                });
+                replies.len() == quorum
+            }
+            Phase::Prepare { replies, .. } | Phase::Write { replies, .. } => {
+                replies.insert(reply.sender, reply.signature);
+                replies.len() == quorum
+            }
+            Phase::WriteBack { counted, .. } => {
+                counted.insert(reply.sender);
+                counted.len() == quorum
+            }
+        };
+        if full {
+            self.finish_phase()
+        } else {
+            Answer::Counted
+        }
+    }
+
+    fn finish_phase(&mut self) -> Answer {
+        match std::mem::replace(&mut self.phase, Phase::Idle) {
+            Phase::Idle => unreachable!("an idle client has no quorum"),
+            Phase::ReadTimestamps { card, replies } => self.send_prepare(card, latest(replies)),
+            Phase::Prepare {
+                card,
+                timestamp,
+                replies,
+            } => {
+                let proof = PreparedProof {
+                    timestamp,
+                    digest: sha256(&card),
+                    entries: entries(replies),
+                };
+                let answer = self.send_write(&card, proof);
+                self.phase = Phase::Write {
+                    card,
+                    timestamp,
+                    replies: BTreeMap::new(),
+                };
+                answer
+            }
+            Phase::Write {
+                card,
+                timestamp,
+                replies,
+            } => {
+                self.written = Some(WrittenProof {
+                    timestamp,
+                    entries: entries(replies),
+                });
+                Answer::Done(timestamp, card)
+            }
+            Phase::Read { replies } => self.finish_read(replies),
+            Phase::WriteBack {
+                card, timestamp, ..
+            } => Answer::Done(timestamp, card),
+        }
+    }
+
+    fn send_prepare(&mut self, card: Vec<u8>, latest: Shown) -> Answer {
+        let Some(timestamp) = latest.timestamp().successor(self.id) else {
+            return Answer::Ended;
+        };
+        let request = Message {
+            timestamp: Some(timestamp),
+            digest: Some(sha256(&card)),
+            prepared: latest.proof,
+            written: self.written.clone(),
+            ..Message::new(PREPARE, self.id)
+        };
+        self.phase = Phase::Prepare {
+            card,
+            timestamp,
+            replies: BTreeMap::new(),
+        };
+        Answer::Sent(request.encode())
+    }
+
+    fn send_write(&self, card: &[u8], proof: PreparedProof) -> Answer {
+        let request = Message {
+            card: Some(card.to_vec()),
+            prepared: Some(proof),
+            ..Message::new(WRITE, self.id)
+        };
+        Answer::Sent(request.encode())
+    }
+
+    fn finish_read(&mut self, replies: Vec<Shown>) -> Answer {
+        let largest = replies
+            .iter()
+            .map(Shown::timestamp)
+            .max()
+            .expect("a quorum of replies");
+        let showed = replies.iter().filter(|reply| reply.timestamp() == largest);
+        let counted: BTreeSet<u8> = showed.map(|reply| reply.replica).collect();
+        let Shown { card, proof, .. } = latest(replies);
+        match proof {
+            Some(proof) if counted.len() < quorum(self.f) => {
+                let answer = self.send_write(&card, proof);
+                self.phase = Phase::WriteBack {
+                    card,
+                    timestamp: largest,
+                    counted,
+                };
+                answer
+            }
+            // Without a proof all showed 0.0.
+            _ => Answer::Done(largest, card),
+        }
+    }
+}

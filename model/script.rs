@@ -1,0 +1,239 @@
+//! Plays a script by the model: what the proved program has to print, line by line.
+use super::client::Client;
+use super::message::{Answer, Message, Refusal, Timestamp};
+use super::replica::Replica;
+use std::collections::BTreeMap;
+use std::fmt;
+
+/// A script may name the first messages alone by their number.
+pub const KEPT_MESSAGES: usize = 200;
+/// The output that a call is lent if its line does not say.
+pub const FULL_OUTPUT: usize = 1600;
+
+/// What a script line prints.
+#[derive(Debug, PartialEq)]
+pub enum Output {
+    New,
+    Ready,
+    Sent(usize, Vec<u8>),
+    Counted,
+    Done(Timestamp, Vec<u8>),
+    Ended,
+    Refused(Refusal),
+    Kept,
+    Restored,
+    Comment(String),
+    Unread,
+}
+
+impl fmt::Display for Output {
+    fn fmt(&self, to: &mut fmt::Formatter) -> fmt::Result {
+        match self {
+            Output::New => write!(to, "new"),
+            Output::Ready => write!(to, "ready"),
+            Output::Sent(number, message) => write!(to, "sent {number} {}", hex(message)),
+            Output::Counted => write!(to, "counted"),
+            Output::Done(Timestamp { count, client }, card) => {
+                write!(to, "done {count}.{client} {}", hex(card))
+            }
+            Output::Ended => write!(to, "ended"),
+            Output::Refused(refusal) => write!(to, "refused {refusal}"),
+            Output::Kept => write!(to, "kept"),
+            Output::Restored => write!(to, "restored"),
+            Output::Comment(line) => write!(to, "{line}"),
+            Output::Unread => write!(to, "unread"),
+        }
+    }
+}
+
+/// Capital hex, `-` for no bytes.
+pub fn hex(bytes: &[u8]) -> String {
+    const DIGITS: &[u8; 16] = b"0123456789ABCDEF";
+    if bytes.is_empty() {
+        return "-".to_string();
+    }
+    let digits = bytes.iter().flat_map(|byte| [byte >> 4, byte & 15]);
+    digits
+        .map(|digit| DIGITS[usize::from(digit)] as char)
+        .collect()
+}
+
+pub fn unhex(word: &str) -> Option<Vec<u8>> {
+    if word == "-" {
+        return Some(Vec::new());
+    }
+    let value = |digit: u8| match digit {
+        b'0'..=b'9' => Some(digit - b'0'),
+        b'A'..=b'F' => Some(digit - b'A' + 10),
+        _ => None,
+    };
+    let pairs = word.as_bytes().chunks(2);
+    pairs
+        .map(|pair| Some(value(*pair.first()?)? << 4 | value(*pair.get(1)?)?))
+        .collect()
+}
+
+/// One verdict 1 per signature; a single one for a message that cannot be laid out.
+pub fn all_genuine(message: &[u8]) -> Vec<u8> {
+    vec![1; Message::decode(message).map_or(1, |message| message.signatures())]
+}
+
+/// The call of a line and the length of the output that it is lent: `lent N CALL` says it.
+pub fn lent(line: &str) -> Option<(&str, usize)> {
+    let Some(words) = line.strip_prefix("lent ") else {
+        return Some((line, FULL_OUTPUT));
+    };
+    let (room, call) = words.split_once(' ')?;
+    let room = room.parse().ok().filter(|room| *room <= FULL_OUTPUT)?;
+    Some((call, room))
+}
+
+/// Parties by number, and the records of some that were kept aside.
+struct Parties<T> {
+    present: BTreeMap<u8, T>,
+    kept: BTreeMap<u8, T>,
+}
+
+impl<T> Default for Parties<T> {
+    fn default() -> Parties<T> {
+        Parties {
+            present: BTreeMap::new(),
+            kept: BTreeMap::new(),
+        }
+    }
+}
+
+impl<T: Clone> Parties<T> {
+    fn set_up(&mut self, id: u8, party: Result<T, Refusal>) -> Output {
+        match party {
+            Ok(party) => {
+                self.present.insert(id, party);
+                Output::Ready
+            }
+            Err(refusal) => Output::Refused(refusal),
+        }
+    }
+
+    fn get(&mut self, id: &str) -> Option<&mut T> {
+        self.present.get_mut(&id.parse().ok()?)
+    }
+
+    fn keep(&mut self, id: &str) -> Option<Output> {
+        let id = id.parse().ok()?;
+        self.kept.insert(id, self.present.get(&id)?.clone());
+        Some(Output::Kept)
+    }
+
+    fn restore(&mut self, id: &str) -> Option<Output> {
+        let id = id.parse().ok()?;
+        self.present.insert(id, self.kept.get(&id)?.clone());
+        Some(Output::Restored)
+    }
+}
+
+#[derive(Default)]
+pub struct Player {
+    replicas: Parties<Replica>,
+    clients: Parties<Client>,
+    sent: Vec<Vec<u8>>,
+}
+
+impl Player {
+    pub fn play(&mut self, line: &str) -> Output {
+        if line.starts_with("# ") {
+            return Output::Comment(line.to_string());
+        }
+        let words: Vec<&str> = line.split(' ').collect();
+        let output = match self.arrange(&words) {
+            None => lent(line).and_then(|(call, room)| self.call(call, room)),
+            output => output,
+        };
+        output.unwrap_or(Output::Unread)
+    }
+
+    /// Everything but the four calls.
+    fn arrange(&mut self, words: &[&str]) -> Option<Output> {
+        match *words {
+            ["new"] => {
+                *self = Player::default();
+                Some(Output::New)
+            }
+            ["replica", f, id] => {
+                let (f, id) = (f.parse().ok()?, id.parse().ok()?);
+                Some(self.replicas.set_up(id, Replica::new(f, id)))
+            }
+            ["client", f, id, nonce] => {
+                let (f, id, nonce) = (f.parse().ok()?, id.parse().ok()?, nonce.parse().ok()?);
+                Some(self.clients.set_up(id, Client::new(f, id, nonce)))
+            }
+            ["keep", "replica", id] => self.replicas.keep(id),
+            ["keep", "client", id] => self.clients.keep(id),
+            ["restore", "replica", id] => self.replicas.restore(id),
+            ["restore", "client", id] => self.clients.restore(id),
+            _ => None,
+        }
+    }
+
+    /// The four calls of document 01.
+    fn call(&mut self, call: &str, room: usize) -> Option<Output> {
+        let words: Vec<&str> = call.split(' ').collect();
+        let answer = match *words {
+            ["write", id, card] => self.clients.get(id)?.begin_write(&unhex(card)?, room),
+            ["read", id] => self.clients.get(id)?.begin_read(room),
+            ["to-replica", id, message, verdicts] => {
+                let (message, verdicts) = self.delivery(message, verdicts)?;
+                self.replicas.get(id)?.receive(&message, &verdicts, room)
+            }
+            ["to-client", id, message, verdicts] => {
+                let (message, verdicts) = self.delivery(message, verdicts)?;
+                self.clients.get(id)?.receive(&message, &verdicts, room)
+            }
+            _ => return None,
+        };
+        Some(self.output(answer))
+    }
+
+    fn delivery(&mut self, message: &str, verdicts: &str) -> Option<(Vec<u8>, Vec<u8>)> {
+        let message = self.message(message)?;
+        let verdicts = if verdicts == "+" {
+            all_genuine(&message)
+        } else {
+            unhex(verdicts)?
+        };
+        Some((message, verdicts))
+    }
+
+    fn message(&mut self, word: &str) -> Option<Vec<u8>> {
+        let Some(number) = word.strip_prefix('@') else {
+            return unhex(word);
+        };
+        let number: usize = number.parse().ok()?;
+        let kept = self.sent.iter().take(KEPT_MESSAGES);
+        kept.skip(number.checked_sub(1)?).next().cloned()
+    }
+
+    fn output(&mut self, answer: Result<Answer, Refusal>) -> Output {
+        match answer {
+            Ok(Answer::Sent(message)) => {
+                self.sent.push(message.clone());
+                Output::Sent(self.sent.len(), message)
+            }
+            Ok(Answer::Counted) => Output::Counted,
+            Ok(Answer::Done(timestamp, card)) => Output::Done(timestamp, card),
+            Ok(Answer::Ended) => Output::Ended,
+            Err(refusal) => Output::Refused(refusal),
+        }
+    }
+
+    /// The line with a message named by its number written out in hex.
+    pub fn spelled_out(&self, line: &str) -> String {
+        let spell = |word: &str| {
+            let number: Option<usize> = word
+                .strip_prefix('@')
+                .and_then(|number| number.parse().ok());
+            let sent = number.and_then(|number| self.sent.get(number.wrapping_sub(1)));
+            sent.map_or(word.to_string(), |message| hex(message))
+        };
+        line.split(' ').map(spell).collect::<Vec<_>>().join(" ")
+    }
+}

@@ -1,0 +1,262 @@
+# Draws a script as a sequence chart, in SVG: a column a party, time downwards. Consecutive deliveries of one message to
+# replicas share a row, and so do consecutive replies to one client that count.
+
+function escaped(s) {
+    gsub(/&/, "\\&amp;", s)
+    gsub(/</, "\\&lt;", s)
+    gsub(/>/, "\\&gt;", s)
+    return s
+}
+
+function draw(s) { body = body s "\n" }
+function write(class, x, at, s) { draw("<text class=\"" class "\" x=\"" x "\" y=\"" at "\">" escaped(s) "</text>") }
+function stroke(class, x1, x2, at) { draw("<path class=\"" class "\" d=\"M" x1 " " at "H" x2 "\"/>") }
+function head(class, x, at, way) { draw("<path class=\"" class "\" d=\"M" x " " at "l" (-9 * way) " -4v8z\"/>") }
+function cross(x, at) { draw("<path class=\"lost\" d=\"M" x - 5 " " at - 5 "l10 10m0 -10l-10 10\"/>") }
+
+# A sentence over the whole width, cut into rows.
+function caption(class, s,    word, words, i, row) {
+    words = split(s, word, " ")
+    y += 10
+    for (i = 1; i <= words; i++) {
+        if (row != "" && length(row) + length(word[i]) >= room) { caption_row(class, row); row = "" }
+        row = row == "" ? word[i] : row " " word[i]
+    }
+    caption_row(class, row)
+    y += 4
+}
+
+function caption_row(class, s) {
+    y += 18
+    draw("<rect class=\"paper\" x=\"0\" y=\"" y - 14 "\" width=\"" width "\" height=\"19\"/>")
+    write(class, edge, y, s)
+}
+
+# A box on a party's line.
+function box(class, party, s,    x, w) {
+    y += 28
+    w = 14 + 7.3 * length(s)
+    x = place[party] - 14
+    if (x + w > width - 4) x = width - 4 - w
+    draw("<rect class=\"" class "\" x=\"" x "\" y=\"" y - 16 "\" width=\"" w "\" height=\"22\" rx=\"4\"/>")
+    write("in", x + 7, y - 1, s)
+}
+
+function column(party) { return party in place ? place[party] : edge }
+
+# ---- what takes part, and what arrives: read before anything is drawn
+
+function note_party(party) {
+    if (party == "" || (party in listed)) return
+    listed[party] = 1
+    if (substr(party, 1, 7) == "replica") replicas = replicas "," party
+    else clients = clients "," party
+}
+
+# The names of a list in order of their numbers.
+function sorted(list, out,    word, words, i, j, t) {
+    words = split(substr(list, 2), word, ",")
+    for (i = 2; i <= words; i++)
+        for (j = i; j > 1 && id(word[j]) < id(word[j - 1]); j--) { t = word[j]; word[j] = word[j - 1]; word[j - 1] = t }
+    for (i = 1; i <= words; i++) out[i] = word[i]
+    return words
+}
+
+function id(party) { return substr(party, index(party, " ") + 1) + 0 }
+
+function survey(    n, word) {
+    for (n = 1; n <= lines; n++) {
+        take(n)
+        if (says == "new") section++
+        if (says == "ready" && split(line[n], word, " ") == 3) note_party("replica " word[3])
+        if (call == "write" || call == "read" || call == "to-client") note_party(whom)
+        if (number_of(handed) && says != "unread") arrives[section, number_of(handed), whom] = 1
+    }
+    section = 0
+    split("", sent)
+}
+
+# Clients stand left, replicas right.
+function lay_out(    i, c) {
+    c = sorted(clients, party)
+    replica_count = sorted(replicas, replica)
+    for (i = 1; i <= replica_count; i++) party[c + i] = replica[i]
+    parties = c + replica_count
+    edge = 16
+    width = 940
+    gap = (width - 2 * edge) / (parties > 0 ? parties : 1)
+    if (gap < 120) { gap = 120; width = 2 * edge + gap * parties }
+    room = int((width - 2 * edge) / 7)
+    for (i = 1; i <= parties; i++) place[party[i]] = edge + gap * (i - 0.5)
+}
+
+# ---- rows
+
+# What a delivered message is called: its number, kind and timestamp. One that nobody sent, given as bytes, has no number.
+function label(hex, number) {
+    return number ? number " " named(hex) : kind(hex) ? named(hex) " as bytes" : "bytes"
+}
+
+function number_of(word) { return substr(word, 1, 1) == "@" ? substr(word, 2) + 0 : 0 }
+
+# A message on its way to the replicas that are reached; those that it never reaches are crossed out in its first row.
+function to_replicas(hex, number,    from, far, i, at, below) {
+    y += 28
+    from = far = column(source(hex))
+    for (i = 1; i <= reached; i++) if (column(reach[i]) > far) far = column(reach[i])
+    stroke(number ? "way" : "bytes", from, far, y)
+    write("label", from + 8, y - 5, label(hex, number))
+    for (i = 1; i <= reached; i++) {
+        at = column(reach[i])
+        head(outcome[i] ~ /^refused/ ? "bad" : "head", at, y, from <= at ? 1 : -1)
+        if (outcome[i] == "") continue
+        write("note end", at - 4, y + 14, outcome[i])
+        below = 8
+    }
+    if (number && kind(hex) <= 4 && !crossed[section, number]++) losses(hex, number, far)
+    y += below
+}
+
+function losses(hex, number, end,    i, at) {
+    for (i = 1; i <= replica_count; i++) {
+        at = place[replica[i]]
+        if (((section, number, replica[i]) in arrives) || ((hex, replica[i]) in spared)) continue
+        if (at > end) { stroke("gone", end, at, y); end = at }
+        cross(at, y)
+    }
+}
+
+# Replies that reach a client together.
+function to_client(client, refusal,    i, far, at) {
+    y += 28
+    at = far = column(client)
+    for (i = 1; i <= reached; i++) if (column(reach[i]) > far) far = column(reach[i])
+    stroke(shows[reached] ~ /bytes$/ ? "bytes" : "way", at, far, y)
+    head(refusal == "" ? "head" : "bad", at, y, -1)
+    for (i = 1; i <= reached; i++) {
+        draw("<circle cx=\"" column(reach[i]) "\" cy=\"" y "\" r=\"3\"/>")
+        write(column(reach[i]) > at ? "label end" : "label", column(reach[i]) + (column(reach[i]) > at ? -7 : 12), y - 5, shows[i])
+    }
+    if (refusal == "") return
+    write("note", at + 12, y + 14, refusal)
+    y += 6
+}
+
+# ---- the rows of a script, line after line
+
+# The line of the last delivery in the row that starts at line n.
+function replica_row(n,    hex, word, last) {
+    hex = message
+    word = handed
+    reached = 0
+    do {
+        reach[++reached] = whom
+        outcome[reached] = says == "sent" ? lost_reply(said_number) : said
+        last = column(whom)
+        take(++n)
+    } while (n <= lines && call == "to-replica" && handed == word && column(whom) > last)
+    to_replicas(hex, number_of(word))
+    return n - 1
+}
+
+# What becomes of a reply: nothing to say if some client gets it.
+function lost_reply(number,    i) {
+    for (i = 1; i <= parties; i++) if ((section, number, party[i]) in arrives) return ""
+    return number " " kind_name[kind(sent[number])] " lost"
+}
+
+# Whether the reply that is handed over fits into the row, behind one from a replica in this column.
+function fits(last) { return column(source(message)) > last + 6 + 7 * length(label(message, number_of(handed))) }
+
+function client_row(n,    client, refusal, k, last) {
+    client = whom
+    k = kind(message)
+    reached = 0
+    do {
+        reach[++reached] = source(message)
+        shows[reached] = label(message, number_of(handed))
+        if (says == "refused") refusal = said
+        else if (k == 8) showed[client, source(message)] = shown(message)
+        if (says != "counted") { n++; break }
+        last = column(source(message))
+        take(++n)
+    } while (n <= lines && call == "to-client" && whom == client && kind(message) == k && says != "refused" && fits(last))
+    take(n - 1)
+    to_client(client, refusal)
+    if (says == "sent") sends(client)
+    if (says == "done") box("done", client, "done " said_word ": " in_words(said_card))
+    if (says == "ended") box("done", client, "ended")
+    return n - 1
+}
+
+# A client sends a message: one that reaches nobody has its row here. In a write-back, replicas that showed the timestamp are
+# sent nothing.
+function sends(client,    i, hex) {
+    hex = sent[said_number]
+    for (i = 1; i <= replica_count; i++)
+        if (reading[client] && kind(hex) == 3 && showed[client, replica[i]] == shown(hex)) spared[hex, replica[i]] = 1
+    for (i = 1; i <= replica_count; i++) if ((section, said_number, replica[i]) in arrives) return
+    reached = 0
+    to_replicas(hex, said_number)
+}
+
+function begins(client,    what, i) {
+    what = call == "write" ? "write " in_words(text) : "read"
+    box(says == "refused" ? "wrong" : "begin", client, what (says == "refused" ? ": " said : ""))
+    if (says != "sent") return
+    reading[client] = call == "read"
+    for (i = 1; i <= replica_count; i++) delete showed[client, replica[i]]
+    sends(client)
+}
+
+function rows(    n) {
+    for (n = 1; n <= lines; n++) {
+        take(n)
+        if (substr(line[n], 1, 2) == "# ") caption("says", substr(line[n], 3))
+        else if (says == "new") { section++; caption("says", "All parties and messages are set aside.") }
+        else if (says == "unread") caption("unread", "unread: " line[n])
+        else if (call == "to-replica") n = replica_row(n)
+        else if (call == "to-client") n = client_row(n)
+        else if (call == "write" || call == "read") begins(whom)
+        else if (call == "keep") box("disk", whom, "image taken")
+        else if (call == "restore") box("disk", whom, "back from its image")
+        else if (says == "refused") caption("unread", line[n] ": " said)
+    }
+}
+
+function style() {
+    print "<style>"
+    print "text{font:12px Helvetica,Arial,'DejaVu Sans',sans-serif;fill:#1b1b1b}"
+    print ".says{font-size:13px;fill:#444}.unread{font-size:13px;fill:#b3261e}.name{font-weight:bold;text-anchor:middle}"
+    print ".label,.note{paint-order:stroke;stroke:#fff;stroke-width:4px}.end{text-anchor:end}.note{fill:#b3261e}"
+    print ".life{stroke:#c9c9c9}.way{stroke:#1b1b1b;fill:none}.bytes{stroke:#1b1b1b;stroke-dasharray:6 4;fill:none}"
+    print ".gone{stroke:#b3261e;stroke-dasharray:2 4;fill:none}.lost{stroke:#b3261e;stroke-width:2;fill:none}.bad{fill:#b3261e}"
+    print ".paper{fill:#fff}.begin{fill:#e6eefb;stroke:#3b6fb6}.done{fill:#e2f3e4;stroke:#2e7d32}"
+    print ".wrong{fill:#fdecea;stroke:#b3261e}.disk{fill:#fff3d6;stroke:#b07d00}.party{fill:#f1f1f1;stroke:#8a8a8a}"
+    print "</style>"
+}
+
+function chart(    i, bottom) {
+    y = 46
+    rows()
+    y = bottom = y + 18
+    caption("says", "A message is its number, kind and timestamp. A red cross: it never arrives there. Red: refused, with the rule's number. Dashed: handed over as bytes.")
+    print "<svg xmlns=\"http://www.w3.org/2000/svg\" viewBox=\"0 0 " width " " y + 8 "\" width=\"" width "\" height=\"" y + 8 "\">"
+    style()
+    print "<rect class=\"paper\" width=\"" width "\" height=\"" y + 8 "\"/>"
+    for (i = 1; i <= parties; i++) {
+        print "<path class=\"life\" d=\"M" place[party[i]] " 36V" bottom "\"/>"
+        print "<rect class=\"party\" x=\"" place[party[i]] - 36 "\" y=\"14\" width=\"72\" height=\"22\" rx=\"4\"/>"
+        print "<text class=\"name\" x=\"" place[party[i]] "\" y=\"29\">" party[i] "</text>"
+    }
+    printf "%s", body
+    print "</svg>"
+}
+
+BEGIN { section = 0 }
+
+END {
+    survey()
+    lay_out()
+    chart()
+}
