@@ -17,7 +17,7 @@ ghost use lib.Dec.{eqb};
 ghost use lib.ListN.{length};
 ghost use Rattle.base.specs.Same.{same};
 ghost use Rattle.base.specs.Timestamp.{number};
-ghost use Rattle.protocol.specs.Client.{bestOf, keepBetter, keepBetterCard, showedBy, isNew};
+ghost use Rattle.protocol.specs.Client.{isBetter, bestOf, keepBetter, keepBetterCard, showedBy, isNew};
 ghost use Rattle.protocol.specs.Parts.{cardStands, startCard};
 ghost use Rattle.wire.specs.Parts.{preparedPart, WholeIfThere};
 
@@ -48,7 +48,15 @@ pub(super) fn is_awaited(
     is_new(counts, sender)
 }
 
-// The larger timestamp; the first reply's on a tie.
+// Whether a reply's timestamp is larger than the largest so far: on a tie the first reply's proof and card are kept.
+fn is_better(best: Timestamp, proof: &[u8]) -> bool
+    requires { ⌜ WholeIfThere (now proof) ⌝ }
+    ensures { λ r. ⌜ r ≡ isBetter best (preparedPart (now (proof .entry))) ⌝ }
+{
+    best.is_before(parts::timestamp(proof))
+}
+
+// The larger timestamp.
 pub(super) fn best_of(best: Timestamp, proof: &[u8]) -> Timestamp
     requires { ⌜ WholeIfThere (now proof) ⌝ }
     ensures { λ r. ⌜ r ≡ bestOf best (preparedPart (now (proof .entry))) ⌝ }
@@ -62,7 +70,7 @@ pub(super) fn keep_better(client: Client, best: Timestamp, proof: &[u8]) -> Clie
     requires { ⌜ WholeIfThere (now proof) ⌝ }
     ensures { λ r. ⌜ r ≡ keepBetter best (preparedPart (now (proof .entry))) client ⌝ }
 {
-    if !best.is_before(parts::timestamp(proof)) {
+    if !is_better(best, proof) {
         return client;
     }
     with_proof(client, proof)
@@ -77,7 +85,7 @@ pub(super) fn keep_better_card<'a>(
     requires { ⌜ WholeIfThere (now proof) × (length (now card) ≤ 17) ⌝ }
     ensures { λ r. ⌜ r ≡ keepBetterCard best (now (card .entry)) (preparedPart (now (proof .entry))) client ⌝ }
 {
-    if !best.is_before(parts::timestamp(proof)) {
+    if !is_better(best, proof) {
         return client;
     }
     with_card(with_proof(client, proof), card)

@@ -291,15 +291,18 @@ abbrev pub isNew : ReplicaSet → ReplicaId → Bool
 isNew counts sender = not (has counts sender)
 
 -- "Of replies with the same largest stamp the first one taken gives proof and card."
+abbrev pub isBetter : Timestamp → Option PreparedProof → Bool
+isBetter best proof = ltb (number best) (preparedTimestamp proof)
+
 abbrev pub bestOf : Timestamp → Option PreparedProof → Timestamp
-bestOf best proof = cond (ltb (number best) (preparedTimestamp proof)) (ofNumber (preparedTimestamp proof)) best
+bestOf best proof = cond (isBetter best proof) (ofNumber (preparedTimestamp proof)) best
 
 abbrev pub keepProof : Option PreparedProof → Client → Client
 keepProof none client = client
 keepProof (some proof) client = withProof proof client
 
 abbrev pub keepBetter : Timestamp → Option PreparedProof → Client → Client
-keepBetter best proof client = cond (ltb (number best) (preparedTimestamp proof)) (keepProof proof client) client
+keepBetter best proof client = cond (isBetter best proof) (keepProof proof client) client
 
 -- From q STAMPs: "PREPARE its successor with its proof and the desk's last written proof, if any"
 abbrev pub toPrepare : Client → Timestamp → Option Timestamp → Outcome Turn
@@ -367,10 +370,10 @@ onWritten client sender timestamp signature (Cards nonce best counts showed) = u
 -- "Holders that showed it count.": those of the largest timestamp so far.
 abbrev pub showedBy : Timestamp → Option PreparedProof → ReplicaId → ReplicaSet → ReplicaSet
 showedBy best proof sender showed =
-    cond (ltb (number best) (preparedTimestamp proof)) (with empty sender) (cond (eqb (number best) (preparedTimestamp proof)) (with showed sender) showed)
+    cond (isBetter best proof) (with empty sender) (cond (eqb (number best) (preparedTimestamp proof)) (with showed sender) showed)
 
 abbrev pub keepBetterCard : Timestamp → List ℕ → Option PreparedProof → Client → Client
-keepBetterCard best card proof client = cond (ltb (number best) (preparedTimestamp proof)) (withCard card (keepProof proof client)) client
+keepBetterCard best card proof client = cond (isBetter best proof) (withCard card (keepProof proof client)) client
 
 -- "If they are q it is done; else WRITE it back"
 unfoldable pub afterCard : ℕ → Timestamp → ReplicaSet → ReplicaSet → Client → Outcome Turn

@@ -1,39 +1,26 @@
 -- `client::replies::keep_better` meets its contract. Assumes nothing.
-use Rattle.base.specs.Timestamp.{number}
-use mathlib.Core.Path.{_∙_}
+use mathlib.Core.Path.{sym, _∙_}
 use borrow.Author.Tests.{not-true, not-false}
-use Rattle.client.proofs.ProofPart.{compared, later-there}
 use borrow.Author.Needs.{needs}
+use Rattle.base.specs.Timestamp.{number}
+use Rattle.client.proofs.ProofPart.{later-there}
 use Rattle.client.proofs.replies.keep_better.Statement.{statement}
 use Rattle.client.proofs.replies.keep_better.Tie as tie
 
 returns : tie.Need-returns
-returns c =
-    let s = c .before .before .before .before in
-    let proof = s .args .proof .now in
-    let t = c .before .before .timestamp in
-    let later = compared (s .args .best) (t .result) proof (s .pre) (t .ensures) (c .before .is-before .result) (c .before .is-before .ensures) in
-    rw (later ∙ not-true _ (c .if1 .taken))
+returns c = rw (sym (c .before .is-better .ensures) ∙ not-true _ (c .if1 .taken))
 
 with-proof-requires : tie.Need-with-proof-requires
 with-proof-requires c κs =
-    let s = c .before .before .before .before in
-    let proof = s .args .proof .now in
-    let t = c .before .before .timestamp in
-    let later = compared (s .args .best) (t .result) proof (s .pre) (t .ensures) (c .before .is-before .result) (c .before .is-before .ensures) in
-    later-there (number (s .args .best)) proof (s .pre) (later ∙ not-false _ (c .if1 .left)) .whole
+    let s = c .before .before .before in
+    later-there (number (s .args .best)) (s .args .proof .now) (s .pre) (sym (c .before .is-better .ensures) ∙ not-false _ (c .if1 .left)) .whole
 
 returns-2 : tie.Need-returns-2
 returns-2 c =
     let e = c .before in
-    let s = e .before .before .before .before in
-    let proof = s .args .proof .now in
-    let t = e .before .before .timestamp in
-    let later = compared (s .args .best) (t .result) proof (s .pre) (t .ensures) (e .before .is-before .result) (e .before .is-before .ensures) in
-    let yes = later ∙ not-false _ (e .if1 .left) in
-    rw (yes, later-there (number (s .args .best)) proof (s .pre) yes .is) (c .with-proof .ensures)
+    let s = e .before .before .before in
+    let yes = sym (e .before .is-better .ensures) ∙ not-false _ (e .if1 .left) in
+    rw (yes, later-there (number (s .args .best)) (s .args .proof .now) (s .pre) yes .is) (c .with-proof .ensures)
 
 pub keep-better-spec : {M : Type 1} → statement M
-keep-better-spec =
-    tie.close
-    (tie.spec (λ c κs. search needs) (λ c κs. search needs) returns with-proof-requires returns-2)
+keep-better-spec = tie.close (tie.spec (λ c κs. search needs) returns with-proof-requires returns-2)
