@@ -1,4 +1,5 @@
 pub mod Bodies
+pub mod Called
 pub mod Demand3
 pub mod Held
 pub mod Nonces

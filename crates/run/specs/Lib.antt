@@ -1,3 +1,4 @@
+pub mod Calls
 pub mod Claims
 pub mod Premises
 pub mod Run
