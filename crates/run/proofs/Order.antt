@@ -15,7 +15,7 @@ use Rattle.protocol.specs.Client.{done}
 use Rattle.protocol.specs.Parts.{startCard}
 use Rattle.protocol.specs.declared.client.Client.{Client}
 use Rattle.protocol.specs.declared.client.Phase.the-variants.{Idle}
-use Rattle.run.specs.Claims.{Begins, Finished, FinishedBefore, AtOneTimestamp, Before}
+use Rattle.run.specs.Claims.{Begins, GoesOn, Finished, FinishedBefore, AtOneTimestamp, Before}
 use Rattle.run.specs.Premises.{Accepted, CardOfRun, cardOf, Premises}
 use Rattle.wire.specs.Acceptance.{client}
 use Rattle.run.specs.Run.{Event, begins-write, begins-read, to-client, Run, partyOf, event, clientAt, At, Correct}
@@ -115,22 +115,34 @@ module _ (R : Run) where
   Under o t = During R (o .is-write) (o .id) (cardBegun o) (o .begun) t (clientAt R (o .id) t) (clientAt R (o .id) t .phase)
 
   module _ (P : Premises R) where
+    -- An operation that began at t₀ is under way as long as nothing ends it.
+    pub stays : (id : ClientId) (c : R .correct-client id ≡ true) (w : Bool) (t₀ : ℕ) (b : Begins R w id (event R t₀)) (a : Accepted R t₀) (end : ℕ)
+        → ((t : ℕ) → t₀ < t → t < end → At R t (client id) → GoesOn R t) → (t : ℕ) → t₀ < t → t ≤ end
+        → During R w id (begunWith w id (event R t₀) b) t₀ t (clientAt R id t) (clientAt R id t .phase)
+    stays id c w t₀ b a end none-between zero l l′ = absurd (omega arith)
+    stays id c w t₀ b a end none-between (suc t) l l′ =
+        split-last t₀ t l
+        (λ e. subst (λ (u : ℕ). Under (suc u)) e (start id c w t₀ b a))
+        (λ k. go k (turned id c P w card (begun-card w id t₀ b a) t₀ t (stays id c w t₀ b a end none-between t k (omega arith))))
+      where
+        card : List ℕ
+        card = begunWith w id (event R t₀) b
+
+        Under : ℕ → Type 0
+        Under u = During R w id card t₀ u (clientAt R id u) (clientAt R id u .phase)
+
+        go : t₀ < t → Turned id c w card t₀ t → Under (suc t)
+        go k (waits x silent) = x
+        go k (acts at (goes-on x not-done)) = x
+        go k (acts at (finishes timestamp card e x)) = absurd (none-between t k l′ at .not-done timestamp card e)
+        go k (acts at (stops e)) = absurd (none-between t k l′ at .not-ended e)
+
+    during : (o : Finished R) (t : ℕ) → o .begun < t → t ≤ o .finished → Under o t
+    during o = stays (o .id) (correct-of o) (o .is-write) (o .begun) (o .begins) (o .not-refused) (o .finished) (o .none-between)
+
     turn-of : (o : Finished R) (t : ℕ) → Under o t → Turned (o .id) (correct-of o) (o .is-write) (cardBegun o) (o .begun) t
     turn-of o t x =
         turned (o .id) (correct-of o) P (o .is-write) (cardBegun o) (begun-card (o .is-write) (o .id) (o .begun) (o .begins) (o .not-refused)) (o .begun) t x
-
-    during : (o : Finished R) (t : ℕ) → o .begun < t → t ≤ o .finished → Under o t
-    during o zero l l′ = absurd (omega arith)
-    during o (suc t) l l′ =
-        split-last (o .begun) t l
-        (λ e. subst (λ (u : ℕ). Under o (suc u)) e (start (o .id) (correct-of o) (o .is-write) (o .begun) (o .begins) (o .not-refused)))
-        (λ k. go k (turn-of o t (during o t k (omega arith))))
-      where
-        go : o .begun < t → Turned (o .id) (correct-of o) (o .is-write) (cardBegun o) (o .begun) t → Under o (suc t)
-        go k (waits x silent) = x
-        go k (acts at (goes-on x not-done)) = x
-        go k (acts at (finishes timestamp card e x)) = absurd (o .none-between t k l′ at .not-done timestamp card e)
-        go k (acts at (stops e)) = absurd (o .none-between t k l′ at .not-ended e)
 
     -- What holds of an operation when it finishes.
     pub finish : (o : Finished R) → AtDone R (o .is-write) (o .id) (cardBegun o) (o .begun) (suc (o .finished)) (o .timestamp) (o .card)
