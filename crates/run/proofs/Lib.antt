@@ -1,3 +1,4 @@
+pub mod Atomicity
 pub mod Bodies
 pub mod Called
 pub mod Demand3
@@ -7,4 +8,6 @@ pub mod Operations
 pub mod Order
 pub mod SentMessages
 pub mod Slots
+pub mod Stages
 pub mod Turns
+pub mod Writes

@@ -23,7 +23,7 @@ use Rattle.run.proofs.Turns.{apart, same-client, Silent, ClientTurn, re
 use Rattle.run.proofs.Slots.{split-last, order, one-backed}
 use Rattle.run.proofs.Operations.{none-in, Settled, settled-later, Shown, shown-later, During, during-later, not-idle, moved, Above, AtDone, Next, goes-on, finishes, stops, heard-next}
 
-three-ways : {P : Type 0} (a b : ℕ) → (a < b → P) → (a ≡ b → P) → (b < a → P) → P
+pub three-ways : {P : Type 0} (a b : ℕ) → (a < b → P) → (a ≡ b → P) → (b < a → P) → P
 three-ways a b x y z = ⊎-elim (λ l. ⊎-elim y x (eq-or-lt-of-le l)) z (order a b)
 
 module _ (R : Run) where
@@ -71,11 +71,11 @@ module _ (R : Run) where
     start false t₀ b a = start-read t₀ b a
 
     -- Event t while the client's operation is under way.
-    data Turned (w : Bool) (card : List ℕ) (t₀ t : ℕ) : Type 0 where
+    pub data Turned (w : Bool) (card : List ℕ) (t₀ t : ℕ) : Type 0 where
       waits : During R w id card t₀ (suc t) (clientAt R id (suc t)) (clientAt R id (suc t) .phase) → Silent R (client id) t → Turned w card t₀ t
       acts : At R t (client id) → Next R w id card t₀ t → Turned w card t₀ t
 
-    turned : Premises R → (w : Bool) (card : List ℕ) → (w ≡ true → CardOfRun R card) → (t₀ t : ℕ) → During R w id card t₀ t (clientAt R id t) (clientAt R id t .phase) → Turned w card t₀ t
+    pub turned : Premises R → (w : Bool) (card : List ℕ) → (w ≡ true → CardOfRun R card) → (t₀ t : ℕ) → During R w id card t₀ t (clientAt R id t) (clientAt R id t .phase) → Turned w card t₀ t
     turned P w card in-run t₀ t x = go (client-turn R id c t)
       where
         busy : {A : Type 0} → clientAt R id t .phase ≡ Idle → A
@@ -89,7 +89,7 @@ module _ (R : Run) where
         go (heard h) = acts (to-client id (h .bytes) (h .verdicts), h .event-is, refl) (heard-next R P id c t₀ t w card in-run h x)
 
     -- A busy client begins nothing.
-    none-begun : (w w′ : Bool) (card : List ℕ) (t₀ t : ℕ) → During R w id card t₀ t (clientAt R id t) (clientAt R id t .phase) → Begins R w′ id (event R t) → Accepted R t → ⊥
+    pub none-begun : (w w′ : Bool) (card : List ℕ) (t₀ t : ℕ) → During R w id card t₀ t (clientAt R id t) (clientAt R id t .phase) → Begins R w′ id (event R t) → Accepted R t → ⊥
     none-begun w w′ card t₀ t x b a = go (client-turn R id c t)
       where
         busy : clientAt R id t .phase ≡ Idle → ⊥
@@ -105,7 +105,7 @@ module _ (R : Run) where
         go (asked turn e b′ s) = busy (b′ .was-idle)
         go (heard h) = no-message w′ (h .bytes) (h .verdicts) (h .event-is) b
 
-  correct-of : (o : Finished R) → R .correct-client (o .id) ≡ true
+  pub correct-of : (o : Finished R) → R .correct-client (o .id) ≡ true
   correct-of o = subst (Correct R) (o .at-client .2) (R .at-correct (o .finished) (o .at-client .0) (o .at-client .1))
 
   abbrev pub cardBegun : Finished R → List ℕ
@@ -165,14 +165,14 @@ module _ (R : Run) where
     above-all true t₀ s a s′ z = let l = a s′ z in omega arith
     above-all false t₀ s a s′ z = a s′ z
 
-    above-write : (w : Bool) (t₀ s : ℕ) → w ≡ true → Above R w t₀ s → (s′ : ℕ) → Settled R t₀ s′ → s′ < s
+    pub above-write : (w : Bool) (t₀ s : ℕ) → w ≡ true → Above R w t₀ s → (s′ : ℕ) → Settled R t₀ s′ → s′ < s
     above-write true t₀ s w a = a
     above-write false t₀ s w a = apart (cc)
 
     settled-before : (o o′ : Finished R) → FinishedBefore R o o′ → Settled R (o′ .begun) (number (o .timestamp))
     settled-before o o′ l = settled-later R (suc (o .finished)) (o′ .begun) (number (o .timestamp)) l (finish o .settled)
 
-    rises : (o o′ : Finished R) → FinishedBefore R o o′ → number (o .timestamp) ≤ number (o′ .timestamp)
+    pub rises : (o o′ : Finished R) → FinishedBefore R o o′ → number (o .timestamp) ≤ number (o′ .timestamp)
     rises o o′ l = above-all (o′ .is-write) (o′ .begun) (number (o′ .timestamp)) (finish o′ .above) (number (o .timestamp)) (settled-before o o′ l)
 
     pub later-write : (o o′ : Finished R) → o′ .is-write ≡ true → FinishedBefore R o o′ → number (o .timestamp) < number (o′ .timestamp)
@@ -205,13 +205,12 @@ module _ (R : Run) where
 
     -- ---- The order is total
 
-    -- Of two operations of one client one finishes before the other begins.
+    -- What a client begins after an operation began it begins after that finished.
+    pub begun-after : (o : Finished R) (t : ℕ) (w : Bool) → o .begun < t → Begins R w (o .id) (event R t) → Accepted R t → o .finished < t
+    begun-after o t w l b a = ⊎-elim (λ k. absurd (none-begun (o .id) (correct-of o) (o .is-write) w (cardBegun o) (o .begun) t (during o t l k) b a)) (λ k. k) (order t (o .finished))
+
     one-after : (o o′ : Finished R) → o .id ≡ o′ .id → o .begun < o′ .begun → o .finished < o′ .begun
-    one-after o o′ e l =
-        ⊎-elim
-        (λ k. absurd (none-begun (o .id) (correct-of o) (o .is-write) (o′ .is-write) (cardBegun o) (o .begun) (o′ .begun) (during o (o′ .begun) l k)
-        (subst (λ (i : ClientId). Begins R (o′ .is-write) i (event R (o′ .begun))) (sym e) (o′ .begins)) (o′ .not-refused)))
-        (λ k. k) (order (o′ .begun) (o .finished))
+    one-after o o′ e l = begun-after o (o′ .begun) (o′ .is-write) l (rw e (o′ .begins)) (o′ .not-refused)
 
     one-write : (o o′ : Finished R) → o .is-write ≡ true → o′ .is-write ≡ true → number (o .timestamp) ≡ number (o′ .timestamp) → o .begun ≡ o′ .begun
     one-write o o′ w w′ e =
@@ -261,7 +260,7 @@ module _ (R : Run) where
       go true x = x
       go false x = omega arith
 
-  chain : (w w′ w″ : Bool) (a b c : ℕ) → AtOneTimestamp R w w′ a b → AtOneTimestamp R w′ w″ b c → AtOneTimestamp R w w″ a c
+  pub chain : (w w′ w″ : Bool) (a b c : ℕ) → AtOneTimestamp R w w′ a b → AtOneTimestamp R w′ w″ b c → AtOneTimestamp R w w″ a c
   chain true true w″ a b c x y = absurd x
   chain true false true a b c x y = absurd y
   chain true false false a b c x y = tt

@@ -1,3 +1,4 @@
+pub mod Atomicity
 pub mod Calls
 pub mod Claims
 pub mod Premises
