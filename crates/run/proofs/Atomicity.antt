@@ -3,30 +3,29 @@ use mathlib.Core.Path.{_≡_, refl, sym, ap, subst, _∙_}
 use mathlib.Core.Logic.{_⊎_, inl, inr, ⊎-elim}
 use mathlib.Core.Bool.{Bool, true, false}
 use mathlib.Core.List.{List}
-use mathlib.Core.Option.{Option, some}
 use Prim.Native.Nat.{ℕ, suc, _%_, _≤_, _<_}
 use native.Mathlib.Omega.{arith}
 use native.Mathlib.Nat.{eq-or-lt-of-le}
 use Rattle.base.specs.Party.{isClient}
 use Rattle.base.specs.Timestamp.{number}
 use Rattle.base.specs.declared.party.ClientId.{ClientId}
-use Rattle.base.specs.declared.timestamp.Timestamp.{Timestamp}
-use Rattle.wire.specs.Acceptance.{replica, client}
+use Rattle.base.specs.declared.party.ReplicaId.{ReplicaId}
+use Rattle.wire.specs.Acceptance.{client}
 use Rattle.wire.specs.Message.{PREPARE, PREPARED}
 use Rattle.wire.specs.Sha256.{sha256}
 use Rattle.protocol.specs.Client.{send}
 use Rattle.protocol.specs.Parts.{startCard}
 use Rattle.protocol.proofs.ReplicaFacts.{clientOf}
-use Rattle.run.specs.Atomicity.{Write, CarriesCorrect, ReadsFrom, Operation, reads, writes, faulty-writes, isWrite, timestampOf, cardOf, BeginsAt, EndsAt, Same, doneAt, Lies, LastWrite, Atomic}
-use Rattle.run.specs.Claims.{Finished, Before, AtOneTimestamp}
+use Rattle.run.specs.Atomicity.{Write, CarriesCorrect, ReadsFrom, Operation, read, write, faulty-write, isWrite, placedAt, valueOf, BeginsAt, EndsAt, Same, doneAt, Precedes, LastWrite, Atomic}
+use Rattle.run.specs.Claims.{Finished, Before}
 use Rattle.run.specs.Premises.{Premises}
 use Rattle.run.specs.Run.{Run}
 use Rattle.run.proofs.Turns.{apart, same-client, correct-client-range, ReplicaStep, replica-step}
 use Rattle.run.proofs.SentMessages.{Said, step-said}
-use Rattle.run.proofs.Slots.{Backed, meet, order}
-use Rattle.run.proofs.Operations.{Settled, settled-later, Shown, Vouched}
-use Rattle.run.proofs.Demand3.{start-shows}
-use Rattle.run.proofs.Order.{three-ways, correct-of, finish, rises, above-write, begun-after as finished-before, total as claimed, chain}
+use Rattle.run.proofs.Slots.{Backed, meet}
+use Rattle.run.proofs.Operations.{settled-later, Shown}
+use Rattle.run.proofs.Demand3.{write-shows, start-shows}
+use Rattle.run.proofs.Order.{three-ways, correct-of, finish, rises, above-write, begun-after as finished-before, total as claimed, not-itself, before-both}
 use Rattle.run.proofs.Writes.{write-of, write-in-run, correct-writer, chosen, begun-after, finished-with}
 
 module _ (R : Run) (P : Premises R) where
@@ -36,13 +35,13 @@ module _ (R : Run) (P : Premises R) where
   record Signed (t s : ℕ) (d : List ℕ) : Type 0 where
     time : ℕ
     earlier : time < t
-    by : Rattle.base.specs.declared.party.ReplicaId.ReplicaId
+    by : ReplicaId
     step : ReplicaStep R by time
     sends : step .reply .message ≡ PREPARED by s d
 
   signed : (t s : ℕ) (d : List ℕ) → Backed R t s d → Signed t s d
   signed t s d b =
-      let one = meet R P (b .who) (b .who) (b .enough) (b .enough) in
+      let one = meet R (P .few-faulty) (b .who) (b .who) (b .enough) (b .enough) in
       let said = b .signed (one .at) (one .in-p) (one .in-r) in
       let x = replica-step R (one .at) (one .in-r) (said .time) (send (PREPARED (one .at) s d)) (said .by) (said .answered) in
       record { time = said .time; earlier = said .earlier; by = one .at; step = x; sends = cc (x .answer-is, said .answered) }
@@ -78,15 +77,15 @@ module _ (R : Run) (P : Premises R) where
           let after = w .after in
           (w, own ∙ carried o, at, P .different-digests (w .card) (o .card) (write-in-run R w) (v .card-in) of, omega arith)
 
-  starts-from : (o : Finished R) → number (o .timestamp) ≡ 0 → o .card ≡ startCard
-  starts-from = start-shows R P
-
   carries-client : (o : Finished R) → 1 ≤ number (o .timestamp) → isClient (o .timestamp .client) ≡ true
   carries-client o p = go (finish R P o .is-shown)
     where
       go : Shown R (suc (o .finished)) (number (o .timestamp)) (o .card) → isClient (o .timestamp .client) ≡ true
       go (inl k) = let z = k .0 in absurd (omega arith)
       go (inr v) = subst (λ (i : ClientId). isClient i ≡ true) (carried o) (backed-client (suc (o .finished)) (number (o .timestamp)) (sha256 (o .card)) (v .backed))
+
+  pub reads-from-writes : ReadsFrom R
+  reads-from-writes = record { reads-from = reads-from; writes-own = write-shows R P; starts-from = start-shows R P; carries-client = carries-client }
 
   -- ---- No two writes have one timestamp
 
@@ -131,31 +130,20 @@ module _ (R : Run) (P : Premises R) where
               above-write R P (o .is-write) (o .begun) (number (o .timestamp)) e (finish R P o .above) (w .timestamp)
               (begun-after R P w (o .begun) (o .is-write) l (rw same (o .begins)) (o .not-refused))
 
-  pub reads-from-writes : ReadsFrom R
-  reads-from-writes = record { reads-from = reads-from; starts-from = starts-from; carries-client = carries-client; has-write = has-write }
-
   -- ---- The order
 
-  irreflexive : (a : Operation R) → Lies R a a → ⊥
-  irreflexive a (inl l) = omega arith
-  irreflexive a (inr k) = go (isWrite R a) (k .1)
-    where
-      go : (w : Bool) → AtOneTimestamp R w w (doneAt R a) (doneAt R a) → ⊥
-      go true x = x
-      go false x = omega arith
+  irreflexive : (a : Operation R) → Precedes R a a → ⊥
+  irreflexive a = not-itself R (placedAt R a) (isWrite R a) (doneAt R a)
 
-  transitive : (a b c : Operation R) → Lies R a b → Lies R b c → Lies R a c
-  transitive a b c (inl x) (inl y) = inl (omega arith)
-  transitive a b c (inl x) (inr y) = let e = y .0 in inl (omega arith)
-  transitive a b c (inr x) (inl y) = let e = x .0 in inl (omega arith)
-  transitive a b c (inr x) (inr y) = inr (x .0 ∙ y .0, chain R (isWrite R a) (isWrite R b) (isWrite R c) (doneAt R a) (doneAt R b) (doneAt R c) (x .1) (y .1))
+  transitive : (a b c : Operation R) → Precedes R a b → Precedes R b c → Precedes R a c
+  transitive a b c = before-both R (placedAt R a) (placedAt R b) (placedAt R c) (isWrite R a) (isWrite R b) (isWrite R c) (doneAt R a) (doneAt R b) (doneAt R c)
 
   abbrev Laid : Operation R → Operation R → Type 0
-  Laid a b = Same R a b ⊎ (Lies R a b ⊎ Lies R b a)
+  Laid a b = Same R a b ⊎ (Precedes R a b ⊎ Precedes R b a)
 
   -- By their timestamps, if these differ.
-  by-timestamp : (a b : Operation R) → (timestampOf R a ≡ timestampOf R b → Laid a b) → Laid a b
-  by-timestamp a b same = three-ways {P = Laid a b} (timestampOf R a) (timestampOf R b) (λ l. inr (inl (inl l))) same (λ l. inr (inr (inl l)))
+  by-timestamp : (a b : Operation R) → (placedAt R a ≡ placedAt R b → Laid a b) → Laid a b
+  by-timestamp a b same = three-ways {P = Laid a b} (placedAt R a) (placedAt R b) (λ l. inr (inl (inl l))) same (λ l. inr (inr (inl l)))
 
   -- A faulty client's timestamp is no write's of a correct client.
   not-faulty : {A : Type 0} (w : Write R) (o : Finished R) → R .correct-client (o .timestamp .client) ≡ false → w .timestamp ≡ number (o .timestamp) → A
@@ -167,73 +155,81 @@ module _ (R : Run) (P : Premises R) where
       apart (cc)
 
   -- Two reads, as the claims lay them.
-  laid-reads : (o o′ : Finished R) (r : o .is-write ≡ false) (r′ : o′ .is-write ≡ false) → Before R o o′ → Lies R (reads o r) (reads o′ r′)
-  laid-reads o o′ r r′ (inl l) = inl l
-  laid-reads o o′ r r′ (inr k) = inr (k .0, rw (r, r′) at (k .1))
+  laid-reads : (o o′ : Finished R) (r : o .is-write ≡ false) (r′ : o′ .is-write ≡ false) → Before R o o′ → Precedes R (read o r) (read o′ r′)
+  laid-reads o o′ r r′ x = rw (r, r′) at x
 
   total : (a b : Operation R) → Laid a b
-  total (reads o r) (reads o′ r′) = ⊎-elim inl (λ x. inr (⊎-elim (λ y. inl (laid-reads o o′ r r′ y)) (λ y. inr (laid-reads o′ o r′ r y)) x)) (claimed R P o o′)
-  total (reads o r) (writes w) = by-timestamp (reads o r) (writes w) (λ e. inr (inr (inr (sym e, tt))))
-  total (reads o r) (faulty-writes o′ r′ p f) = by-timestamp (reads o r) (faulty-writes o′ r′ p f) (λ e. inr (inr (inr (sym e, tt))))
-  total (writes w) (reads o r) = by-timestamp (writes w) (reads o r) (λ e. inr (inl (inr (e, tt))))
-  total (writes w) (writes w′) = by-timestamp (writes w) (writes w′) (λ e. inl (one-write w w′ e))
-  total (writes w) (faulty-writes o r p f) = by-timestamp (writes w) (faulty-writes o r p f) (λ e. not-faulty w o f e)
-  total (faulty-writes o r p f) (reads o′ r′) = by-timestamp (faulty-writes o r p f) (reads o′ r′) (λ e. inr (inl (inr (e, tt))))
-  total (faulty-writes o r p f) (writes w) = by-timestamp (faulty-writes o r p f) (writes w) (λ e. not-faulty w o f (sym e))
-  total (faulty-writes o r p f) (faulty-writes o′ r′ p′ f′) = by-timestamp (faulty-writes o r p f) (faulty-writes o′ r′ p′ f′) (λ e. inl e)
+  total (read o r) (read o′ r′) = ⊎-elim inl (λ x. inr (⊎-elim (λ y. inl (laid-reads o o′ r r′ y)) (λ y. inr (laid-reads o′ o r′ r y)) x)) (claimed R P o o′)
+  total (read o r) (write w) = by-timestamp (read o r) (write w) (λ e. inr (inr (inr (sym e, tt))))
+  total (read o r) (faulty-write o′ r′ p f) = by-timestamp (read o r) (faulty-write o′ r′ p f) (λ e. inr (inr (inr (sym e, tt))))
+  total (write w) (read o r) = by-timestamp (write w) (read o r) (λ e. inr (inl (inr (e, tt))))
+  total (write w) (write w′) = by-timestamp (write w) (write w′) (λ e. inl (one-write w w′ e))
+  total (write w) (faulty-write o r p f) = by-timestamp (write w) (faulty-write o r p f) (λ e. not-faulty w o f e)
+  total (faulty-write o r p f) (read o′ r′) = by-timestamp (faulty-write o r p f) (read o′ r′) (λ e. inr (inl (inr (e, tt))))
+  total (faulty-write o r p f) (write w) = by-timestamp (faulty-write o r p f) (write w) (λ e. not-faulty w o f (sym e))
+  total (faulty-write o r p f) (faulty-write o′ r′ p′ f′) = by-timestamp (faulty-write o r p f) (faulty-write o′ r′ p′ f′) (λ e. inl e)
 
   -- ---- It extends "ended before the other began"
 
-  extends : (a b : Operation R) (t t′ : ℕ) → EndsAt R a t → BeginsAt R b t′ → t < t′ → Lies R a b
-  extends (reads o r) (reads o′ r′) t t′ e b l =
+  extends : (a b : Operation R) (t t′ : ℕ) → EndsAt R a t → BeginsAt R b t′ → t < t′ → Precedes R a b
+  extends (read o r) (read o′ r′) t t′ e b l =
       let after = o′ .after in
       ⊎-elim (λ z. inr (z, omega arith)) (λ z. inl z) (eq-or-lt-of-le (rises R P o o′ (omega arith)))
-  extends (reads o r) (writes w) t t′ e b l = inl (write-above o w (omega arith))
-  extends (reads o r) (faulty-writes o′ r′ p f) t t′ e b l = absurd b
-  extends (writes w) (reads o′ r′) t t′ (o, same, e) b l =
+  extends (read o r) (write w) t t′ e b l = inl (write-above o w (omega arith))
+  extends (read o r) (faulty-write o′ r′ p f) t t′ e b l = absurd b
+  extends (write w) (read o′ r′) t t′ (o, same, e) b l =
       let is = finished-with R P w o same in
       ⊎-elim (λ z. inr (sym is ∙ z, tt)) (λ z. inl (omega arith)) (eq-or-lt-of-le (rises R P o o′ (omega arith)))
-  extends (writes w) (writes w′) t t′ (o, same, e) b l =
+  extends (write w) (write w′) t t′ (o, same, e) b l =
       let is = finished-with R P w o same in
       let above = write-above o w′ (omega arith) in
       inl (omega arith)
-  extends (writes w) (faulty-writes o′ r′ p f) t t′ e b l = absurd b
-  extends (faulty-writes o r p f) b t t′ e b′ l = absurd e
+  extends (write w) (faulty-write o′ r′ p f) t t′ e b l = absurd b
+  extends (faulty-write o r p f) b t t′ e b′ l = absurd e
 
   -- ---- A read shows the last write before it
 
   -- A write at a read's timestamp is the last one before it.
-  last-at : (w : Operation R) (o : Finished R) (r : o .is-write ≡ false) → isWrite R w ≡ true → timestampOf R w ≡ number (o .timestamp) → LastWrite R w (reads o r)
-  last-at w o r is e = record { is-write = is; lies = inr (e, rw is tt); is-last = λ w′ is′ l. go w′ is′ l }
+  last-at : (w : Operation R) (o : Finished R) (r : o .is-write ≡ false) → isWrite R w ≡ true → placedAt R w ≡ number (o .timestamp) → LastWrite R w (read o r)
+  last-at w o r is e = record { is-write = is; precedes = inr (e, rw is tt); is-last = λ w′ is′ l. go w′ is′ l }
     where
-      go : (w′ : Operation R) → isWrite R w′ ≡ true → Lies R w′ (reads o r) → Same R w′ w ⊎ Lies R w′ w
+      go : (w′ : Operation R) → isWrite R w′ ≡ true → Precedes R w′ (read o r) → Same R w′ w ⊎ Precedes R w′ w
       go w′ is′ (inl l) = inr (inl (omega arith))
       go w′ is′ (inr k) = by (total w′ w)
         where
-          by : Laid w′ w → Same R w′ w ⊎ Lies R w′ w
+          by : Laid w′ w → Same R w′ w ⊎ Precedes R w′ w
           by (inl x) = inl x
           by (inr (inl x)) = inr x
           by (inr (inr (inl l))) = let same = k .0 in absurd (omega arith)
           by (inr (inr (inr x))) = absurd (rw (is, is′) at (x .1))
 
-  reads-last : (o : Finished R) (r : o .is-write ≡ false) → 1 ≤ number (o .timestamp) → (w : Operation R) × LastWrite R w (reads o r) × (cardOf R w ≡ o .card)
+  reads-last : (o : Finished R) (r : o .is-write ≡ false) → 1 ≤ number (o .timestamp) → (w : Operation R) × LastWrite R w (read o r) × (valueOf R w ≡ o .card)
   reads-last o r p = go (R .correct-client (o .timestamp .client)) refl
     where
-      go : (b : Bool) → R .correct-client (o .timestamp .client) ≡ b → (w : Operation R) × LastWrite R w (reads o r) × (cardOf R w ≡ o .card)
-      go true c = let (w, id-is, timestamp-is, card-is, before) = reads-from o c in (writes w, last-at (writes w) o r refl timestamp-is, card-is)
-      go false f = (faulty-writes o r p f, last-at (faulty-writes o r p f) o r refl refl, refl)
+      go : (b : Bool) → R .correct-client (o .timestamp .client) ≡ b → (w : Operation R) × LastWrite R w (read o r) × (valueOf R w ≡ o .card)
+      go true c = let (w, id-is, timestamp-is, card-is, before) = reads-from o c in (write w, last-at (write w) o r refl timestamp-is, card-is)
+      go false f = (faulty-write o r p f, last-at (faulty-write o r p f) o r refl refl, refl)
 
-  write-positive : (w : Operation R) → isWrite R w ≡ true → 1 ≤ timestampOf R w
-  write-positive (reads o r) e = apart (cc)
-  write-positive (writes w) e = chosen R P w .positive
-  write-positive (faulty-writes o r p f) e = p
+  write-positive : (w : Operation R) → isWrite R w ≡ true → 1 ≤ placedAt R w
+  write-positive (read o r) e = apart (cc)
+  write-positive (write w) e = chosen R P w .positive
+  write-positive (faulty-write o r p f) e = p
 
-  reads-start : (o : Finished R) (r : o .is-write ≡ false) → number (o .timestamp) ≡ 0 → (o .card ≡ startCard) × ((w : Operation R) → isWrite R w ≡ true → Lies R w (reads o r) → ⊥)
-  reads-start o r e = (starts-from o e, none-before)
+  reads-start : (o : Finished R) (r : o .is-write ≡ false) → number (o .timestamp) ≡ 0 → (o .card ≡ startCard) × ((w : Operation R) → isWrite R w ≡ true → Precedes R w (read o r) → ⊥)
+  reads-start o r e = (start-shows R P o e, none-before)
     where
-      none-before : (w : Operation R) → isWrite R w ≡ true → Lies R w (reads o r) → ⊥
+      none-before : (w : Operation R) → isWrite R w ≡ true → Precedes R w (read o r) → ⊥
       none-before w is (inl l) = omega arith
       none-before w is (inr k) = let p = write-positive w is in let same = k .0 in omega arith
 
   pub atomic : Atomic R
-  atomic = record { irreflexive = irreflexive; transitive = transitive; total = total; extends = extends; reads-last = reads-last; reads-start = reads-start }
+  atomic =
+      record {
+        has-write = has-write;
+        irreflexive = irreflexive;
+        transitive = transitive;
+        total = total;
+        extends = extends;
+        reads-last = reads-last;
+        reads-start = reads-start;
+      }

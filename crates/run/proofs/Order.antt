@@ -15,7 +15,7 @@ use Rattle.protocol.specs.Client.{done}
 use Rattle.protocol.specs.Parts.{startCard}
 use Rattle.protocol.specs.declared.client.Client.{Client}
 use Rattle.protocol.specs.declared.client.Phase.the-variants.{Idle}
-use Rattle.run.specs.Claims.{Begins, GoesOn, Finished, FinishedBefore, AtOneTimestamp, Before}
+use Rattle.run.specs.Claims.{Begins, GoesOn, Finished, FinishedBefore, AtOneTimestamp, LiesBefore, Before}
 use Rattle.run.specs.Premises.{Accepted, CardOfRun, cardOf, Premises}
 use Rattle.wire.specs.Acceptance.{client}
 use Rattle.run.specs.Run.{Event, begins-write, begins-read, to-client, Run, partyOf, event, clientAt, At, Correct}
@@ -194,7 +194,7 @@ module _ (R : Run) where
     same-shown t s card card′ (inl a) (inl b) = a .1 ∙ sym (b .1)
     same-shown t s card card′ (inl a) (inr b) = let z = a .0 in let p = b .positive in absurd (omega arith)
     same-shown t s card card′ (inr a) (inl b) = let z = b .0 in let p = a .positive in absurd (omega arith)
-    same-shown t s card card′ (inr a) (inr b) = P .different-digests card card′ (a .card-in) (b .card-in) (one-backed R P t s (sha256 card) (sha256 card′) (a .backed) (b .backed))
+    same-shown t s card card′ (inr a) (inr b) = P .different-digests card card′ (a .card-in) (b .card-in) (one-backed R (P .few-faulty) t s (sha256 card) (sha256 card′) (a .backed) (b .backed))
 
     pub one-card : (o o′ : Finished R) → number (o .timestamp) ≡ number (o′ .timestamp) → o .card ≡ o′ .card
     one-card o o′ e =
@@ -252,15 +252,15 @@ module _ (R : Run) where
 
   -- ---- What needs no premise
 
-  pub irreflexive : (o : Finished R) → Before R o o → ⊥
-  irreflexive o (inl l) = omega arith
-  irreflexive o (inr k) = go (o .is-write) (k .1)
+  pub not-itself : (s : ℕ) (w : Bool) (at : ℕ) → LiesBefore R s w at s w at → ⊥
+  not-itself s w at (inl l) = omega arith
+  not-itself s w at (inr k) = go w (k .1)
     where
-      go : (w : Bool) → AtOneTimestamp R w w (o .finished) (o .finished) → ⊥
+      go : (w : Bool) → AtOneTimestamp R w w at at → ⊥
       go true x = x
       go false x = omega arith
 
-  pub chain : (w w′ w″ : Bool) (a b c : ℕ) → AtOneTimestamp R w w′ a b → AtOneTimestamp R w′ w″ b c → AtOneTimestamp R w w″ a c
+  chain : (w w′ w″ : Bool) (a b c : ℕ) → AtOneTimestamp R w w′ a b → AtOneTimestamp R w′ w″ b c → AtOneTimestamp R w w″ a c
   chain true true w″ a b c x y = absurd x
   chain true false true a b c x y = absurd y
   chain true false false a b c x y = tt
@@ -268,8 +268,15 @@ module _ (R : Run) where
   chain false false true a b c x y = absurd y
   chain false false false a b c x y = omega arith
 
+  pub before-both : (s s′ s″ : ℕ) (w w′ w″ : Bool) (at at′ at″ : ℕ) → LiesBefore R s w at s′ w′ at′ → LiesBefore R s′ w′ at′ s″ w″ at″ → LiesBefore R s w at s″ w″ at″
+  before-both s s′ s″ w w′ w″ at at′ at″ (inl a) (inl b) = inl (omega arith)
+  before-both s s′ s″ w w′ w″ at at′ at″ (inl a) (inr b) = let e = b .0 in inl (omega arith)
+  before-both s s′ s″ w w′ w″ at at′ at″ (inr a) (inl b) = let e = a .0 in inl (omega arith)
+  before-both s s′ s″ w w′ w″ at at′ at″ (inr a) (inr b) = inr (a .0 ∙ b .0, chain w w′ w″ at at′ at″ (a .1) (b .1))
+
+  pub irreflexive : (o : Finished R) → Before R o o → ⊥
+  irreflexive o = not-itself (number (o .timestamp)) (o .is-write) (o .finished)
+
   pub transitive : (o o′ o″ : Finished R) → Before R o o′ → Before R o′ o″ → Before R o o″
-  transitive o o′ o″ (inl a) (inl b) = inl (omega arith)
-  transitive o o′ o″ (inl a) (inr b) = let e = b .0 in inl (omega arith)
-  transitive o o′ o″ (inr a) (inl b) = let e = a .0 in inl (omega arith)
-  transitive o o′ o″ (inr a) (inr b) = inr (a .0 ∙ b .0, chain (o .is-write) (o′ .is-write) (o″ .is-write) (o .finished) (o′ .finished) (o″ .finished) (a .1) (b .1))
+  transitive o o′ o″ =
+      before-both (number (o .timestamp)) (number (o′ .timestamp)) (number (o″ .timestamp)) (o .is-write) (o′ .is-write) (o″ .is-write) (o .finished) (o′ .finished) (o″ .finished)

@@ -21,12 +21,12 @@ use Rattle.protocol.specs.declared.client.Phase.the-variants.{Idle, Stamps, Pre
 use Rattle.run.specs.Atomicity.{Write}
 use Rattle.run.specs.Claims.{Begins, GoesOn, Finished}
 use Rattle.run.specs.Premises.{Accepted, CardOfRun, cardOf, Premises}
-use Rattle.run.specs.Run.{begins-write, begins-read, to-client, Run, event, clientAt, answerAt, At, Correct}
-use Rattle.run.proofs.Turns.{apart, same-client, Silent, ClientStep, Heard, ClientTurn, rested, wrote, asked, heard, client-turn, GoodClient, good-client}
+use Rattle.run.specs.Run.{begins-write, to-client, Run, event, clientAt, answerAt, At, Correct}
+use Rattle.run.proofs.Turns.{apart, Silent, Heard, ClientTurn, rested, wrote, asked, heard, client-turn}
 use Rattle.run.proofs.Stages.{isStamping, preparedFor, isPrepare, isOver, Stage, stamping, prepares, keeps, finishes, others, stage}
 use Rattle.run.proofs.Slots.{split-last, order}
 use Rattle.run.proofs.Operations.{Settled, settled-later, Chosen, WriteIn, During, goes-on, stops, finishes as ends}
-use Rattle.run.proofs.Order.{Turned, waits, acts, turned, none-begun, stays, finish}
+use Rattle.run.proofs.Order.{Turned, waits, acts, turned, none-begun, stays}
 
 module _ (R : Run) where
   -- An answer that ends nothing.

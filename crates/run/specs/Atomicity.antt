@@ -1,5 +1,6 @@
--- Atomic reads and writes, in the usual sense (linearizability): each operation seems to happen at one moment between its
--- beginning and its end. Of faulty clients, who have no events, a write is added for each timestamp of theirs that a read shows.
+-- Atomic reads and writes, in the usual sense (linearizability): one order of all operations, as if each happened at one moment
+-- between its beginning and its end. As usual, a write that is under way may count. Faulty clients have no events: for each
+-- timestamp of theirs that a read shows, a write of theirs is added (BFT-linearizability).
 use mathlib.Core.Path.{_≡_}
 use mathlib.Core.Logic.{_⊎_}
 use mathlib.Core.Bool.{Bool, true, false}
@@ -15,7 +16,7 @@ use Rattle.wire.specs.Message.{PREPARE}
 use Rattle.wire.specs.Proof.{PreparedProof, WrittenProof}
 use Rattle.protocol.specs.Client.{send}
 use Rattle.protocol.specs.Parts.{startCard}
-use Rattle.run.specs.Claims.{GoesOn, Finished, AtOneTimestamp}
+use Rattle.run.specs.Claims.{GoesOn, Finished, LiesBefore}
 use Rattle.run.specs.Premises.{Accepted}
 use Rattle.run.specs.Run.{begins-write, Run, event, answerAt, At}
 
@@ -46,83 +47,85 @@ module _ (R : Run) where
     -- the operation's done; the write has this timestamp.
     pub reads-from : (o : Finished R) → CarriesCorrect o
         → (w : Write) × (w .id ≡ o .timestamp .client) × (w .timestamp ≡ number (o .timestamp)) × (w .card ≡ o .card) × (w .begun < o .finished)
+    -- A finished write shows the card that it was begun with, and its timestamp carries its client.
+    pub writes-own : (o : Finished R) (card : List ℕ) → event R (o .begun) ≡ some (begins-write (o .id) card) → (o .card ≡ card) × (o .timestamp .client ≡ o .id)
     -- A timestamp is 0.0, with the starting card, or carries a client.
     pub starts-from : (o : Finished R) → number (o .timestamp) ≡ 0 → o .card ≡ startCard
     pub carries-client : (o : Finished R) → 1 ≤ number (o .timestamp) → isClient (o .timestamp .client) ≡ true
-    -- A finished write is one of these writes.
-    pub has-write : (o : Finished R) → o .is-write ≡ true
-        → (w : Write) × (w .id ≡ o .id) × (w .begun ≡ o .begun) × (w .timestamp ≡ number (o .timestamp)) × (w .card ≡ o .card)
 
-  -- What is put in order: the finished reads, the writes of correct clients, and for a read at a faulty client's timestamp a
-  -- write of that client.
+  -- What is put in order: the finished reads, the writes of correct clients that have their timestamp, and for a read that shows
+  -- a faulty client's timestamp a write of that client.
   pub data Operation : Type 0 where
-    reads : (o : Finished R) → o .is-write ≡ false → Operation
-    writes : Write → Operation
-    faulty-writes : (o : Finished R) → o .is-write ≡ false → 1 ≤ number (o .timestamp) → R .correct-client (o .timestamp .client) ≡ false → Operation
+    read : (o : Finished R) → o .is-write ≡ false → Operation
+    write : Write → Operation
+    faulty-write : (o : Finished R) → o .is-write ≡ false → 1 ≤ number (o .timestamp) → R .correct-client (o .timestamp .client) ≡ false → Operation
 
   abbrev pub isWrite : Operation → Bool
-  isWrite (reads o r) = false
-  isWrite (writes w) = true
-  isWrite (faulty-writes o r p f) = true
+  isWrite (read o r) = false
+  isWrite (write w) = true
+  isWrite (faulty-write o r p f) = true
 
-  abbrev pub timestampOf : Operation → ℕ
-  timestampOf (reads o r) = number (o .timestamp)
-  timestampOf (writes w) = w .timestamp
-  timestampOf (faulty-writes o r p f) = number (o .timestamp)
+  -- The timestamp at which it lies, and the card that it shows or writes.
+  abbrev pub placedAt : Operation → ℕ
+  placedAt (read o r) = number (o .timestamp)
+  placedAt (write w) = w .timestamp
+  placedAt (faulty-write o r p f) = number (o .timestamp)
 
-  abbrev pub cardOf : Operation → List ℕ
-  cardOf (reads o r) = o .card
-  cardOf (writes w) = w .card
-  cardOf (faulty-writes o r p f) = o .card
+  abbrev pub valueOf : Operation → List ℕ
+  valueOf (read o r) = o .card
+  valueOf (write w) = w .card
+  valueOf (faulty-write o r p f) = o .card
 
-  -- It began with event t, or ended with event t; a write that is under way does not end, and a faulty client has no events.
+  -- It begins with event t, and ends with event t. A write that is under way does not end; a faulty client has no events.
   abbrev pub BeginsAt : Operation → ℕ → Type 0
-  BeginsAt (reads o r) t = o .begun ≡ t
-  BeginsAt (writes w) t = w .begun ≡ t
-  BeginsAt (faulty-writes o r p f) t = ⊥
+  BeginsAt (read o r) t = o .begun ≡ t
+  BeginsAt (write w) t = w .begun ≡ t
+  BeginsAt (faulty-write o r p f) t = ⊥
 
   abbrev pub EndsAt : Operation → ℕ → Type 0
-  EndsAt (reads o r) t = o .finished ≡ t
-  EndsAt (writes w) t = (o : Finished R) × (o .begun ≡ w .begun) × (o .finished ≡ t)
-  EndsAt (faulty-writes o r p f) t = ⊥
+  EndsAt (read o r) t = o .finished ≡ t
+  EndsAt (write w) t = (o : Finished R) × (o .begun ≡ w .begun) × (o .finished ≡ t)
+  EndsAt (faulty-write o r p f) t = ⊥
 
-  -- Two names of one operation.
+  -- Two that are one operation.
   abbrev pub Same : Operation → Operation → Type 0
-  Same (reads o r) (reads o′ r′) = o .begun ≡ o′ .begun
-  Same (writes w) (writes w′) = w .begun ≡ w′ .begun
-  Same (faulty-writes o r p f) (faulty-writes o′ r′ p′ f′) = number (o .timestamp) ≡ number (o′ .timestamp)
-  Same (reads o r) (writes w) = ⊥
-  Same (reads o r) (faulty-writes o′ r′ p′ f′) = ⊥
-  Same (writes w) (reads o r) = ⊥
-  Same (writes w) (faulty-writes o r p f) = ⊥
-  Same (faulty-writes o r p f) (reads o′ r′) = ⊥
-  Same (faulty-writes o r p f) (writes w) = ⊥
+  Same (read o r) (read o′ r′) = o .begun ≡ o′ .begun
+  Same (read o r) (write w) = ⊥
+  Same (read o r) (faulty-write o′ r′ p′ f′) = ⊥
+  Same (write w) (read o r) = ⊥
+  Same (write w) (write w′) = w .begun ≡ w′ .begun
+  Same (write w) (faulty-write o r p f) = ⊥
+  Same (faulty-write o r p f) (read o′ r′) = ⊥
+  Same (faulty-write o r p f) (write w) = ⊥
+  Same (faulty-write o r p f) (faulty-write o′ r′ p′ f′) = number (o .timestamp) ≡ number (o′ .timestamp)
 
-  -- The order of the claims: "The smaller stamp lies first; at one stamp the write before the reads, and of two reads the one
-  -- finished earlier."
+  -- The order of the claims; only of two reads it matters when they finished.
   abbrev pub doneAt : Operation → ℕ
-  doneAt (reads o r) = o .finished
-  doneAt (writes w) = 0
-  doneAt (faulty-writes o r p f) = 0
+  doneAt (read o r) = o .finished
+  doneAt (write w) = 0
+  doneAt (faulty-write o r p f) = 0
 
-  abbrev pub Lies : Operation → Operation → Type 0
-  Lies a b = (timestampOf a < timestampOf b) ⊎ ((timestampOf a ≡ timestampOf b) × AtOneTimestamp R (isWrite a) (isWrite b) (doneAt a) (doneAt b))
+  abbrev pub Precedes : Operation → Operation → Type 0
+  Precedes a b = LiesBefore R (placedAt a) (isWrite a) (doneAt a) (placedAt b) (isWrite b) (doneAt b)
 
   -- The last write before an operation.
   pub record LastWrite (w a : Operation) : Type 0 where
     pub is-write : isWrite w ≡ true
-    pub lies : Lies w a
-    pub is-last : (w′ : Operation) → isWrite w′ ≡ true → Lies w′ a → Same w′ w ⊎ Lies w′ w
+    pub precedes : Precedes w a
+    pub is-last : (w′ : Operation) → isWrite w′ ≡ true → Precedes w′ a → Same w′ w ⊎ Precedes w′ w
 
   pub record Atomic : Type 0 where
-    -- A total order
-    pub irreflexive : (a : Operation) → Lies a a → ⊥
-    pub transitive : (a b c : Operation) → Lies a b → Lies b c → Lies a c
-    pub total : (a b : Operation) → Same a b ⊎ (Lies a b ⊎ Lies b a)
+    -- All finished operations are there: reads as they are, and each write,
+    pub has-write : (o : Finished R) → o .is-write ≡ true
+        → (w : Write) × (w .id ≡ o .id) × (w .begun ≡ o .begun) × (w .timestamp ≡ number (o .timestamp)) × (w .card ≡ o .card)
+    -- in a total order
+    pub irreflexive : (a : Operation) → Precedes a a → ⊥
+    pub transitive : (a b c : Operation) → Precedes a b → Precedes b c → Precedes a c
+    pub total : (a b : Operation) → Same a b ⊎ (Precedes a b ⊎ Precedes b a)
     -- that extends "ended before the other began",
-    pub extends : (a b : Operation) (t t′ : ℕ) → EndsAt a t → BeginsAt b t′ → t < t′ → Lies a b
+    pub extends : (a b : Operation) (t t′ : ℕ) → EndsAt a t → BeginsAt b t′ → t < t′ → Precedes a b
     -- in which a read shows the card of the last write before it,
-    pub reads-last : (o : Finished R) (r : o .is-write ≡ false) → 1 ≤ number (o .timestamp) → (w : Operation) × LastWrite w (reads o r) × (cardOf w ≡ o .card)
+    pub reads-last : (o : Finished R) (r : o .is-write ≡ false) → 1 ≤ number (o .timestamp) → (w : Operation) × LastWrite w (read o r) × (valueOf w ≡ o .card)
     -- or the starting card where no write lies before it.
     pub reads-start : (o : Finished R) (r : o .is-write ≡ false) → number (o .timestamp) ≡ 0
-        → (o .card ≡ startCard) × ((w : Operation) → isWrite w ≡ true → Lies w (reads o r) → ⊥)
+        → (o .card ≡ startCard) × ((w : Operation) → isWrite w ≡ true → Precedes w (read o r) → ⊥)
