@@ -6,6 +6,7 @@ pub mod Held
 pub mod Nonces
 pub mod Operations
 pub mod Order
+pub mod Prefix
 pub mod SentMessages
 pub mod Slots
 pub mod Stages

@@ -7,6 +7,7 @@ use mathlib.Core.Option.{Option, some}
 use Prim.Native.Nat.{ℕ, zero, suc, _+_, _%_, _≤_, _<_}
 use native.Mathlib.Omega.{arith}
 use native.Mathlib.Nat.{eq-or-lt-of-le}
+use Rattle.base.specs.Outcome.{accepted}
 use Rattle.base.specs.Timestamp.{number}
 use Rattle.base.specs.declared.party.ClientId.{ClientId}
 use Rattle.base.specs.declared.timestamp.Timestamp.{Timestamp}
@@ -15,10 +16,10 @@ use Rattle.protocol.specs.Client.{done}
 use Rattle.protocol.specs.Parts.{startCard}
 use Rattle.protocol.specs.declared.client.Client.{Client}
 use Rattle.protocol.specs.declared.client.Phase.the-variants.{Idle}
-use Rattle.run.specs.Claims.{Begins, GoesOn, Finished, FinishedBefore, AtOneTimestamp, LiesBefore, Before}
+use Rattle.run.specs.Claims.{Begins, GoesOn, Finished, SameOperation, FinishedBefore, AtOneTimestamp, LiesBefore, Before}
 use Rattle.run.specs.Premises.{Accepted, CardOfRun, cardOf, Premises}
 use Rattle.wire.specs.Acceptance.{client}
-use Rattle.run.specs.Run.{Event, begins-write, begins-read, to-client, Run, partyOf, event, clientAt, At, Correct}
+use Rattle.run.specs.Run.{Event, begins-write, begins-read, to-client, Run, partyOf, event, clientAt, answerAt, At, Correct}
 use Rattle.run.proofs.Turns.{apart, same-client, Silent, ClientTurn, rested, wrote, asked, heard, client-turn}
 use Rattle.run.proofs.Slots.{split-last, order, one-backed}
 use Rattle.run.proofs.Operations.{none-in, Settled, settled-later, Shown, shown-later, During, during-later, not-idle, moved, Above, AtDone, Next, goes-on, finishes, stops, heard-next}
@@ -251,6 +252,30 @@ module _ (R : Run) where
             three-ways {P = Laid o o′} (o .finished) (o′ .finished) (λ l. inr (inl (inr (e, rw (q, q′) l)))) (λ k. inl (same-end o o′ k)) (λ l. inr (inr (inr (sym e, rw (q, q′) l))))
 
   -- ---- What needs no premise
+
+  -- Operations that begin with one event are of one client and kind,
+  same-begins : (o o′ : Finished R) → o .begun ≡ o′ .begun → (o .id ≡ o′ .id) × (o .is-write ≡ o′ .is-write)
+  same-begins o o′ e = go (o .is-write) (o′ .is-write) (o .begins) (rw (← e) at (o′ .begins))
+    where
+      go : (w w′ : Bool) → Begins R w (o .id) (event R (o .begun)) → Begins R w′ (o′ .id) (event R (o .begun)) → (o .id ≡ o′ .id) × (w ≡ w′)
+      go true true b b′ = let x = b .1 in let y = b′ .1 in (cc, refl)
+      go true false b b′ = let x = b .1 in apart (cc)
+      go false true b b′ = let y = b′ .1 in apart (cc)
+      go false false b b′ = (cc, refl)
+
+  -- and neither ends before the other,
+  first-done : (o o′ : Finished R) → o .id ≡ o′ .id → o .begun ≡ o′ .begun → o .finished < o′ .finished → ⊥
+  first-done o o′ i e l =
+      let after = o .after in
+      o′ .none-between (o .finished) (omega arith) l (subst (λ (id : ClientId). At R (o .finished) (client id)) i (o .at-client)) .not-done (o .timestamp) (o .card) (o .is-done)
+
+  -- so they are one.
+  pub same-operation : (o o′ : Finished R) → o .begun ≡ o′ .begun → SameOperation R o o′
+  same-operation o o′ e =
+      let (same-id, same-kind) = same-begins o o′ e in
+      let ends : o .finished ≡ o′ .finished = three-ways (o .finished) (o′ .finished) (λ l. absurd (first-done o o′ same-id e l)) (λ k. k) (λ l. absurd (first-done o′ o (sym same-id) (sym e) l)) in
+      let there : answerAt R (o .finished) ≡ accepted (done (o′ .timestamp) (o′ .card)) = ap (answerAt R) ends ∙ o′ .is-done in
+      record { same-id = same-id; same-kind = same-kind; same-end = ends; same-timestamp = cc (o .is-done); same-card = cc (o .is-done) }
 
   pub not-itself : (s : ℕ) (w : Bool) (at : ℕ) → LiesBefore R s w at s w at → ⊥
   not-itself s w at (inl l) = omega arith

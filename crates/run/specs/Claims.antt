@@ -59,6 +59,14 @@ module _ (R : Run) where
     pub is-done : answerAt R finished ≡ accepted (done timestamp card)
     pub none-between : (t : ℕ) → begun < t → t < finished → At R t (client id) → GoesOn t
 
+  -- Two that are one operation. `same-operation` proves it of any two that begin with one event.
+  pub record SameOperation (o o′ : Finished) : Type 0 where
+    pub same-id : o .id ≡ o′ .id
+    pub same-kind : o .is-write ≡ o′ .is-write
+    pub same-end : o .finished ≡ o′ .finished
+    pub same-timestamp : o .timestamp ≡ o′ .timestamp
+    pub same-card : o .card ≡ o′ .card
+
   -- "One finished before another began if the first's done stands earlier in the list than the other's beginning."
   abbrev pub FinishedBefore : Finished → Finished → Type 0
   FinishedBefore o o′ = o .finished < o′ .begun

@@ -1,5 +1,6 @@
 pub mod Atomicity
 pub mod Calls
 pub mod Claims
+pub mod Prefix
 pub mod Premises
 pub mod Run
