@@ -1,3 +1,4 @@
 pub mod Client
+pub mod OperationMessages
 pub mod Parts
 pub mod Replica
