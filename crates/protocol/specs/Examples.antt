@@ -58,7 +58,7 @@ handed replica verdicts message = admits (replica .f) verdicts message >>= onReq
 abbrev pub Passes : Replica → List ℕ → Message → Type 0
 Passes replica verdicts message = admits (replica .f) verdicts message ≡ accepted message
 
--- A byte of the record is below 256.
+-- The written timestamp's client is a byte, as it is in the record of the code.
 abbrev pub WrittenFits : Replica → Type 0
 WrittenFits replica = replica .register .slots .written .client .0 < 256
 
