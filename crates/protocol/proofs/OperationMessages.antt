@@ -5,8 +5,9 @@ use mathlib.Core.List.{List, [], _∷_}
 use mathlib.Core.Option.{Option, none, some}
 use Prim.Native.Nat.{ℕ, _+_, _≤_}
 use native.Mathlib.Omega.{arith}
+use borrow.Author.Tests.{leb-true}
+use lib.Dec.{leb}
 use Rattle.base.specs.Outcome.{Outcome, accepted, refused}
-use Rattle.base.specs.Timestamp.{successor}
 use Rattle.base.specs.declared.party.ClientId.{ClientId}
 use Rattle.base.specs.declared.party.ReplicaId.{ReplicaId}
 use Rattle.base.specs.declared.replica_set.ReplicaSet.{ReplicaSet}
@@ -18,7 +19,7 @@ use Rattle.wire.specs.Proof.{PreparedProof}
 use Rattle.wire.specs.Writing.{roomy}
 use Rattle.wire.specs.declared.message.Party.the-variants.{Client as AtClient}
 use Rattle.wire.proofs.Admitted.{admitted-then}
-use Rattle.protocol.specs.Client.{Answer, send, counted, done, ended, Turn, answered, clientAnswers, beginWrite, beginRead, enough, toPrepare, afterStamp, onStamp, afterPrepared, onPrepared, afterWritten, afterWriteBack, onWritten, afterCard, onCard, onReply, clientStep, beginWriteCall, beginReadCall, clientCall}
+use Rattle.protocol.specs.Client.{Answer, send, counted, done, ended, Turn, answered, clientAnswers, beginWrite, beginRead, toPrepare, afterStamp, onStamp, afterPrepared, onPrepared, afterWritten, afterWriteBack, onWritten, afterCard, onCard, onReply, clientStep, beginWriteCall, beginReadCall, clientCall}
 use Rattle.protocol.specs.OperationMessages.{Call, begins-write, begins-read, hears, sentBy, unlessBegun, sentAfter, sentIn, OperationMessages}
 use Rattle.protocol.specs.Replica.{withOutput}
 use Rattle.protocol.specs.declared.client.Client.{Client}
@@ -50,38 +51,47 @@ record AtMost (most : ℕ) (turn : Turn) : Type 0 where
 at-most : {most : ℕ} {turn : Turn} → sends (turn .answer) + remaining (turn .next .phase) ≤ most → Accepts (AtMost most) (accepted turn)
 at-most h = by-value (record { few = h })
 
--- Whatever the test says.
-either : {P : Turn → Type 0} (test : Bool) {yes-then no-then : Outcome Turn} → Accepts P yes-then → Accepts P no-then → Accepts P (cond test yes-then no-then)
-either true a b = a
-either false a b = b
+-- The same as a test: whatever a `cond` asks, both its branches pass.
+abbrev atMost : ℕ → Outcome Turn → Bool
+atMost most (accepted turn) = leb (sends (turn .answer) + remaining (turn .next .phase)) most
+atMost most (refused number) = true
 
-to-prepare : (best : Timestamp) (next : Option Timestamp) (client : Client) → Accepts (AtMost 2) (toPrepare client best next)
-to-prepare best none client = at-most (omega arith)
-to-prepare best (some next) client = at-most (omega arith)
+by-test : {most : ℕ} (out : Outcome Turn) → atMost most out ≡ true → Accepts (AtMost most) out
+by-test {most} (accepted turn) e = at-most (leb-true (sends (turn .answer) + remaining (turn .next .phase)) most e)
+by-test (refused number) e = by-refusal
+
+at-most-cond : (most : ℕ) (test : Bool) (a b : Outcome Turn) → atMost most (cond test a b) ≡ cond test (atMost most a) (atMost most b)
+at-most-cond most true a b = refl
+at-most-cond most false a b = refl
+
+cond-same : (test : Bool) (b : Bool) → cond test b b ≡ b
+cond-same true b = refl
+cond-same false b = refl
+
+to-prepare : (client : Client) (best : Timestamp) (next : Option Timestamp) → atMost 2 (toPrepare client best next) ≡ true
+to-prepare client best none = refl
+to-prepare client best (some next) = refl
 
 module _ (counts : ReplicaSet) (client : Client) where
   after-stamp : (nonce : ℕ) (best : Timestamp) → Accepts (AtMost 2) (afterStamp nonce best counts client)
   unfolding afterStamp
-  after-stamp nonce best = either (enough client counts) (to-prepare best (successor best (client .id)) client) (at-most (omega arith))
+  after-stamp nonce best = by-test _ (simp (at-most-cond, to-prepare, cond-same))
 
   after-prepared : (timestamp : Timestamp) → Accepts (AtMost 1) (afterPrepared timestamp counts client)
   unfolding afterPrepared
-  after-prepared timestamp = either (enough client counts) (at-most (omega arith)) (at-most (omega arith))
+  after-prepared timestamp = by-test _ (simp (at-most-cond, cond-same))
 
   after-written : (timestamp : Timestamp) → Accepts (AtMost 0) (afterWritten timestamp counts client)
   unfolding afterWritten
-  after-written timestamp = either (enough client counts) (at-most (omega arith)) (at-most (omega arith))
+  after-written timestamp = by-test _ (simp (at-most-cond, cond-same))
 
   after-write-back : (timestamp : Timestamp) → Accepts (AtMost 0) (afterWriteBack timestamp counts client)
   unfolding afterWriteBack
-  after-write-back timestamp = either (enough client counts) (at-most (omega arith)) (at-most (omega arith))
+  after-write-back timestamp = by-test _ (simp (at-most-cond, cond-same))
 
   after-card : (nonce : ℕ) (best : Timestamp) (showed : ReplicaSet) → Accepts (AtMost 1) (afterCard nonce best counts showed client)
   unfolding afterCard
-  after-card nonce best showed =
-      either (enough client counts)
-      (either (enough client showed) (at-most (omega arith)) (at-most (omega arith)))
-      (at-most (omega arith))
+  after-card nonce best showed = by-test _ (simp (at-most-cond, cond-same))
 
 module _ (client : Client) (sender : ReplicaId) where
   on-stamp : (nonce : ℕ) (proof : Option PreparedProof) (addressed : ClientId) (phase : Phase) → Accepts (AtMost (remaining phase)) (onStamp client sender nonce proof addressed phase)
