@@ -11,11 +11,11 @@ use Rattle.base.specs.Outcome.{Outcome, accepted, refused, guard}
 use Rattle.base.specs.declared.party.ClientId.{ClientId}
 use Rattle.base.specs.declared.party.ReplicaId.{ReplicaId}
 use Rattle.wire.specs.Message.{longest}
-use Rattle.protocol.specs.Client.{Answer, send, counted, done, ended, Turn, answered, freshClient, madeClient, beginWrite, beginRead, clientStep, beginWriteCall, beginReadCall, clientCall, ClientCall}
-use Rattle.protocol.specs.Replica.{Reply, freshReplica, madeReplica, replicaStep, replicaCall, ReplicaCall}
+use Rattle.protocol.specs.Client.{Answer, send, counted, done, ended, Turn, answered, clientAnswers, freshClient, madeClient, beginWrite, beginRead, clientStep, beginWriteCall, beginReadCall, clientCall, ClientCall}
+use Rattle.protocol.specs.Replica.{Reply, replicaAnswers, freshReplica, madeReplica, replicaStep, replicaCall, ReplicaCall}
 use Rattle.protocol.specs.declared.client.Client.{Client}
 use Rattle.protocol.specs.declared.replica.Replica.{Replica}
-use Rattle.protocol.proofs.Calls.{ReplicaCalls, replica-calls, ClientCalls, begin-write-calls, begin-read-calls, client-step-calls}
+use Rattle.protocol.proofs.Calls.{replica-takes, begin-write-takes, begin-read-takes, client-step-takes}
 use Rattle.run.specs.Calls.{givenByReplica, givenByClient, givenFor, calledAtReplica, calledAtClient, calledReplica, calledClient, givenAt, CallsAreRun}
 use Rattle.run.specs.Run.{Event, begins-write, begins-read, to-replica, to-client, Run, nextReplica, nextClient, afterAtReplica, afterAtClient, replicaAnswer, clientAnswer, event, replicaAt, clientAt, answerTo}
 
@@ -29,9 +29,9 @@ record ClientSays (before : Client) (old : List ℕ) (step : Outcome Turn) (made
   leaves : made .client ≡ nextClient before step
   gives : givenByClient made ≡ givenFor old (clientAnswer step)
 
-replica-says : (before : Replica) (old : List ℕ) (step : Outcome Reply) (made : ReplicaCall) → ReplicaCalls before old step made → ReplicaSays before old step made
-replica-says before old (accepted reply) made calls = rw (calls .answers reply refl) (record { leaves = refl; gives = refl })
-replica-says before old (refused number) made calls = rw (calls .refuses number refl) (record { leaves = refl; gives = refl })
+replica-says : (before : Replica) (old : List ℕ) (step : Outcome Reply) → ReplicaSays before old step (replicaAnswers before old step)
+replica-says before old (accepted reply) = record { leaves = refl; gives = refl }
+replica-says before old (refused number) = record { leaves = refl; gives = refl }
 
 turn-says : (before : Client) (old : List ℕ) (answer : Answer) (next : Client) → ClientSays before old (accepted (record { answer = answer; next = next })) (answered old answer next)
 turn-says before old (send message) next = record { leaves = refl; gives = refl }
@@ -39,22 +39,22 @@ turn-says before old counted next = record { leaves = refl; gives = refl }
 turn-says before old (done timestamp card) next = record { leaves = refl; gives = refl }
 turn-says before old ended next = record { leaves = refl; gives = refl }
 
-client-says : (before : Client) (old : List ℕ) (step : Outcome Turn) (made : ClientCall) → ClientCalls before old step made → ClientSays before old step made
-client-says before old (accepted turn) made calls = rw (calls .answers turn refl) (turn-says before old (turn .answer) (turn .next))
-client-says before old (refused number) made calls = rw (calls .refuses number refl) (record { leaves = refl; gives = refl })
+client-says : (before : Client) (old : List ℕ) (step : Outcome Turn) → ClientSays before old step (clientAnswers before old step)
+client-says before old (accepted turn) = turn-says before old (turn .answer) (turn .next)
+client-says before old (refused number) = record { leaves = refl; gives = refl }
 
 module _ (old : List ℕ) (long : longest ≤ length old) where
   replica-called : (before : Replica) (bytes verdicts : List ℕ) → ReplicaSays before old (replicaStep before bytes verdicts) (replicaCall before bytes verdicts old)
-  replica-called before bytes verdicts = replica-says before old (replicaStep before bytes verdicts) (replicaCall before bytes verdicts old) (replica-calls before bytes verdicts old long)
+  replica-called before bytes verdicts = rw (replica-takes before bytes verdicts old long) (replica-says before old (replicaStep before bytes verdicts))
 
   write-called : (before : Client) (card : List ℕ) → ClientSays before old (beginWrite before card) (beginWriteCall before card old)
-  write-called before card = client-says before old (beginWrite before card) (beginWriteCall before card old) (begin-write-calls before card old long)
+  write-called before card = rw (begin-write-takes before old long card) (client-says before old (beginWrite before card))
 
   read-called : (before : Client) → ClientSays before old (beginRead before) (beginReadCall before old)
-  read-called before = client-says before old (beginRead before) (beginReadCall before old) (begin-read-calls before old long)
+  read-called before = rw (begin-read-takes before old long) (client-says before old (beginRead before))
 
   client-called : (before : Client) (bytes verdicts : List ℕ) → ClientSays before old (clientStep before bytes verdicts) (clientCall before bytes verdicts old)
-  client-called before bytes verdicts = client-says before old (clientStep before bytes verdicts) (clientCall before bytes verdicts old) (client-step-calls before bytes verdicts old long)
+  client-called before bytes verdicts = rw (client-step-takes before old long bytes verdicts) (client-says before old (clientStep before bytes verdicts))
 
   -- An event's call leaves the record that the event leaves.
   replica-left : (id : ReplicaId) (e : Option Event) (before : Replica) → calledAtReplica id e old before ≡ afterAtReplica id e before
