@@ -25,8 +25,8 @@ use Rattle.run.proofs.SentMessages.{Said, step-said}
 use Rattle.run.proofs.Slots.{Backed, meet}
 use Rattle.run.proofs.Operations.{settled-later, Shown}
 use Rattle.run.proofs.Demand3.{write-shows, start-shows}
-use Rattle.run.proofs.Order.{three-ways, correct-of, finish, rises, above-write, begun-after as finished-before, total as claimed, not-itself, before-both}
-use Rattle.run.proofs.Writes.{write-of, write-in-run, correct-writer, chosen, begun-after, finished-with}
+use Rattle.run.proofs.Order.{three-ways, correct-of, finish, rises, above-write, begun-after as finished-before, one-card, same-operation, total as claimed, not-itself, before-both}
+use Rattle.run.proofs.Writes.{write-of, write-in-run, correct-writer, chosen, begun-after, finished-with, same-write}
 
 module _ (R : Run) (P : Premises R) where
   -- ---- Where a shown card comes from
@@ -132,6 +132,17 @@ module _ (R : Run) (P : Premises R) where
 
   -- ---- The order
 
+  same : (a b : Operation R) → Same R a b → (placedAt R a ≡ placedAt R b) × (valueOf R a ≡ valueOf R b)
+  same (read o r) (read o′ r′) e = let one = same-operation R o o′ e in (ap number (one .same-timestamp), one .same-card)
+  same (read o r) (write w) e = absurd e
+  same (read o r) (faulty-write o′ r′ p f) e = absurd e
+  same (write w) (read o r) e = absurd e
+  same (write w) (write w′) e = same-write R P w w′ e
+  same (write w) (faulty-write o r p f) e = absurd e
+  same (faulty-write o r p f) (read o′ r′) e = absurd e
+  same (faulty-write o r p f) (write w) e = absurd e
+  same (faulty-write o r p f) (faulty-write o′ r′ p′ f′) e = (e, one-card R P o o′ e)
+
   irreflexive : (a : Operation R) → Precedes R a a → ⊥
   irreflexive a = not-itself R (placedAt R a) (isWrite R a) (doneAt R a)
 
@@ -226,6 +237,7 @@ module _ (R : Run) (P : Premises R) where
   atomic =
       record {
         has-write = has-write;
+        same = same;
         irreflexive = irreflexive;
         transitive = transitive;
         total = total;

@@ -26,7 +26,7 @@ use Rattle.run.proofs.Turns.{apart, Silent, Heard, ClientTurn, rested, 
 use Rattle.run.proofs.Stages.{isStamping, preparedFor, isPrepare, isOver, Stage, stamping, prepares, keeps, finishes, others, stage}
 use Rattle.run.proofs.Slots.{split-last, order}
 use Rattle.run.proofs.Operations.{Settled, settled-later, Chosen, WriteIn, During, goes-on, stops, finishes as ends}
-use Rattle.run.proofs.Order.{Turned, waits, acts, turned, none-begun, stays}
+use Rattle.run.proofs.Order.{three-ways, Turned, waits, acts, turned, none-begun, stays}
 
 module _ (R : Run) where
   -- An answer that ends nothing.
@@ -110,6 +110,7 @@ module _ (R : Run) where
 
     record Sends (t s : ℕ) (d : List ℕ) : Type 0 where
       was-stamping : isStamping (clientAt R id t .phase) ≡ true
+      had-no-timestamp : preparedFor (clientAt R id t .phase) ≡ none
       has-timestamp : preparedFor (clientAt R id (suc t) .phase) ≡ some s
       digest-is : d ≡ sha256 (currentCard (clientAt R id t))
 
@@ -130,7 +131,7 @@ module _ (R : Run) where
             by (prepares timestamp shown′ last′ was no-timestamp is for answer) =
                 let same-timestamp : timestamp ≡ s = cc (h .step .answer-is) in
                 let same-digest : d ≡ sha256 (currentCard (clientAt R id t)) = cc (h .step .answer-is) in
-                record { was-stamping = was; has-timestamp = next-phase preparedFor t h ∙ for ∙ ap some same-timestamp; digest-is = same-digest }
+                record { was-stamping = was; had-no-timestamp = no-timestamp; has-timestamp = next-phase preparedFor t h ∙ for ∙ ap some same-timestamp; digest-is = same-digest }
             by (keeps timestamp was is no-stamps no-prepare goes) = no (h .turn .answer) (h .step .answer-is) no-prepare
             by (finishes timestamp card was is answer) = no (h .turn .answer) (h .step .answer-is) (ap isPrepare answer)
             by (others was is no-prepare) = no (h .turn .answer) (h .step .answer-is) no-prepare
@@ -344,3 +345,34 @@ module _ (R : Run) where
             go : Timed (o .finished) → number (o .timestamp) ≡ w .timestamp
             go (still x goes) = absurd (goes at .not-done (o .timestamp) (o .card) (o .is-done))
             go (done-with at′ timestamp card x is) = let same : timestamp ≡ o .timestamp = cc (o .is-done) in ap number (sym same) ∙ is
+
+    -- It has one PREPARE.
+    same-begins : (w′ : Write R) → w .begun ≡ w′ .begun → (w .id ≡ w′ .id) × (w .card ≡ w′ .card)
+    same-begins w′ e =
+        let here : event R (w′ .begun) ≡ some (begins-write (w .id) (w .card)) = ap (event R) (sym e) ∙ w .begins in
+        (cc (w′ .begins), cc (w′ .begins))
+
+    none-later : (w′ : Write R) → w .begun ≡ w′ .begun → w .prepared < w′ .prepared → ⊥
+    none-later w′ e l = ⊎-elim stamps early (until (w′ .prepared) l)
+      where
+        same : w .id ≡ w′ .id
+        same = same-begins w′ e .0
+
+        stamps : On (w′ .prepared) → ⊥
+        stamps on =
+            let q = sends (w′ .id) (correct-writer w′) (w′ .prepared) (w′ .timestamp) (w′ .digest) (w′ .shown) (w′ .last) (w′ .at-client) (w′ .prepares) in
+            let had : preparedFor (clientAt R (w .id) (w′ .prepared) .phase) ≡ none = rw same (q .had-no-timestamp) in
+            apart (cc (on .1))
+
+        early : Over (w′ .prepared) → ⊥
+        early x =
+            let since = x .since in
+            let after = w .after in
+            w′ .none-between (x .time) (omega arith) (x .earlier) (subst (λ (i : ClientId). At R (x .time) (client i)) same (x .at)) .not-done (x .timestamp) (x .card) (x .is-done)
+
+  -- So what begins with one event is one write.
+  pub same-write : Premises R → (w w′ : Write R) → w .begun ≡ w′ .begun → (w .timestamp ≡ w′ .timestamp) × (w .card ≡ w′ .card)
+  same-write P w w′ e =
+      let prepared : w .prepared ≡ w′ .prepared = three-ways (w .prepared) (w′ .prepared) (λ l. absurd (none-later P w w′ e l)) (λ k. k) (λ l. absurd (none-later P w′ w (sym e) l)) in
+      let there : answerAt R (w .prepared) ≡ accepted (send (PREPARE (w′ .id) (w′ .timestamp) (w′ .digest) (w′ .shown) (w′ .last))) = ap (answerAt R) prepared ∙ w′ .prepares in
+      (cc (w .prepares), same-begins P w w′ e .1)

@@ -118,6 +118,8 @@ module _ (R : Run) where
     -- All finished operations are there: reads as they are, and each write,
     pub has-write : (o : Finished R) → o .is-write ≡ true
         → (w : Write) × (w .id ≡ o .id) × (w .begun ≡ o .begun) × (w .timestamp ≡ number (o .timestamp)) × (w .card ≡ o .card)
+    -- two that are one agree,
+    pub same : (a b : Operation) → Same a b → (placedAt a ≡ placedAt b) × (valueOf a ≡ valueOf b)
     -- in a total order
     pub irreflexive : (a : Operation) → Precedes a a → ⊥
     pub transitive : (a b c : Operation) → Precedes a b → Precedes b c → Precedes a c
