@@ -7,6 +7,7 @@ pub mod Nonces
 pub mod Operations
 pub mod Order
 pub mod Prefix
+pub mod ReadsFrom
 pub mod SentMessages
 pub mod Slots
 pub mod Stages

@@ -18,7 +18,7 @@ use Rattle.protocol.specs.Client.{Answer, send, counted, done, ended, currentCa
 use Rattle.protocol.specs.declared.client.Client.{Client}
 use Rattle.protocol.specs.declared.client.Phase.{Phase}
 use Rattle.protocol.specs.declared.client.Phase.the-variants.{Idle, Stamps, Prepareds, Writtens, Cards, WriteBack}
-use Rattle.run.specs.Atomicity.{Write}
+use Rattle.run.specs.ReadsFrom.{Write}
 use Rattle.run.specs.Claims.{Begins, GoesOn, Finished}
 use Rattle.run.specs.Premises.{Accepted, CardOfRun, cardOf, Premises}
 use Rattle.run.specs.Run.{begins-write, to-client, Run, event, clientAt, answerAt, At, Correct}

@@ -3,4 +3,5 @@ pub mod Calls
 pub mod Claims
 pub mod Prefix
 pub mod Premises
+pub mod ReadsFrom
 pub mod Run
