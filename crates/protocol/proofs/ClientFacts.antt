@@ -26,7 +26,7 @@ use Rattle.protocol.proofs.ClientKept.{beginning-fits}
 use Rattle.protocol.proofs.ClientReplies.{stamp-facts, prepared-facts, written-facts, card-facts}
 use Rattle.protocol.proofs.Fit.{ClientFits}
 use Rattle.wire.proofs.Passed.{Passed}
-pub use Rattle.protocol.proofs.ClientCases.{Begun, Leaves, SameCard, NewFrom, betterCard, ClientCase, stamp-counted, stamps-enough, stamps-ended, prepared-counted, prepareds-enough, written-counted, writtens-enough, card-counted, cards-agree, cards-differ, back-counted, back-enough, LegalAnswer, PhaseFits, ClientFacts}
+use Rattle.protocol.proofs.ClientCases.{Begun, PhaseFits, ClientFacts}
 
 idle-phase : (phase : Phase) → isIdle phase ≡ true → phase ≡ Idle
 idle-phase Idle e = refl

@@ -1,23 +1,34 @@
--- Document 01, "A desk": an operation's messages. A read sends at most two, a write at most three. Assumes nothing.
-use mathlib.Core.Path.{_≡_}
-use mathlib.Core.Bool.{true}
+-- An operation's messages: a read sends at most two, a write at most three. Assumes nothing.
+use mathlib.Core.Path.{_≡_, refl}
+use mathlib.Core.Bool.{Bool, true, false, cond}
 use mathlib.Core.List.{List, [], _∷_}
+use mathlib.Core.Option.{Option, none, some}
 use Prim.Native.Nat.{ℕ, _+_, _≤_}
 use native.Mathlib.Omega.{arith}
-use Rattle.base.specs.BigEndian.{Bytes}
-use Rattle.base.specs.Outcome.{accepted}
-use Rattle.wire.specs.Message.{Message, Fits, IsSignature}
-use Rattle.wire.specs.Acceptance.{senderOf, inItsRange}
-use Rattle.wire.proofs.Passed.{Passed}
-use Rattle.protocol.specs.Client.{Answer, send, counted, done, ended, Turn, beginWrite, beginRead, onReply}
+use borrow.Author.Tests.{leb-true}
+use lib.Dec.{leb}
+use Rattle.base.specs.Outcome.{Outcome, accepted, refused}
+use Rattle.base.specs.declared.party.ClientId.{ClientId}
+use Rattle.base.specs.declared.party.ReplicaId.{ReplicaId}
+use Rattle.base.specs.declared.replica_set.ReplicaSet.{ReplicaSet}
+use Rattle.base.specs.declared.timestamp.Timestamp.{Timestamp}
+use Rattle.base.proofs.Outcome.{guard-accepted}
+use Rattle.wire.specs.Layout.{signature}
+use Rattle.wire.specs.Message.{Message, READ-STAMP, PREPARE, WRITE, READ, STAMP, PREPARED, WRITTEN, CARD}
+use Rattle.wire.specs.Proof.{PreparedProof}
+use Rattle.wire.specs.Writing.{roomy}
+use Rattle.wire.specs.declared.message.Party.the-variants.{Client as AtClient}
+use Rattle.wire.proofs.Admitted.{admitted-then}
+use Rattle.protocol.specs.Client.{Answer, send, counted, done, ended, Turn, answered, clientAnswers, beginWrite, beginRead, toPrepare, afterStamp, onStamp, afterPrepared, onPrepared, afterWritten, afterWriteBack, onWritten, afterCard, onCard, onReply, clientStep, beginWriteCall, beginReadCall, clientCall}
+use Rattle.protocol.specs.OperationMessages.{Call, begins-write, begins-read, hears, sentBy, unlessBegun, sentAfter, sentIn, OperationMessages}
+use Rattle.protocol.specs.Replica.{withOutput}
 use Rattle.protocol.specs.declared.client.Client.{Client}
 use Rattle.protocol.specs.declared.client.Phase.{Phase}
 use Rattle.protocol.specs.declared.client.Phase.the-variants.{Idle, Stamps, Prepareds, Writtens, Cards, WriteBack}
-use Rattle.protocol.proofs.ClientFacts.{begins-write, begins-read, client-facts, Begun, Leaves, ClientCase, stamp-counted, stamps-enough, stamps-ended, prepared-counted, prepareds-enough, written-counted, writtens-enough, card-counted, cards-agree, cards-differ, back-counted, back-enough, PhaseFits}
-use Rattle.protocol.proofs.Fit.{ClientFits}
+use Rattle.protocol.proofs.Accepts.{Accepts, by-value, by-refusal, by-guard}
 
 -- The messages that an operation may still send, by its phase.
-abbrev pub remaining : Phase → ℕ
+abbrev remaining : Phase → ℕ
 remaining Idle = 0
 remaining (Stamps nonce best counts) = 2
 remaining (Prepareds timestamp counts) = 1
@@ -25,75 +36,202 @@ remaining (Writtens timestamp counts) = 0
 remaining (Cards nonce best counts showed) = 1
 remaining (WriteBack timestamp counts) = 0
 
--- The messages that an answer sends.
-abbrev pub sentBy : Answer → ℕ
-sentBy (send message) = 1
-sentBy counted = 0
-sentBy (done timestamp card) = 0
-sentBy ended = 0
+abbrev sends : Answer → ℕ
+sends (send message) = 1
+sends counted = 0
+sends (done timestamp card) = 0
+sends ended = 0
 
-leaves-fewer : (before : Client) (turn : Turn) (was next : Phase) (answer : Answer) → before .phase ≡ was → Leaves turn answer next → sentBy answer + remaining next ≤ remaining was
-    → sentBy (turn .answer) + remaining (turn .next .phase) ≤ remaining (before .phase)
-leaves-fewer before turn was next answer at leaves h = rw (leaves .answer-is, leaves .phase-is, at) h
+-- What a turn sends and what may follow are so many at most.
+record AtMost (most : ℕ) (turn : Turn) : Type 0 where
+  few : sends (turn .answer) + remaining (turn .next .phase) ≤ most
 
--- A message that is sent is one less to send; no other answer leaves more.
-pub case-sends : (before : Client) (message : Message) (turn : Turn) → ClientCase before message turn → sentBy (turn .answer) + remaining (turn .next .phase) ≤ remaining (before .phase)
-case-sends before message turn (stamp-counted sender nonce proof best counts m at new card l) = leaves-fewer before turn _ _ _ at l (omega arith)
-case-sends before message turn (stamps-enough sender nonce proof best counts next shown last m at new q s c d t l) = leaves-fewer before turn _ _ _ at l (omega arith)
-case-sends before message turn (stamps-ended sender nonce proof best counts m at l) = leaves-fewer before turn _ _ _ at l (omega arith)
-case-sends before message turn (prepared-counted sender timestamp counts m at new c l) = leaves-fewer before turn _ _ _ at l (omega arith)
-case-sends before message turn (prepareds-enough sender timestamp counts proof m at new q c t d l) = leaves-fewer before turn _ _ _ at l (omega arith)
-case-sends before message turn (written-counted sender timestamp counts m at new c l) = leaves-fewer before turn _ _ _ at l (omega arith)
-case-sends before message turn (writtens-enough sender timestamp counts m at new q l) = leaves-fewer before turn _ _ _ at l (omega arith)
-case-sends before message turn (card-counted sender nonce card proof best counts showed m at new s c l) = leaves-fewer before turn _ _ _ at l (omega arith)
-case-sends before message turn (cards-agree sender nonce card proof best counts showed m at new s q a l) = leaves-fewer before turn _ _ _ at l (omega arith)
-case-sends before message turn (cards-differ sender nonce card proof best counts showed shown m at new s q c l) = leaves-fewer before turn _ _ _ at l (omega arith)
-case-sends before message turn (back-counted sender timestamp counts m at new c l) = leaves-fewer before turn _ _ _ at l (omega arith)
-case-sends before message turn (back-enough sender timestamp counts m at new q l) = leaves-fewer before turn _ _ _ at l (omega arith)
+-- ---- One turn: a message that is sent is one less to send
 
--- ---- Turns one after another
+at-most : {most : ℕ} {turn : Turn} → sends (turn .answer) + remaining (turn .next .phase) ≤ most → Accepts (AtMost most) (accepted turn)
+at-most h = by-value (record { few = h })
 
--- A message that the client takes, and the turn.
-pub record Takes (client : Client) (turn : Turn) : Type 0 where
-  pub message : Message
-  pub verdicts : List ℕ
-  pub signature : List ℕ
-  pub message-fits : Fits message
-  pub signature-fits : IsSignature signature
-  pub ranged : inItsRange (client .f) (senderOf message) ≡ true
-  pub passed : Passed (client .f) message verdicts
-  pub taken : onReply client signature message ≡ accepted turn
+-- The same as a test: whatever a `cond` asks, both its branches pass.
+abbrev atMost : ℕ → Outcome Turn → Bool
+atMost most (accepted turn) = leb (sends (turn .answer) + remaining (turn .next .phase)) most
+atMost most (refused number) = true
 
--- Turns each of which starts from the record that the last one left. Refused calls stand between them unseen: they leave the record as it was and send
--- nothing. No operation begins among them: a beginning is another call, which a busy client refuses, and an idle one takes no message.
-abbrev pub Follow : Client → List Turn → Type 0
-Follow client [] = Unit {0}
-Follow client (turn ∷ turns) = Takes client turn × Follow (turn .next) turns
+by-test : {most : ℕ} (out : Outcome Turn) → atMost most out ≡ true → Accepts (AtMost most) out
+by-test {most} (accepted turn) e = at-most (leb-true (sends (turn .answer) + remaining (turn .next .phase)) most e)
+by-test (refused number) e = by-refusal
 
--- The messages that turns send.
-abbrev pub sentIn : List Turn → ℕ
-sentIn [] = 0
-sentIn (turn ∷ turns) = sentBy (turn .answer) + sentIn turns
+at-most-cond : (most : ℕ) (test : Bool) (a b : Outcome Turn) → atMost most (cond test a b) ≡ cond test (atMost most a) (atMost most b)
+at-most-cond most true a b = refl
+at-most-cond most false a b = refl
 
--- Turns send no more than their first phase may.
-pub follow-sends : (client : Client) (turns : List Turn) → ClientFits client → PhaseFits (client .phase) → Follow client turns → sentIn turns ≤ remaining (client .phase)
-follow-sends client [] fits phase-fits follow = omega arith
-follow-sends client (turn ∷ turns) fits phase-fits (takes, follow) =
-    let facts = client-facts client (takes .verdicts) (takes .signature) (takes .message) turn fits phase-fits (takes .message-fits) (takes .signature-fits) (takes .ranged) (takes .passed) (takes .taken) in
-    omega (arith, case-sends client (takes .message) turn (facts .case), follow-sends (turn .next) turns (facts .fits) (facts .phase-fits) follow)
+cond-same : (test : Bool) (b : Bool) → cond test b b ≡ b
+cond-same true b = refl
+cond-same false b = refl
 
--- A beginning sends its question, and what follows no more than its phase may.
-begun-sends : (before : Client) (question : Message) (phase : Phase) (card : List ℕ) (begun : Turn) (turns : List Turn) → Begun before question phase card begun → PhaseFits phase
-    → Follow (begun .next) turns → sentIn (begun ∷ turns) ≤ 1 + remaining phase
-begun-sends before question phase card begun turns b phase-fits follow =
-    let phase-is = b .phase-is in
-    rw (b .sends) (omega (arith, rw phase-is at (follow-sends (begun .next) turns (b .fits) (rw phase-is phase-fits) follow)))
+to-prepare : (client : Client) (best : Timestamp) (next : Option Timestamp) → atMost 2 (toPrepare client best next) ≡ true
+to-prepare client best none = refl
+to-prepare client best (some next) = refl
 
--- A write sends at most three messages.
-pub write-messages : (before : Client) (card : List ℕ) (begun : Turn) (turns : List Turn) → ClientFits before → Bytes card → beginWrite before card ≡ accepted begun
-    → Follow (begun .next) turns → sentIn (begun ∷ turns) ≤ 3
-write-messages before card begun turns fits bytes e follow = begun-sends before _ _ card begun turns (begins-write before card begun fits bytes e) (omega arith, omega arith) follow
+module _ (counts : ReplicaSet) (client : Client) where
+  after-stamp : (nonce : ℕ) (best : Timestamp) → Accepts (AtMost 2) (afterStamp nonce best counts client)
+  unfolding afterStamp
+  after-stamp nonce best = by-test _ (simp (at-most-cond, to-prepare, cond-same))
 
--- A read sends at most two messages.
-pub read-messages : (before : Client) (begun : Turn) (turns : List Turn) → ClientFits before → beginRead before ≡ accepted begun → Follow (begun .next) turns → sentIn (begun ∷ turns) ≤ 2
-read-messages before begun turns fits e follow = begun-sends before _ _ _ begun turns (begins-read before begun fits e) (omega arith, omega arith) follow
+  after-prepared : (timestamp : Timestamp) → Accepts (AtMost 1) (afterPrepared timestamp counts client)
+  unfolding afterPrepared
+  after-prepared timestamp = by-test _ (simp (at-most-cond, cond-same))
+
+  after-written : (timestamp : Timestamp) → Accepts (AtMost 0) (afterWritten timestamp counts client)
+  unfolding afterWritten
+  after-written timestamp = by-test _ (simp (at-most-cond, cond-same))
+
+  after-write-back : (timestamp : Timestamp) → Accepts (AtMost 0) (afterWriteBack timestamp counts client)
+  unfolding afterWriteBack
+  after-write-back timestamp = by-test _ (simp (at-most-cond, cond-same))
+
+  after-card : (nonce : ℕ) (best : Timestamp) (showed : ReplicaSet) → Accepts (AtMost 1) (afterCard nonce best counts showed client)
+  unfolding afterCard
+  after-card nonce best showed = by-test _ (simp (at-most-cond, cond-same))
+
+module _ (client : Client) (sender : ReplicaId) where
+  on-stamp : (nonce : ℕ) (proof : Option PreparedProof) (addressed : ClientId) (phase : Phase) → Accepts (AtMost (remaining phase)) (onStamp client sender nonce proof addressed phase)
+  unfolding onStamp
+  on-stamp nonce proof addressed Idle = by-refusal
+  on-stamp nonce proof addressed (Stamps asked best counts) = by-guard 18 (λ is. after-stamp _ _ _ _)
+  on-stamp nonce proof addressed (Prepareds timestamp counts) = by-refusal
+  on-stamp nonce proof addressed (Writtens timestamp counts) = by-refusal
+  on-stamp nonce proof addressed (Cards asked best counts showed) = by-refusal
+  on-stamp nonce proof addressed (WriteBack timestamp counts) = by-refusal
+
+  on-prepared : (timestamp : ℕ) (digest own : List ℕ) (phase : Phase) → Accepts (AtMost (remaining phase)) (onPrepared client sender timestamp digest own phase)
+  unfolding onPrepared
+  on-prepared timestamp digest own Idle = by-refusal
+  on-prepared timestamp digest own (Stamps asked best counts) = by-refusal
+  on-prepared timestamp digest own (Prepareds asked counts) = by-guard 18 (λ is. after-prepared _ _ _)
+  on-prepared timestamp digest own (Writtens asked counts) = by-refusal
+  on-prepared timestamp digest own (Cards asked best counts showed) = by-refusal
+  on-prepared timestamp digest own (WriteBack asked counts) = by-refusal
+
+  on-written : (timestamp : ℕ) (own : List ℕ) (phase : Phase) → Accepts (AtMost (remaining phase)) (onWritten client sender timestamp own phase)
+  unfolding onWritten
+  on-written timestamp own Idle = by-refusal
+  on-written timestamp own (Stamps asked best counts) = by-refusal
+  on-written timestamp own (Prepareds asked counts) = by-refusal
+  on-written timestamp own (Writtens asked counts) = by-guard 18 (λ is. after-written _ _ _)
+  on-written timestamp own (Cards asked best counts showed) = by-refusal
+  on-written timestamp own (WriteBack asked counts) = by-guard 18 (λ is. after-write-back _ _ _)
+
+  on-card : (nonce : ℕ) (card : List ℕ) (proof : Option PreparedProof) (addressed : ClientId) (phase : Phase)
+      → Accepts (AtMost (remaining phase)) (onCard client sender nonce card proof addressed phase)
+  unfolding onCard
+  on-card nonce card proof addressed Idle = by-refusal
+  on-card nonce card proof addressed (Stamps asked best counts) = by-refusal
+  on-card nonce card proof addressed (Prepareds timestamp counts) = by-refusal
+  on-card nonce card proof addressed (Writtens timestamp counts) = by-refusal
+  on-card nonce card proof addressed (Cards asked best counts showed) = by-guard 18 (λ is. after-card _ _ _ _ _)
+  on-card nonce card proof addressed (WriteBack timestamp counts) = by-refusal
+
+on-reply : (client : Client) (own : List ℕ) (message : Message) → Accepts (AtMost (remaining (client .phase))) (onReply client own message)
+unfolding onReply
+on-reply client own (STAMP sender nonce proof addressed) = on-stamp client sender nonce proof addressed (client .phase)
+on-reply client own (PREPARED sender timestamp digest) = on-prepared client sender timestamp digest own (client .phase)
+on-reply client own (WRITTEN sender timestamp) = on-written client sender timestamp own (client .phase)
+on-reply client own (CARD sender nonce card proof addressed) = by-guard 14 (λ stands. on-card client sender nonce card proof addressed (client .phase))
+on-reply client own (READ-STAMP sender nonce) = by-refusal
+on-reply client own (PREPARE sender timestamp digest proof last) = by-refusal
+on-reply client own (WRITE sender card proof) = by-refusal
+on-reply client own (READ sender nonce) = by-refusal
+
+step-sends : (client : Client) (bytes verdicts : List ℕ) → Accepts (AtMost (remaining (client .phase))) (clientStep client bytes verdicts)
+unfolding clientStep
+step-sends client bytes verdicts =
+    record {
+      holds = λ turn e.
+          let taken = admitted-then AtClient (client .f) bytes verdicts (onReply client (signature bytes)) turn e in
+          on-reply client (signature bytes) (taken .0) .holds turn (taken .2);
+    }
+
+-- A beginning sends its question.
+write-begins : (client : Client) (card : List ℕ) → Accepts (AtMost 3) (beginWrite client card)
+unfolding beginWrite
+write-begins client card = by-guard 14 (λ good. by-guard 17 (λ may. at-most (omega arith)))
+
+read-begins : (client : Client) → Accepts (AtMost 2) (beginRead client)
+unfolding beginRead
+read-begins client = by-guard 17 (λ may. at-most (omega arith))
+
+-- ---- One call, refused or not
+
+phase-low : (phase : Phase) → remaining phase ≤ 2
+phase-low Idle = omega arith
+phase-low (Stamps nonce best counts) = omega arith
+phase-low (Prepareds timestamp counts) = omega arith
+phase-low (Writtens timestamp counts) = omega arith
+phase-low (Cards nonce best counts showed) = omega arith
+phase-low (WriteBack timestamp counts) = omega arith
+
+module _ (client : Client) (old : List ℕ) (most : ℕ) where
+  call-sends : (step : Outcome Turn) → remaining (client .phase) ≤ most → Accepts (AtMost most) step
+      → sentBy (clientAnswers client old (withOutput old step) .answer) + remaining (clientAnswers client old (withOutput old step) .client .phase) ≤ most
+  call-sends step low turns = go (withOutput old step) (λ turn e. turns .holds turn (guard-accepted 1 (roomy old) step turn e .1))
+    where
+      answers : (answer : Answer) (next : Client) → sends answer + remaining (next .phase) ≤ most
+          → sentBy (answered old answer next .answer) + remaining (answered old answer next .client .phase) ≤ most
+      answers (send message) next h = h
+      answers counted next h = h
+      answers (done timestamp card) next h = h
+      answers ended next h = h
+
+      go : (out : Outcome Turn) → ((turn : Turn) → out ≡ accepted turn → AtMost most turn)
+          → sentBy (clientAnswers client old out .answer) + remaining (clientAnswers client old out .client .phase) ≤ most
+      go (accepted turn) h = answers (turn .answer) (turn .next) (h turn refl .few)
+      go (refused number) h = omega arith
+
+  -- A beginning that is refused leaves the record, and so what may follow.
+  begins-again : (out : Outcome Turn) (calls : List Call) → sentAfter client calls ≤ most
+      → unlessBegun (clientAnswers client old out .answer) (sentAfter (clientAnswers client old out .client) calls) ≤ most
+  begins-again (accepted turn) calls h = go (turn .answer) (turn .next)
+    where
+      go : (answer : Answer) (next : Client) → unlessBegun (answered old answer next .answer) (sentAfter (answered old answer next .client) calls) ≤ most
+      go (send message) next = omega arith
+      go counted next = omega arith
+      go (done timestamp card) next = omega arith
+      go ended next = omega arith
+  begins-again (refused number) calls h = h
+
+-- ---- All calls of an operation
+
+after-sends : (client : Client) (calls : List Call) → sentAfter client calls ≤ remaining (client .phase)
+unfolding sentAfter beginWriteCall beginReadCall clientCall
+after-sends client [] = omega arith
+after-sends client (begins-write card old ∷ calls) = begins-again client old (remaining (client .phase)) (withOutput old (beginWrite client card)) calls (after-sends client calls)
+after-sends client (begins-read old ∷ calls) = begins-again client old (remaining (client .phase)) (withOutput old (beginRead client)) calls (after-sends client calls)
+after-sends client (hears bytes verdicts old ∷ calls) =
+    let step = clientStep client bytes verdicts in
+    omega (
+      arith,
+      call-sends client old (remaining (client .phase)) step (omega arith) (step-sends client bytes verdicts),
+      after-sends (clientAnswers client old (withOutput old step) .client) calls,
+    )
+
+write-sends : (client : Client) (card old : List ℕ) (calls : List Call) → sentIn (beginWriteCall client card old) calls ≤ 3
+unfolding beginWriteCall
+write-sends client card old calls =
+    let low = phase-low (client .phase) in
+    omega (
+      arith,
+      call-sends client old 3 (beginWrite client card) (omega arith) (write-begins client card),
+      after-sends (clientAnswers client old (withOutput old (beginWrite client card)) .client) calls,
+    )
+
+read-sends : (client : Client) (old : List ℕ) (calls : List Call) → sentIn (beginReadCall client old) calls ≤ 2
+unfolding beginReadCall
+read-sends client old calls =
+    omega (
+      arith,
+      call-sends client old 2 (beginRead client) (phase-low (client .phase)) (read-begins client),
+      after-sends (clientAnswers client old (withOutput old (beginRead client)) .client) calls,
+    )
+
+pub operation-messages : OperationMessages
+operation-messages = record { write = write-sends; read = read-sends }

@@ -49,7 +49,8 @@ abbrev pub SlotChange : Slots → Slots → Message → ClientId → Type 0
 SlotChange before after message client =
     (slotCount after client ≡ slotCount before client)
     ⊎ (((slotCount before client ≡ 0) ⊎ (slotTimestamp before client ≤ number (after .written)))
-    × ((digest : List ℕ) × (proof : Option PreparedProof) × (last : Option WrittenProof) × (message ≡ PREPARE client (slotTimestamp after client) digest proof last)))
+    × ((digest : List ℕ) × (proof : Option PreparedProof) × (last : Option WrittenProof) × (message ≡ PREPARE client (slotTimestamp after client) digest proof last)
+    × (isTimestamp (slotTimestamp after client) (successor (ofNumber (preparedTimestamp proof)) client) ≡ true)))
 
 pub record ReplicaFacts (before : Replica) (verdicts : List ℕ) (message : Message) (reply : Reply) : Type 0 where
   pub same-f : reply .next .f ≡ before .f
@@ -62,6 +63,8 @@ pub record ReplicaFacts (before : Replica) (verdicts : List ℕ) (message : Mess
   pub prepared-sent : (id : ReplicaId) (timestamp : ℕ) (digest : List ℕ) → reply .message ≡ PREPARED id timestamp digest
       → (id ≡ before .id) × (isClient (clientOf timestamp) ≡ true) × (slotCount (reply .next .register .slots) (clientOf timestamp) ≡ timestamp / 256)
       × (slotDigest (reply .next .register .slots) (clientOf timestamp) ≡ digest)
+  pub prepared-asked : (id : ReplicaId) (timestamp : ℕ) (digest : List ℕ) → reply .message ≡ PREPARED id timestamp digest
+      → (proof : Option PreparedProof) × (last : Option WrittenProof) × (message ≡ PREPARE (clientOf timestamp) timestamp digest proof last)
   pub written-sent : (id : ReplicaId) (timestamp : ℕ) → reply .message ≡ WRITTEN id timestamp → (id ≡ before .id) × (timestamp ≤ heldTimestamp (reply .next .register .held))
   pub stamp-sent : (id : ReplicaId) (nonce : ℕ) (proof : Option PreparedProof) (client : ClientId) → reply .message ≡ STAMP id nonce proof client
       → (id ≡ before .id) × (proof ≡ heldProof (before .register .held)) × (message ≡ READ-STAMP client nonce)
@@ -137,6 +140,7 @@ stamp-facts before verdicts client nonce fits message-fits passed =
       held-rises = omega arith;
       slots-rise = λ c low high. inl (refl, refl);
       prepared-sent = λ id timestamp digest e. let z : _≡_ {A = ℕ} 0 1 = cc in absurd (omega arith);
+      prepared-asked = λ id timestamp digest e. let z : _≡_ {A = ℕ} 0 1 = cc in absurd (omega arith);
       written-sent = λ id timestamp e. let z : _≡_ {A = ℕ} 0 1 = cc in absurd (omega arith);
       stamp-sent = λ id asked proof c e. (cc, cc, cc);
       card-sent = λ id asked card proof c e. let z : _≡_ {A = ℕ} 0 1 = cc in absurd (omega arith);
@@ -158,6 +162,7 @@ card-facts before verdicts client nonce fits message-fits passed =
       held-rises = omega arith;
       slots-rise = λ c low high. inl (refl, refl);
       prepared-sent = λ id timestamp digest e. let z : _≡_ {A = ℕ} 0 1 = cc in absurd (omega arith);
+      prepared-asked = λ id timestamp digest e. let z : _≡_ {A = ℕ} 0 1 = cc in absurd (omega arith);
       written-sent = λ id timestamp e. let z : _≡_ {A = ℕ} 0 1 = cc in absurd (omega arith);
       stamp-sent = λ id asked proof c e. let z : _≡_ {A = ℕ} 0 1 = cc in absurd (omega arith);
       card-sent = λ id asked card proof c e. (cc, cc, cc);
@@ -190,6 +195,7 @@ module _ (before : Replica) (verdicts : List ℕ) (client : ClientId) (card : Li
         held-rises = stored .rises;
         slots-rise = λ c low high. inl (refl, refl);
         prepared-sent = λ id timestamp digest e. let z : _≡_ {A = ℕ} 0 1 = cc in absurd (omega arith);
+        prepared-asked = λ id timestamp digest e. let z : _≡_ {A = ℕ} 0 1 = cc in absurd (omega arith);
         written-sent = λ id timestamp e. (cc, let z : proof .timestamp ≡ timestamp = cc in omega (arith, stored .holds));
         stamp-sent = λ id asked proof c e. let z : _≡_ {A = ℕ} 0 1 = cc in absurd (omega arith);
         card-sent = λ id asked card proof c e. let z : _≡_ {A = ℕ} 0 1 = cc in absurd (omega arith);
@@ -375,6 +381,11 @@ module _ (before : Replica) (verdicts : List ℕ) (client : ClientId) (timestamp
             let same-d : d ≡ digest = cc in
             let own = own-client in
             (cc, rw (same-t, own) from-client, rw (same-t, own) count-is, rw (same-t, own, same-d) digest-is);
+        prepared-asked = λ id t d e.
+            let same-t : t ≡ timestamp = cc in
+            let same-d : d ≡ digest = cc in
+            let own = own-client in
+            (proof, last, rw (same-t, own, same-d) refl);
         written-sent = λ id t e. let z : _≡_ {A = ℕ} 0 1 = cc in absurd (omega arith);
         stamp-sent = λ id asked shown c e. let z : _≡_ {A = ℕ} 0 1 = cc in absurd (omega arith);
         card-sent = λ id asked card shown c e. let z : _≡_ {A = ℕ} 0 1 = cc in absurd (omega arith);
@@ -434,7 +445,7 @@ module _ (before : Replica) (verdicts : List ℕ) (client : ClientId) (timestamp
     sender-change =
         let own = own-client in
         let put : slotTimestamp after-put client ≡ timestamp = omega (arith, count-put) in
-        inr (⊎-elim (λ unused. inl unused) (λ closed. inr (omega arith)) cases, (digest, proof, last, rw put refl))
+        inr (⊎-elim (λ unused. inl unused) (λ closed. inr (omega arith)) cases, (digest, proof, last, rw put refl, rw put is-next))
 
     prepared-new : After after-put
     unfolding Fits after-put

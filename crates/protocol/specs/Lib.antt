@@ -1,3 +1,5 @@
 pub mod Client
+pub mod Examples
+pub mod OperationMessages
 pub mod Parts
 pub mod Replica

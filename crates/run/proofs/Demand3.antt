@@ -18,7 +18,7 @@ use Rattle.run.proofs.Order.{begunWith, finish, irreflexive, transitive
 
 pub demand-3 : (R : Run) → Premises R → Claims R
 demand-3 R P = record {
-  one-digest = one-digest R P;
+  one-digest = one-digest R (P .few-faulty);
   irreflexive = irreflexive R;
   transitive = transitive R;
   total = total R P;

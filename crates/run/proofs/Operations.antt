@@ -265,7 +265,7 @@ module _ (R : Run) where
     -- A quorum that answered since t₀, none with more than m: what was settled at t₀ is at most m.
     below : (m : ℕ) (counts : ReplicaSet) → quorumSize (R .f) ≤ count (replicaCount (R .f)) (has counts) → Each counts (λ r. held R r t₀ ≤ m) → (s : ℕ) → Settled t₀ s → s ≤ m
     below m counts enough seen s a =
-        let c = meet R P (has counts) (a .who) enough (a .enough) in
+        let c = meet R (P .few-faulty) (has counts) (a .who) enough (a .enough) in
         let low = seen (c .at) (c .in-p) (c .in-r) in
         let high = a .hold (c .at) (c .in-q) (c .in-r) in
         omega arith

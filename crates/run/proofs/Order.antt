@@ -7,6 +7,7 @@ use mathlib.Core.Option.{Option, some}
 use Prim.Native.Nat.{ℕ, zero, suc, _+_, _%_, _≤_, _<_}
 use native.Mathlib.Omega.{arith}
 use native.Mathlib.Nat.{eq-or-lt-of-le}
+use Rattle.base.specs.Outcome.{accepted}
 use Rattle.base.specs.Timestamp.{number}
 use Rattle.base.specs.declared.party.ClientId.{ClientId}
 use Rattle.base.specs.declared.timestamp.Timestamp.{Timestamp}
@@ -15,15 +16,15 @@ use Rattle.protocol.specs.Client.{done}
 use Rattle.protocol.specs.Parts.{startCard}
 use Rattle.protocol.specs.declared.client.Client.{Client}
 use Rattle.protocol.specs.declared.client.Phase.the-variants.{Idle}
-use Rattle.run.specs.Claims.{Begins, Finished, FinishedBefore, AtOneTimestamp, Before}
+use Rattle.run.specs.Claims.{Begins, GoesOn, Finished, SameOperation, FinishedBefore, AtOneTimestamp, LiesBefore, Before}
 use Rattle.run.specs.Premises.{Accepted, CardOfRun, cardOf, Premises}
 use Rattle.wire.specs.Acceptance.{client}
-use Rattle.run.specs.Run.{Event, begins-write, begins-read, to-client, Run, partyOf, event, clientAt, At, Correct}
+use Rattle.run.specs.Run.{Event, begins-write, begins-read, to-client, Run, partyOf, event, clientAt, answerAt, At, Correct}
 use Rattle.run.proofs.Turns.{apart, same-client, Silent, ClientTurn, rested, wrote, asked, heard, client-turn}
 use Rattle.run.proofs.Slots.{split-last, order, one-backed}
 use Rattle.run.proofs.Operations.{none-in, Settled, settled-later, Shown, shown-later, During, during-later, not-idle, moved, Above, AtDone, Next, goes-on, finishes, stops, heard-next}
 
-three-ways : {P : Type 0} (a b : ℕ) → (a < b → P) → (a ≡ b → P) → (b < a → P) → P
+pub three-ways : {P : Type 0} (a b : ℕ) → (a < b → P) → (a ≡ b → P) → (b < a → P) → P
 three-ways a b x y z = ⊎-elim (λ l. ⊎-elim y x (eq-or-lt-of-le l)) z (order a b)
 
 module _ (R : Run) where
@@ -71,11 +72,11 @@ module _ (R : Run) where
     start false t₀ b a = start-read t₀ b a
 
     -- Event t while the client's operation is under way.
-    data Turned (w : Bool) (card : List ℕ) (t₀ t : ℕ) : Type 0 where
+    pub data Turned (w : Bool) (card : List ℕ) (t₀ t : ℕ) : Type 0 where
       waits : During R w id card t₀ (suc t) (clientAt R id (suc t)) (clientAt R id (suc t) .phase) → Silent R (client id) t → Turned w card t₀ t
       acts : At R t (client id) → Next R w id card t₀ t → Turned w card t₀ t
 
-    turned : Premises R → (w : Bool) (card : List ℕ) → (w ≡ true → CardOfRun R card) → (t₀ t : ℕ) → During R w id card t₀ t (clientAt R id t) (clientAt R id t .phase) → Turned w card t₀ t
+    pub turned : Premises R → (w : Bool) (card : List ℕ) → (w ≡ true → CardOfRun R card) → (t₀ t : ℕ) → During R w id card t₀ t (clientAt R id t) (clientAt R id t .phase) → Turned w card t₀ t
     turned P w card in-run t₀ t x = go (client-turn R id c t)
       where
         busy : {A : Type 0} → clientAt R id t .phase ≡ Idle → A
@@ -89,7 +90,7 @@ module _ (R : Run) where
         go (heard h) = acts (to-client id (h .bytes) (h .verdicts), h .event-is, refl) (heard-next R P id c t₀ t w card in-run h x)
 
     -- A busy client begins nothing.
-    none-begun : (w w′ : Bool) (card : List ℕ) (t₀ t : ℕ) → During R w id card t₀ t (clientAt R id t) (clientAt R id t .phase) → Begins R w′ id (event R t) → Accepted R t → ⊥
+    pub none-begun : (w w′ : Bool) (card : List ℕ) (t₀ t : ℕ) → During R w id card t₀ t (clientAt R id t) (clientAt R id t .phase) → Begins R w′ id (event R t) → Accepted R t → ⊥
     none-begun w w′ card t₀ t x b a = go (client-turn R id c t)
       where
         busy : clientAt R id t .phase ≡ Idle → ⊥
@@ -105,7 +106,7 @@ module _ (R : Run) where
         go (asked turn e b′ s) = busy (b′ .was-idle)
         go (heard h) = no-message w′ (h .bytes) (h .verdicts) (h .event-is) b
 
-  correct-of : (o : Finished R) → R .correct-client (o .id) ≡ true
+  pub correct-of : (o : Finished R) → R .correct-client (o .id) ≡ true
   correct-of o = subst (Correct R) (o .at-client .2) (R .at-correct (o .finished) (o .at-client .0) (o .at-client .1))
 
   abbrev pub cardBegun : Finished R → List ℕ
@@ -115,22 +116,34 @@ module _ (R : Run) where
   Under o t = During R (o .is-write) (o .id) (cardBegun o) (o .begun) t (clientAt R (o .id) t) (clientAt R (o .id) t .phase)
 
   module _ (P : Premises R) where
+    -- An operation that began at t₀ is under way as long as nothing ends it.
+    pub stays : (id : ClientId) (c : R .correct-client id ≡ true) (w : Bool) (t₀ : ℕ) (b : Begins R w id (event R t₀)) (a : Accepted R t₀) (end : ℕ)
+        → ((t : ℕ) → t₀ < t → t < end → At R t (client id) → GoesOn R t) → (t : ℕ) → t₀ < t → t ≤ end
+        → During R w id (begunWith w id (event R t₀) b) t₀ t (clientAt R id t) (clientAt R id t .phase)
+    stays id c w t₀ b a end none-between zero l l′ = absurd (omega arith)
+    stays id c w t₀ b a end none-between (suc t) l l′ =
+        split-last t₀ t l
+        (λ e. subst (λ (u : ℕ). Under (suc u)) e (start id c w t₀ b a))
+        (λ k. go k (turned id c P w card (begun-card w id t₀ b a) t₀ t (stays id c w t₀ b a end none-between t k (omega arith))))
+      where
+        card : List ℕ
+        card = begunWith w id (event R t₀) b
+
+        Under : ℕ → Type 0
+        Under u = During R w id card t₀ u (clientAt R id u) (clientAt R id u .phase)
+
+        go : t₀ < t → Turned id c w card t₀ t → Under (suc t)
+        go k (waits x silent) = x
+        go k (acts at (goes-on x not-done)) = x
+        go k (acts at (finishes timestamp card e x)) = absurd (none-between t k l′ at .not-done timestamp card e)
+        go k (acts at (stops e)) = absurd (none-between t k l′ at .not-ended e)
+
+    during : (o : Finished R) (t : ℕ) → o .begun < t → t ≤ o .finished → Under o t
+    during o = stays (o .id) (correct-of o) (o .is-write) (o .begun) (o .begins) (o .not-refused) (o .finished) (o .none-between)
+
     turn-of : (o : Finished R) (t : ℕ) → Under o t → Turned (o .id) (correct-of o) (o .is-write) (cardBegun o) (o .begun) t
     turn-of o t x =
         turned (o .id) (correct-of o) P (o .is-write) (cardBegun o) (begun-card (o .is-write) (o .id) (o .begun) (o .begins) (o .not-refused)) (o .begun) t x
-
-    during : (o : Finished R) (t : ℕ) → o .begun < t → t ≤ o .finished → Under o t
-    during o zero l l′ = absurd (omega arith)
-    during o (suc t) l l′ =
-        split-last (o .begun) t l
-        (λ e. subst (λ (u : ℕ). Under o (suc u)) e (start (o .id) (correct-of o) (o .is-write) (o .begun) (o .begins) (o .not-refused)))
-        (λ k. go k (turn-of o t (during o t k (omega arith))))
-      where
-        go : o .begun < t → Turned (o .id) (correct-of o) (o .is-write) (cardBegun o) (o .begun) t → Under o (suc t)
-        go k (waits x silent) = x
-        go k (acts at (goes-on x not-done)) = x
-        go k (acts at (finishes timestamp card e x)) = absurd (o .none-between t k l′ at .not-done timestamp card e)
-        go k (acts at (stops e)) = absurd (o .none-between t k l′ at .not-ended e)
 
     -- What holds of an operation when it finishes.
     pub finish : (o : Finished R) → AtDone R (o .is-write) (o .id) (cardBegun o) (o .begun) (suc (o .finished)) (o .timestamp) (o .card)
@@ -153,14 +166,14 @@ module _ (R : Run) where
     above-all true t₀ s a s′ z = let l = a s′ z in omega arith
     above-all false t₀ s a s′ z = a s′ z
 
-    above-write : (w : Bool) (t₀ s : ℕ) → w ≡ true → Above R w t₀ s → (s′ : ℕ) → Settled R t₀ s′ → s′ < s
+    pub above-write : (w : Bool) (t₀ s : ℕ) → w ≡ true → Above R w t₀ s → (s′ : ℕ) → Settled R t₀ s′ → s′ < s
     above-write true t₀ s w a = a
     above-write false t₀ s w a = apart (cc)
 
     settled-before : (o o′ : Finished R) → FinishedBefore R o o′ → Settled R (o′ .begun) (number (o .timestamp))
     settled-before o o′ l = settled-later R (suc (o .finished)) (o′ .begun) (number (o .timestamp)) l (finish o .settled)
 
-    rises : (o o′ : Finished R) → FinishedBefore R o o′ → number (o .timestamp) ≤ number (o′ .timestamp)
+    pub rises : (o o′ : Finished R) → FinishedBefore R o o′ → number (o .timestamp) ≤ number (o′ .timestamp)
     rises o o′ l = above-all (o′ .is-write) (o′ .begun) (number (o′ .timestamp)) (finish o′ .above) (number (o .timestamp)) (settled-before o o′ l)
 
     pub later-write : (o o′ : Finished R) → o′ .is-write ≡ true → FinishedBefore R o o′ → number (o .timestamp) < number (o′ .timestamp)
@@ -182,7 +195,7 @@ module _ (R : Run) where
     same-shown t s card card′ (inl a) (inl b) = a .1 ∙ sym (b .1)
     same-shown t s card card′ (inl a) (inr b) = let z = a .0 in let p = b .positive in absurd (omega arith)
     same-shown t s card card′ (inr a) (inl b) = let z = b .0 in let p = a .positive in absurd (omega arith)
-    same-shown t s card card′ (inr a) (inr b) = P .different-digests card card′ (a .card-in) (b .card-in) (one-backed R P t s (sha256 card) (sha256 card′) (a .backed) (b .backed))
+    same-shown t s card card′ (inr a) (inr b) = P .different-digests card card′ (a .card-in) (b .card-in) (one-backed R (P .few-faulty) t s (sha256 card) (sha256 card′) (a .backed) (b .backed))
 
     pub one-card : (o o′ : Finished R) → number (o .timestamp) ≡ number (o′ .timestamp) → o .card ≡ o′ .card
     one-card o o′ e =
@@ -193,13 +206,12 @@ module _ (R : Run) where
 
     -- ---- The order is total
 
-    -- Of two operations of one client one finishes before the other begins.
+    -- What a client begins after an operation began it begins after that finished.
+    pub begun-after : (o : Finished R) (t : ℕ) (w : Bool) → o .begun < t → Begins R w (o .id) (event R t) → Accepted R t → o .finished < t
+    begun-after o t w l b a = ⊎-elim (λ k. absurd (none-begun (o .id) (correct-of o) (o .is-write) w (cardBegun o) (o .begun) t (during o t l k) b a)) (λ k. k) (order t (o .finished))
+
     one-after : (o o′ : Finished R) → o .id ≡ o′ .id → o .begun < o′ .begun → o .finished < o′ .begun
-    one-after o o′ e l =
-        ⊎-elim
-        (λ k. absurd (none-begun (o .id) (correct-of o) (o .is-write) (o′ .is-write) (cardBegun o) (o .begun) (o′ .begun) (during o (o′ .begun) l k)
-        (subst (λ (i : ClientId). Begins R (o′ .is-write) i (event R (o′ .begun))) (sym e) (o′ .begins)) (o′ .not-refused)))
-        (λ k. k) (order (o′ .begun) (o .finished))
+    one-after o o′ e l = begun-after o (o′ .begun) (o′ .is-write) l (rw e (o′ .begins)) (o′ .not-refused)
 
     one-write : (o o′ : Finished R) → o .is-write ≡ true → o′ .is-write ≡ true → number (o .timestamp) ≡ number (o′ .timestamp) → o .begun ≡ o′ .begun
     one-write o o′ w w′ e =
@@ -241,11 +253,35 @@ module _ (R : Run) where
 
   -- ---- What needs no premise
 
-  pub irreflexive : (o : Finished R) → Before R o o → ⊥
-  irreflexive o (inl l) = omega arith
-  irreflexive o (inr k) = go (o .is-write) (k .1)
+  -- Operations that begin with one event are of one client and kind,
+  same-begins : (o o′ : Finished R) → o .begun ≡ o′ .begun → (o .id ≡ o′ .id) × (o .is-write ≡ o′ .is-write)
+  same-begins o o′ e = go (o .is-write) (o′ .is-write) (o .begins) (rw (← e) at (o′ .begins))
     where
-      go : (w : Bool) → AtOneTimestamp R w w (o .finished) (o .finished) → ⊥
+      go : (w w′ : Bool) → Begins R w (o .id) (event R (o .begun)) → Begins R w′ (o′ .id) (event R (o .begun)) → (o .id ≡ o′ .id) × (w ≡ w′)
+      go true true b b′ = let x = b .1 in let y = b′ .1 in (cc, refl)
+      go true false b b′ = let x = b .1 in apart (cc)
+      go false true b b′ = let y = b′ .1 in apart (cc)
+      go false false b b′ = (cc, refl)
+
+  -- and neither ends before the other,
+  first-done : (o o′ : Finished R) → o .id ≡ o′ .id → o .begun ≡ o′ .begun → o .finished < o′ .finished → ⊥
+  first-done o o′ i e l =
+      let after = o .after in
+      o′ .none-between (o .finished) (omega arith) l (subst (λ (id : ClientId). At R (o .finished) (client id)) i (o .at-client)) .not-done (o .timestamp) (o .card) (o .is-done)
+
+  -- so they are one.
+  pub same-operation : (o o′ : Finished R) → o .begun ≡ o′ .begun → SameOperation R o o′
+  same-operation o o′ e =
+      let (same-id, same-kind) = same-begins o o′ e in
+      let ends : o .finished ≡ o′ .finished = three-ways (o .finished) (o′ .finished) (λ l. absurd (first-done o o′ same-id e l)) (λ k. k) (λ l. absurd (first-done o′ o (sym same-id) (sym e) l)) in
+      let there : answerAt R (o .finished) ≡ accepted (done (o′ .timestamp) (o′ .card)) = ap (answerAt R) ends ∙ o′ .is-done in
+      record { same-id = same-id; same-kind = same-kind; same-end = ends; same-timestamp = cc (o .is-done); same-card = cc (o .is-done) }
+
+  pub not-itself : (s : ℕ) (w : Bool) (at : ℕ) → LiesBefore R s w at s w at → ⊥
+  not-itself s w at (inl l) = omega arith
+  not-itself s w at (inr k) = go w (k .1)
+    where
+      go : (w : Bool) → AtOneTimestamp R w w at at → ⊥
       go true x = x
       go false x = omega arith
 
@@ -257,8 +293,15 @@ module _ (R : Run) where
   chain false false true a b c x y = absurd y
   chain false false false a b c x y = omega arith
 
+  pub before-both : (s s′ s″ : ℕ) (w w′ w″ : Bool) (at at′ at″ : ℕ) → LiesBefore R s w at s′ w′ at′ → LiesBefore R s′ w′ at′ s″ w″ at″ → LiesBefore R s w at s″ w″ at″
+  before-both s s′ s″ w w′ w″ at at′ at″ (inl a) (inl b) = inl (omega arith)
+  before-both s s′ s″ w w′ w″ at at′ at″ (inl a) (inr b) = let e = b .0 in inl (omega arith)
+  before-both s s′ s″ w w′ w″ at at′ at″ (inr a) (inl b) = let e = a .0 in inl (omega arith)
+  before-both s s′ s″ w w′ w″ at at′ at″ (inr a) (inr b) = inr (a .0 ∙ b .0, chain w w′ w″ at at′ at″ (a .1) (b .1))
+
+  pub irreflexive : (o : Finished R) → Before R o o → ⊥
+  irreflexive o = not-itself (number (o .timestamp)) (o .is-write) (o .finished)
+
   pub transitive : (o o′ o″ : Finished R) → Before R o o′ → Before R o′ o″ → Before R o o″
-  transitive o o′ o″ (inl a) (inl b) = inl (omega arith)
-  transitive o o′ o″ (inl a) (inr b) = let e = b .0 in inl (omega arith)
-  transitive o o′ o″ (inr a) (inl b) = let e = a .0 in inl (omega arith)
-  transitive o o′ o″ (inr a) (inr b) = inr (a .0 ∙ b .0, chain (o .is-write) (o′ .is-write) (o″ .is-write) (o .finished) (o′ .finished) (o″ .finished) (a .1) (b .1))
+  transitive o o′ o″ =
+      before-both (number (o .timestamp)) (number (o′ .timestamp)) (number (o″ .timestamp)) (o .is-write) (o′ .is-write) (o″ .is-write) (o .finished) (o′ .finished) (o″ .finished)

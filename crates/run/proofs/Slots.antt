@@ -29,8 +29,8 @@ use Rattle.protocol.specs.Replica.{slotCount, slotDigest}
 use Rattle.protocol.specs.declared.replica.Slots.{Slots}
 use Rattle.wire.proofs.Passed.{Passed}
 use Rattle.protocol.proofs.ReplicaFacts.{clientOf, SlotRises, prepared-legal}
-use Rattle.run.specs.Claims.{Genuine}
-use Rattle.run.specs.Premises.{preparedSignatures, signaturesOf, TrueVerdicts, Premises}
+use Rattle.run.specs.Claims.{Genuine, OneDigest}
+use Rattle.run.specs.Premises.{preparedSignatures, signaturesOf, TrueVerdicts, FewFaulty, Premises}
 use Rattle.wire.specs.Acceptance.{replica}
 use Rattle.run.specs.Run.{Run, replicaAt, answerAt, At}
 use Rattle.run.proofs.Turns.{correct-replica-range, ReplicaTurn, rests, steps, replica-turn, ReplicaStep, replica-step, Heard}
@@ -129,47 +129,47 @@ module _ (R : Run) where
             (entry-sent R t (λ id. PREPARED id (proof .timestamp) (proof .digest)) (proof .entries) verdicts long ones true-ones id k c);
       }
 
-  module _ (P : Premises R) where
-    pub f-small : R .f ≤ 5
-    f-small = bounds 1 5 (R .f) (R .f-in-range) .1
+  -- The prepared proof of a CARD that a client takes.
+  pub card-backed : Premises R → (id : ClientId) (t : ℕ) (h : Heard R id t) (sender : ReplicaId) (nonce : ℕ) (card : List ℕ) (proof : PreparedProof) (addressed : ClientId)
+      → h .message ≡ CARD sender nonce card (some proof) addressed → Passed (R .f) (h .message) (h .verdicts) → Backed t (proof .timestamp) (proof .digest)
+  unfolding Fits oneEach entriesOf
+  card-backed P id t h sender nonce card proof addressed e passed =
+      let m = CARD sender nonce card (some proof) addressed in
+      let ok : Passed (R .f) m (h .verdicts) = subst (λ (x : Message). Passed (R .f) x (h .verdicts)) e passed in
+      let legal : Legal m = subst Legal e (heard-legal R P id t h) in
+      let true-ones : TrueVerdicts R t (signaturesOf (h .bytes) m) (h .verdicts) = subst (λ (x : Message). TrueVerdicts R t (signaturesOf (h .bytes) x) (h .verdicts)) e (heard-true R P id t h) in
+      let entries-true = front-true R t (preparedSignatures proof) [] (drop 1 (h .verdicts)) (rest-true R t _ _ (h .verdicts) true-ones) in
+      let each = and-true-both (eqb (length (h .verdicts)) (1 + length (proof .entries ++ []))) (all (λ v. leb v 1) (h .verdicts)) (ok .one-each) in
+      let long : length (h .verdicts) ≡ 1 + length (proof .entries ++ []) = eqb-true (length (h .verdicts)) (1 + length (proof .entries ++ [])) (each .0) in
+      backed-by t proof (drop 1 (h .verdicts)) (legal .fits .3) (ok .prepared-shaped) (dropped (h .verdicts) long) (ok .entries-genuine) entries-true
+    where
+      dropped : (verdicts : List ℕ) → length verdicts ≡ 1 + length (proof .entries ++ []) → length (proof .entries) ≤ length (drop 1 verdicts)
+      dropped [] l = absurd (omega arith)
+      dropped (v ∷ vs) l = let both = length-append (proof .entries) [] in omega arith
 
+  -- A genuine proof is backed at the end of the list.
+  genuine-backed : (proof : PreparedProof) → Genuine R proof → Backed (length (R .events)) (proof .timestamp) (proof .digest)
+  unfolding proofOutcome
+  genuine-backed proof g =
+      let nine = guard-accepted 9 (shaped (R .f) (proof .entries)) (guard 10 (genuine (g .verdicts)) (guard 11 (issued (proof .timestamp)) (accepted tt))) tt (g .passes) in
+      let ten = guard-accepted 10 (genuine (g .verdicts)) (guard 11 (issued (proof .timestamp)) (accepted tt)) tt (nine .1) in
+      let each = g .one-each in
+      backed-by (length (R .events)) proof (g .verdicts) (prepared-rewritten (g .bytes) proof (g .are-bytes) (g .reads) .1) (nine .0) (omega arith) (ten .0) (g .true-verdicts)
+
+  -- ---- What the bound on faulty replicas alone gives
+
+  module _ (few : FewFaulty R) where
     -- What two quorums have in common.
     pub meet : (p q : ReplicaId → Bool) → quorumSize (R .f) ≤ count (replicaCount (R .f)) p → quorumSize (R .f) ≤ count (replicaCount (R .f)) q → Common (replicaCount (R .f)) p q (R .correct-replica)
-    meet = quorums-meet (R .f) (R .correct-replica) (P .few-faulty) f-small
+    meet = quorums-meet (R .f) (R .correct-replica) few (bounds 1 5 (R .f) (R .f-in-range) .1)
 
     pub one-backed : (t s : ℕ) (d d′ : List ℕ) → Backed t s d → Backed t s d′ → d ≡ d′
     one-backed t s d d′ a b =
         let c = meet (a .who) (b .who) (a .enough) (b .enough) in
         one-digest-each (c .at) (c .in-r) t s d d′ (a .signed (c .at) (c .in-p) (c .in-r)) (b .signed (c .at) (c .in-q) (c .in-r))
 
-    -- The prepared proof of a CARD that a client takes.
-    pub card-backed : (id : ClientId) (t : ℕ) (h : Heard R id t) (sender : ReplicaId) (nonce : ℕ) (card : List ℕ) (proof : PreparedProof) (addressed : ClientId)
-        → h .message ≡ CARD sender nonce card (some proof) addressed → Passed (R .f) (h .message) (h .verdicts) → Backed t (proof .timestamp) (proof .digest)
-    unfolding Fits oneEach entriesOf
-    card-backed id t h sender nonce card proof addressed e passed =
-        let m = CARD sender nonce card (some proof) addressed in
-        let ok : Passed (R .f) m (h .verdicts) = subst (λ (x : Message). Passed (R .f) x (h .verdicts)) e passed in
-        let legal : Legal m = subst Legal e (heard-legal R P id t h) in
-        let true-ones : TrueVerdicts R t (signaturesOf (h .bytes) m) (h .verdicts) = subst (λ (x : Message). TrueVerdicts R t (signaturesOf (h .bytes) x) (h .verdicts)) e (heard-true R P id t h) in
-        let entries-true = front-true R t (preparedSignatures proof) [] (drop 1 (h .verdicts)) (rest-true R t _ _ (h .verdicts) true-ones) in
-        let each = and-true-both (eqb (length (h .verdicts)) (1 + length (proof .entries ++ []))) (all (λ v. leb v 1) (h .verdicts)) (ok .one-each) in
-        let long : length (h .verdicts) ≡ 1 + length (proof .entries ++ []) = eqb-true (length (h .verdicts)) (1 + length (proof .entries ++ [])) (each .0) in
-        backed-by t proof (drop 1 (h .verdicts)) (legal .fits .3) (ok .prepared-shaped) (dropped (h .verdicts) long) (ok .entries-genuine) entries-true
-      where
-        dropped : (verdicts : List ℕ) → length verdicts ≡ 1 + length (proof .entries ++ []) → length (proof .entries) ≤ length (drop 1 verdicts)
-        dropped [] l = absurd (omega arith)
-        dropped (v ∷ vs) l = let both = length-append (proof .entries) [] in omega arith
-
-    -- "no two genuine prepared proofs, whoever gathered them, carry one stamp and two digests"
-    genuine-backed : (proof : PreparedProof) → Genuine R proof → Backed (length (R .events)) (proof .timestamp) (proof .digest)
-    unfolding proofOutcome
-    genuine-backed proof g =
-        let nine = guard-accepted 9 (shaped (R .f) (proof .entries)) (guard 10 (genuine (g .verdicts)) (guard 11 (issued (proof .timestamp)) (accepted tt))) tt (g .passes) in
-        let ten = guard-accepted 10 (genuine (g .verdicts)) (guard 11 (issued (proof .timestamp)) (accepted tt)) tt (nine .1) in
-        let each = g .one-each in
-        backed-by (length (R .events)) proof (g .verdicts) (prepared-rewritten (g .bytes) proof (g .are-bytes) (g .reads) .1) (nine .0) (omega arith) (ten .0) (g .true-verdicts)
-
-    pub one-digest : (proof proof′ : PreparedProof) → Genuine R proof → Genuine R proof′ → proof .timestamp ≡ proof′ .timestamp → proof .digest ≡ proof′ .digest
+    -- "no two genuine prepared proofs, whoever gathered them, carry one stamp and two digests": whatever verdicts were handed over, and whatever the cards.
+    pub one-digest : OneDigest R
     one-digest proof proof′ g g′ e =
         one-backed (length (R .events)) (proof .timestamp) (proof .digest) (proof′ .digest) (genuine-backed proof g)
         (subst (λ (s : ℕ). Backed (length (R .events)) s (proof′ .digest)) (sym e) (genuine-backed proof′ g′))

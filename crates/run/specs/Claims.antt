@@ -30,6 +30,10 @@ module _ (R : Run) where
     pub passes : proofOutcome (R .f) (proof .entries) verdicts (proof .timestamp) ≡ accepted tt
     pub true-verdicts : TrueVerdicts R (length (R .events)) (preparedSignatures proof) verdicts
 
+  -- "no two genuine prepared proofs .. carry one stamp and two digests"
+  abbrev pub OneDigest : Type 0
+  OneDigest = (proof proof′ : PreparedProof) → Genuine proof → Genuine proof′ → proof .timestamp ≡ proof′ .timestamp → proof .digest ≡ proof′ .digest
+
   -- "A read or write begins with the event that begins it, unless refused." True for a write.
   abbrev pub Begins : Bool → ClientId → Option Event → Type 0
   Begins true id e = (card : List ℕ) × (e ≡ some (begins-write id card))
@@ -55,6 +59,14 @@ module _ (R : Run) where
     pub is-done : answerAt R finished ≡ accepted (done timestamp card)
     pub none-between : (t : ℕ) → begun < t → t < finished → At R t (client id) → GoesOn t
 
+  -- Two that are one operation. `same-operation` proves it of any two that begin with one event.
+  pub record SameOperation (o o′ : Finished) : Type 0 where
+    pub same-id : o .id ≡ o′ .id
+    pub same-kind : o .is-write ≡ o′ .is-write
+    pub same-end : o .finished ≡ o′ .finished
+    pub same-timestamp : o .timestamp ≡ o′ .timestamp
+    pub same-card : o .card ≡ o′ .card
+
   -- "One finished before another began if the first's done stands earlier in the list than the other's beginning."
   abbrev pub FinishedBefore : Finished → Finished → Type 0
   FinishedBefore o o′ = o .finished < o′ .begun
@@ -66,15 +78,16 @@ module _ (R : Run) where
   AtOneTimestamp false true at at′ = ⊥
   AtOneTimestamp false false at at′ = at < at′
 
-  -- "The smaller stamp lies first"
+  -- "The smaller stamp lies first": timestamp, whether a write, and when finished, of each.
+  abbrev pub LiesBefore : ℕ → Bool → ℕ → ℕ → Bool → ℕ → Type 0
+  LiesBefore s w at s′ w′ at′ = (s < s′) ⊎ ((s ≡ s′) × AtOneTimestamp w w′ at at′)
+
   abbrev pub Before : Finished → Finished → Type 0
-  Before o o′ =
-      (number (o .timestamp) < number (o′ .timestamp))
-      ⊎ ((number (o .timestamp) ≡ number (o′ .timestamp)) × AtOneTimestamp (o .is-write) (o′ .is-write) (o .finished) (o′ .finished))
+  Before o o′ = LiesBefore (number (o .timestamp)) (o .is-write) (o .finished) (number (o′ .timestamp)) (o′ .is-write) (o′ .finished)
 
   pub record Claims : Type 0 where
     -- "no two genuine prepared proofs, whoever gathered them, carry one stamp and two digests"
-    pub one-digest : (proof proof′ : PreparedProof) → Genuine proof → Genuine proof′ → proof .timestamp ≡ proof′ .timestamp → proof .digest ≡ proof′ .digest
+    pub one-digest : OneDigest
     -- "laid in order of stamp, a write ahead of reads and reads as they finished": an order of all finished operations
     pub irreflexive : (o : Finished) → Before o o → ⊥
     pub transitive : (o o′ o″ : Finished) → Before o o′ → Before o′ o″ → Before o o″

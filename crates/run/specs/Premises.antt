@@ -93,9 +93,13 @@ module _ (R : Run) where
     pub carried : cardOf (event R time) ≡ some card
     pub not-refused : Accepted time
 
+  -- "The rule-followers are all holders but f at most"
+  abbrev pub FewFaulty : Type 0
+  FewFaulty = count (replicaCount (R .f)) (λ id. not (R .correct-replica id)) ≤ R .f
+
   pub record Premises : Type 0 where
     -- "at most f holders break the rules"
-    pub few-faulty : count (replicaCount (R .f)) (λ id. not (R .correct-replica id)) ≤ R .f
+    pub few-faulty : FewFaulty
     -- "seal marks are true": "All marks handed over are true at their event."
     pub true-verdicts : (t : ℕ) → TrueAt t (event R t)
     -- "no two cards in the run share a digest"

@@ -1,0 +1,95 @@
+-- Document 01's proved examples, A to K.
+use mathlib.Core.Path.{_≡_}
+use mathlib.Core.Bool.{true, false}
+use mathlib.Core.List.{List, [], _∷_}
+use mathlib.Core.Option.{Option, none, some}
+use Prim.Native.Nat.{ℕ, _/_, _≤_, _<_}
+use Rattle.base.specs.Outcome.{Outcome, accepted, refused, _>>=_}
+use Rattle.base.specs.Party.{replicaCount, quorumSize}
+use Rattle.base.specs.Timestamp.{number, successor}
+use Rattle.base.specs.declared.party.ClientId.{ClientId}
+use Rattle.base.specs.declared.timestamp.Timestamp.{Timestamp}
+use Rattle.wire.specs.Acceptance.{admits}
+use Rattle.wire.specs.Card.{readCard, isCard}
+use Rattle.wire.specs.Message.{Message, PREPARE, WRITE, PREPARED, WRITTEN}
+use Rattle.wire.specs.Proof.{PreparedProof, WrittenProof}
+use Rattle.protocol.specs.Parts.{cardStands}
+use Rattle.protocol.specs.Replica.{Reply, heldTimestamp, slotDigest, slotTimestamp, withWritten, withSlot, raised, isOwn, withSlots, answering, onRequest}
+use Rattle.protocol.specs.declared.replica.Replica.{Replica}
+use Rattle.protocol.specs.declared.replica.Slots.{Slots}
+
+-- The timestamp written count.client.
+abbrev pub stamp : ℕ → ℕ → Timestamp
+stamp count client = record { count = count; client = record { 0 = client } }
+
+-- Client 2, and its first two timestamps as messages carry them.
+abbrev pub two : ClientId
+two = record { 0 = 2 }
+
+abbrev pub 1·2 : ℕ
+1·2 = number (stamp 1 2)
+
+abbrev pub 2·2 : ℕ
+2·2 = number (stamp 2 2)
+
+-- Client 2's slot has timestamp 1.2 and that digest; it is open above the written timestamp, else closed.
+pub record SlotHolds (slots : Slots) (digest : List ℕ) : Type 0 where
+  pub timestamp : slotTimestamp slots two ≡ 1·2
+  pub digest-is : slotDigest slots two ≡ digest
+
+abbrev pub Open : Slots → Type 0
+Open slots = number (slots .written) < slotTimestamp slots two
+
+abbrev pub Closed : Slots → Type 0
+Closed slots = slotTimestamp slots two ≤ number (slots .written)
+
+-- The PREPARE of 1.2 with a digest, which follows 0.0 and shows no proof, and its one verdict.
+abbrev pub first : List ℕ → Message
+first digest = PREPARE two 1·2 digest none none
+
+abbrev pub genuine : List ℕ
+genuine = 1 ∷ []
+
+-- A replica is handed a message: 6 to 11, and what follows.
+abbrev pub handed : Replica → List ℕ → Message → Outcome Reply
+handed replica verdicts message = admits (replica .f) verdicts message >>= onRequest replica
+
+-- A message that passes 6 to 11.
+abbrev pub Passes : Replica → List ℕ → Message → Type 0
+Passes replica verdicts message = admits (replica .f) verdicts message ≡ accepted message
+
+-- The written timestamp's client is a byte, as it is in the record of the code.
+abbrev pub WrittenFits : Replica → Type 0
+WrittenFits replica = replica .register .slots .written .client .0 < 256
+
+pub record Examples : Type 0 where
+  -- "f = 1 gives n 4, q 3; f = 5 gives 16, 11."
+  pub A : (replicaCount 1 ≡ 4) × (quorumSize 1 ≡ 3) × (replicaCount 5 ≡ 16) × (quorumSize 5 ≡ 11)
+  -- "7.9 for desk 2 gives 8.2."
+  pub B : successor (stamp 7 9) two ≡ some (stamp 8 2)
+  -- "7.9 < 8.2 < 8.3."
+  pub C : (number (stamp 7 9) < number (stamp 8 2)) × (number (stamp 8 2) < number (stamp 8 3))
+  -- "4,294,967,295.1 has no successor."
+  pub D : (client : ClientId) → successor (stamp 4_294_967_295 1) client ≡ none
+  -- "card `00 00` good."
+  pub E : isCard (0x00 ∷ 0x00 ∷ []) ≡ true
+  -- "`00 03 1C 20 1C 1F` is 7,200 and 7,199."
+  pub F : readCard (0x00 ∷ 0x03 ∷ 0x1C ∷ 0x20 ∷ 0x1C ∷ 0x1F ∷ []) ≡ some (some 7_200 ∷ some 7_199 ∷ none ∷ none ∷ none ∷ none ∷ none ∷ [])
+  -- "`00 01 1C 20` bad."
+  pub G : isCard (0x00 ∷ 0x01 ∷ 0x1C ∷ 0x20 ∷ []) ≡ false
+  -- "`00 20 04` good, `00 20 05` bad."
+  pub H : (isCard (0x00 ∷ 0x20 ∷ 0x04 ∷ []) ≡ true) × (isCard (0x00 ∷ 0x20 ∷ 0x05 ∷ []) ≡ false)
+  -- "line 1.2 open with digest a: 1.2 a PREPARED, 1.2 b refused 15."
+  pub I : (replica : Replica) (a b : List ℕ) → (a ≡ b → ⊥) → WrittenFits replica → SlotHolds (replica .register .slots) a → Open (replica .register .slots)
+      → (handed replica genuine (first a) ≡ answering (PREPARED (replica .id) 1·2 a) replica) × (handed replica genuine (first b) ≡ refused 15)
+  -- "the same line closed: 2.2 taken, 1.2 b still 15." 2.2 comes with a prepared proof of a timestamp of count 1, which passed 6 to 12.
+  pub J : (replica : Replica) (a b : List ℕ) → (a ≡ b → ⊥) → SlotHolds (replica .register .slots) a → Closed (replica .register .slots)
+      → ((digest : List ℕ) (proof : PreparedProof) (last : Option WrittenProof) (verdicts : List ℕ) → proof .timestamp / 256 ≡ 1
+      → Passes replica verdicts (PREPARE two 2·2 digest (some proof) last) → isOwn two last ≡ true
+      → handed replica verdicts (PREPARE two 2·2 digest (some proof) last)
+      ≡ answering (PREPARED (replica .id) 2·2 digest) (withSlots replica (withWritten (raised last (replica .register .slots)) (withSlot two 2·2 digest (replica .register .slots)))))
+      × (handed replica genuine (first b) ≡ refused 15)
+  -- "WRITE of the held stamp: WRITTEN, record kept." From any client, with a proof and a card that passed 6 to 11 and 14.
+  pub K : (replica : Replica) (client : ClientId) (card : List ℕ) (proof : PreparedProof) (verdicts : List ℕ)
+      → Passes replica verdicts (WRITE client card proof) → cardStands card (some proof) ≡ true → proof .timestamp ≡ heldTimestamp (replica .register .held)
+      → handed replica verdicts (WRITE client card proof) ≡ answering (WRITTEN (replica .id) (proof .timestamp)) replica

@@ -1,0 +1,88 @@
+-- What a message does to a write of its client: it gathers STAMPs, takes its timestamp with the PREPARE, keeps it, or is done with it. Assumes nothing.
+use mathlib.Core.Path.{_≡_, refl, ap, _∙_}
+use mathlib.Core.Bool.{Bool, true, false}
+use mathlib.Core.List.{List}
+use mathlib.Core.Option.{Option, none, some}
+use Prim.Native.Nat.{ℕ}
+use Rattle.base.specs.Timestamp.{number}
+use Rattle.base.specs.declared.timestamp.Timestamp.{Timestamp}
+use Rattle.wire.specs.Message.{Message, READ-STAMP, PREPARE, WRITE, READ, STAMP, PREPARED, WRITTEN, CARD}
+use Rattle.wire.specs.Proof.{PreparedProof, WrittenProof}
+use Rattle.wire.specs.Sha256.{sha256}
+use Rattle.protocol.specs.Client.{Answer, send, counted, done, ended, Turn, currentCard}
+use Rattle.protocol.specs.declared.client.Client.{Client}
+use Rattle.protocol.specs.declared.client.Phase.{Phase}
+use Rattle.protocol.specs.declared.client.Phase.the-variants.{Idle, Stamps, Prepareds, Writtens, Cards, WriteBack}
+use Rattle.protocol.proofs.ClientCases.{Leaves, ClientCase, stamp-counted, stamps-enough, stamps-ended, prepared-counted, prepareds-enough, written-counted, writtens-enough, card-counted, cards-agree, cards-differ, back-counted, back-enough}
+
+abbrev pub isStamping : Phase → Bool
+isStamping Idle = false
+isStamping (Stamps nonce best counts) = true
+isStamping (Prepareds timestamp counts) = false
+isStamping (Writtens timestamp counts) = false
+isStamping (Cards nonce best counts showed) = false
+isStamping (WriteBack timestamp counts) = false
+
+-- The timestamp of a write that has one.
+abbrev pub preparedFor : Phase → Option ℕ
+preparedFor Idle = none
+preparedFor (Stamps nonce best counts) = none
+preparedFor (Prepareds timestamp counts) = some (number timestamp)
+preparedFor (Writtens timestamp counts) = some (number timestamp)
+preparedFor (Cards nonce best counts showed) = none
+preparedFor (WriteBack timestamp counts) = none
+
+abbrev pub isPrepare : Answer → Bool
+isPrepare (send (READ-STAMP id nonce)) = false
+isPrepare (send (PREPARE id timestamp digest proof last)) = true
+isPrepare (send (WRITE id card proof)) = false
+isPrepare (send (READ id nonce)) = false
+isPrepare (send (STAMP id nonce proof addressed)) = false
+isPrepare (send (PREPARED id timestamp digest)) = false
+isPrepare (send (WRITTEN id timestamp)) = false
+isPrepare (send (CARD id nonce card proof addressed)) = false
+isPrepare counted = false
+isPrepare (done timestamp card) = false
+isPrepare ended = false
+
+-- Whether an answer ends an operation.
+abbrev pub isOver : Answer → Bool
+isOver (send message) = false
+isOver counted = false
+isOver (done timestamp card) = true
+isOver ended = true
+
+pub data Stage (before : Client) (turn : Turn) : Type 0 where
+  stamping : isStamping (before .phase) ≡ true → preparedFor (before .phase) ≡ none → currentCard (turn .next) ≡ currentCard before → turn .answer ≡ counted → Stage before turn
+  prepares : (timestamp : ℕ) (shown : Option PreparedProof) (last : Option WrittenProof) → isStamping (before .phase) ≡ true → preparedFor (before .phase) ≡ none
+      → isStamping (turn .next .phase) ≡ false → preparedFor (turn .next .phase) ≡ some timestamp → turn .answer ≡ send (PREPARE (before .id) timestamp (sha256 (currentCard before)) shown last) → Stage before turn
+  keeps : (timestamp : ℕ) → preparedFor (before .phase) ≡ some timestamp → preparedFor (turn .next .phase) ≡ some timestamp → isStamping (turn .next .phase) ≡ false
+      → isPrepare (turn .answer) ≡ false → isOver (turn .answer) ≡ false → Stage before turn
+  finishes : (timestamp : Timestamp) (card : List ℕ) → preparedFor (before .phase) ≡ some (number timestamp) → isStamping (turn .next .phase) ≡ false
+      → turn .answer ≡ done timestamp card → Stage before turn
+  others : preparedFor (before .phase) ≡ none → isStamping (turn .next .phase) ≡ false → isPrepare (turn .answer) ≡ false → Stage before turn
+
+module _ (before : Client) (turn : Turn) where
+  -- A write that has its timestamp keeps it; what is of no such write does not matter here.
+  kept : (was next : Phase) (answer : Answer) (timestamp : ℕ) → before .phase ≡ was → preparedFor was ≡ some timestamp → preparedFor next ≡ some timestamp → isStamping next ≡ false
+      → isPrepare answer ≡ false → isOver answer ≡ false → Leaves turn answer next → Stage before turn
+  kept was next answer timestamp at e₁ e₂ e₃ e₄ e₅ l =
+      keeps timestamp (ap preparedFor at ∙ e₁) (ap preparedFor (l .phase-is) ∙ e₂) (ap isStamping (l .phase-is) ∙ e₃) (ap isPrepare (l .answer-is) ∙ e₄) (ap isOver (l .answer-is) ∙ e₅)
+
+  other : (was next : Phase) (answer : Answer) → before .phase ≡ was → preparedFor was ≡ none → isStamping next ≡ false → isPrepare answer ≡ false → Leaves turn answer next → Stage before turn
+  other was next answer at e₁ e₂ e₃ l = others (ap preparedFor at ∙ e₁) (ap isStamping (l .phase-is) ∙ e₂) (ap isPrepare (l .answer-is) ∙ e₃)
+
+  pub stage : (message : Message) → ClientCase before message turn → Stage before turn
+  stage message (stamp-counted sender nonce proof best counts m at new card l) = stamping (ap isStamping at) (ap preparedFor at) card (l .answer-is)
+  stage message (stamps-enough sender nonce proof best counts next shown last m at new q s c d t l) =
+      prepares (number next) shown last (ap isStamping at) (ap preparedFor at) (ap isStamping (l .phase-is)) (ap preparedFor (l .phase-is)) (l .answer-is)
+  stage message (stamps-ended sender nonce proof best counts m at l) = other _ _ _ at refl refl refl l
+  stage message (prepared-counted sender timestamp counts m at new c l) = kept _ _ _ (number timestamp) at refl refl refl refl refl l
+  stage message (prepareds-enough sender timestamp counts proof m at new q c t d l) = kept _ _ _ (number timestamp) at refl refl refl refl refl l
+  stage message (written-counted sender timestamp counts m at new c l) = kept _ _ _ (number timestamp) at refl refl refl refl refl l
+  stage message (writtens-enough sender timestamp counts m at new q l) = finishes timestamp (currentCard before) (ap preparedFor at) (ap isStamping (l .phase-is)) (l .answer-is)
+  stage message (card-counted sender nonce card proof best counts showed m at new s c l) = other _ _ _ at refl refl refl l
+  stage message (cards-agree sender nonce card proof best counts showed m at new s q a l) = other _ _ _ at refl refl refl l
+  stage message (cards-differ sender nonce card proof best counts showed shown m at new s q c l) = other _ _ _ at refl refl refl l
+  stage message (back-counted sender timestamp counts m at new c l) = other _ _ _ at refl refl refl l
+  stage message (back-enough sender timestamp counts m at new q l) = other _ _ _ at refl refl refl l
