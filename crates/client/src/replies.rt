@@ -9,6 +9,7 @@ use base::replica_set::ReplicaSet;
 use base::timestamp::Timestamp;
 use protocol::client::Client;
 use wire::card::CardCheck;
+use wire::layout::DIGEST;
 use wire::parts;
 ghost use mathlib.Core.Path.{_≡_};
 ghost use mathlib.Core.Bool.{_&&_};
@@ -154,7 +155,7 @@ pub(super) fn is_awaited_prepared<'a>(
     timestamp: Timestamp,
     asked: Timestamp,
     digest: &'a [u8],
-    kept: &'a [u8; 32],
+    kept: &'a [u8; DIGEST],
     counts: ReplicaSet,
     sender: ReplicaId,
 ) -> bool

@@ -24,6 +24,7 @@ use base::timestamp::Timestamp;
 use protocol::client::Client;
 use protocol::client::ClientAnswer;
 use protocol::client::Phase;
+use wire::layout::SIGNATURES_ROOM;
 ghost use mathlib.Core.Path.{_≡_};
 ghost use Prim.Native.Nat.{_≤_};
 ghost use lib.ListN.{length};
@@ -146,7 +147,7 @@ fn after_prepared(
     let waiting = Phase::Writtens(timestamp, ReplicaSet::empty());
     sent(
         encoded,
-        with_phase(with_signatures(client, [0; 1024]), waiting),
+        with_phase(with_signatures(client, [0; SIGNATURES_ROOM]), waiting),
     )
 }
 

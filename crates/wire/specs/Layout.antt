@@ -38,11 +38,15 @@ rules =
     ∷ fixed 1  -- 8: client (desk) addressed
     ∷ []
 
+-- The fields have bits 0 to 8.
+abbrev pub fieldBits : ℕ
+fieldBits = 9
+
 -- "Bit map (2 bytes)"
 abbrev pub mapIn : List ℕ → ℕ
 mapIn bytes = fromBytes (take 2 bytes)
 
--- Where the field of a bit starts, or would start if it were there; of bit 9, the signature: "fields lowest bit first".
+-- Where the field of a bit starts, or would start if it were there: "fields lowest bit first".
 unfoldable pub place : List ℕ → ℕ → ℕ
 place bytes zero = 2
 place bytes (suc b) = let at = place bytes b in at + cond (bit (mapIn bytes) b) (extent (getD rules b (fixed 0)) (drop at bytes)) 0
@@ -52,5 +56,8 @@ unfoldable pub field : List ℕ → ℕ → List ℕ
 field bytes b = let at = place bytes b in take (place bytes (suc b) - at) (drop at bytes)
 
 -- "then a 64-byte seal over all bytes before it": the signature.
+abbrev pub signaturePlace : List ℕ → ℕ
+signaturePlace bytes = place bytes fieldBits
+
 abbrev pub signature : List ℕ → List ℕ
-signature bytes = drop (place bytes 9) bytes
+signature bytes = drop (signaturePlace bytes) bytes

@@ -129,6 +129,8 @@ size (CARD replica nonce card proof client) = sizeWith (8 + 1 + length card + pr
 abbrev pub longest : ℕ
 longest = 1_579
 
+-- "every legal message": the kind's fields, each within its width, and no longer than the longest. What 6 and 9 to 14 ask besides is
+-- a party's to ask: a message that they refuse has its one byte form too.
 pub record Legal (message : Message) : Type 0 where
   pub fits : Fits message
   pub short : size message ≤ longest

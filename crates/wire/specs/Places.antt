@@ -4,7 +4,7 @@ use mathlib.Core.List.{List}
 use Prim.Native.Nat.{ℕ, _+_, _-_, _≤_, _<_}
 use lib.ListN.{length, take, drop}
 use Rattle.base.specs.Outcome.{Outcome, accepted, refused}
-use Rattle.wire.specs.Layout.{mapIn, place}
+use Rattle.wire.specs.Layout.{mapIn, place, signaturePlace}
 use Rattle.wire.specs.declared.frame.Framing.{Framing}
 use Rattle.wire.specs.declared.frame.Framing.the-variants.{Whole, Refused}
 use Rattle.wire.specs.declared.frame.Places.{Places}
@@ -35,7 +35,7 @@ placesIn bytes =
       prepared = place bytes 6;
       written = place bytes 7;
       addressed = place bytes 8;
-      signature = place bytes 9;
+      signature = signaturePlace bytes;
     }
 
 -- What an answer of the code stands for.

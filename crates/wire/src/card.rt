@@ -1,4 +1,5 @@
 // Cards: the value of the register.
+use crate::layout::DIGEST;
 use base::refusal::BAD_CARD;
 ghost use mathlib.Core.Path.{_≡_};
 ghost use mathlib.Core.Option.{none};
@@ -26,7 +27,7 @@ pub struct CardRead {
 // A card's digest; 32 zero bytes where the card is refused.
 pub struct CardDigest {
     pub check: CardCheck,
-    pub bytes: [u8; 32],
+    pub bytes: [u8; DIGEST],
 }
 
 // A row of the card's table: how many bytes the field has, its least and its greatest value.
@@ -195,7 +196,7 @@ pub fn digest(card: &[u8]) -> CardDigest
     let CardCheck::Good = check(card) else {
         return CardDigest {
             check: CardCheck::Refused(BAD_CARD),
-            bytes: [0; 32],
+            bytes: [0; DIGEST],
         };
     };
     let bytes = crate::sha256::sha256(card).bytes;

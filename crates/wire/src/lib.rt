@@ -3,7 +3,7 @@ pub mod acceptance;
 pub mod arrays;
 pub mod card;
 pub mod card_part;
-pub mod checks;
+mod checks;
 mod frame;
 pub mod layout;
 pub mod message;

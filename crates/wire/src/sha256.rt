@@ -3,6 +3,7 @@ mod functions;
 mod padding;
 mod rounds;
 
+use crate::layout::DIGEST;
 ghost use mathlib.Core.Path.{_≡_};
 ghost use Prim.Native.Nat.{_/_, _%_, _^_, _≤_, _<_};
 ghost use lib.ListN.{length};
@@ -11,7 +12,7 @@ ghost use Rattle.wire.specs.Sha256.{longestMessage, padded, block, block
 // Where `fits` is false the message is too long [document 01: "too long"], and the bytes are zero.
 pub struct Digest {
     pub fits: bool,
-    pub bytes: [u8; 32],
+    pub bytes: [u8; DIGEST],
 }
 
 const LONGEST_MESSAGE: usize = 4096;
@@ -48,10 +49,10 @@ fn byte(x: u32, k: u32) -> u8
     ((x >> k) & 0xff) as u8
 }
 
-fn hash_bytes(hash: &[u32; 8]) -> [u8; 32]
+fn hash_bytes(hash: &[u32; 8]) -> [u8; DIGEST]
     ensures { λ r. ⌜ r ≡ hashBytes (now (hash .entry)) 8 ⌝ }
 {
-    let mut bytes = [0u8; 32];
+    let mut bytes = [0u8; DIGEST];
     let mut i: usize = 0;
     while i < 8 {
         let word = hash[i];
@@ -71,7 +72,7 @@ pub fn sha256(message: &[u8]) -> Digest
     if message.len() > LONGEST_MESSAGE {
         return Digest {
             fits: false,
-            bytes: [0u8; 32],
+            bytes: [0u8; DIGEST],
         };
     }
     let hash = hash_message(message);
@@ -83,7 +84,7 @@ pub fn sha256(message: &[u8]) -> Digest
 
 // The same for Rust and C, with the digest written to `out`; false if the message is too long.
 #[no_mangle]
-pub extern "C" fn wire_sha256(message: &[u8], out: &mut [u8; 32]) -> bool
+pub extern "C" fn wire_sha256(message: &[u8], out: &mut [u8; DIGEST]) -> bool
     ensures { λ r. ⌜ (r ≡ digestOf (now (message .entry)) .fits) × (now (out .exit) ≡ digestOf (now (message .entry)) .bytes) ⌝ }
 {
     let digest = sha256(message);

@@ -2,6 +2,9 @@
 mod fields;
 mod proof;
 
+use crate::layout::CARD_ROOM;
+use crate::layout::DIGEST;
+use crate::layout::ENTRIES_ROOM;
 use crate::layout::LONGEST_MESSAGE;
 use base::party::ClientId;
 use base::party::ReplicaId;
@@ -73,14 +76,14 @@ pub fn write_prepare<'a>(
     out: &mut [u8],
     client: ClientId,
     timestamp: Timestamp,
-    digest: &'a [u8; 32],
+    digest: &'a [u8; DIGEST],
     proof_timestamp: Timestamp,
-    proof_digest: &'a [u8; 32],
+    proof_digest: &'a [u8; DIGEST],
     proof_count: u8,
-    proof_entries: &'a [u8; 715],
+    proof_entries: &'a [u8; ENTRIES_ROOM],
     last_timestamp: Timestamp,
     last_count: u8,
-    last_entries: &'a [u8; 715],
+    last_entries: &'a [u8; ENTRIES_ROOM],
 ) -> Encoded
     ensures { λ r. ⌜ Wrote (now (out .entry))
         (unsigned (PREPARE client (number timestamp) (now (digest .entry))
@@ -111,12 +114,12 @@ pub fn write_prepare<'a>(
 pub fn write_write<'a>(
     out: &mut [u8],
     client: ClientId,
-    card: &'a [u8; 17],
+    card: &'a [u8; CARD_ROOM],
     card_length: u8,
     timestamp: Timestamp,
-    digest: &'a [u8; 32],
+    digest: &'a [u8; DIGEST],
     entry_count: u8,
-    entries: &'a [u8; 715],
+    entries: &'a [u8; ENTRIES_ROOM],
 ) -> Encoded
     ensures { λ r. ⌜ Wrote (now (out .entry))
         (unsigned (WRITE client (keptCard «card_length» (now (card .entry)))
@@ -137,9 +140,9 @@ pub fn write_stamp<'a>(
     replica: ReplicaId,
     nonce: u64,
     timestamp: Timestamp,
-    digest: &'a [u8; 32],
+    digest: &'a [u8; DIGEST],
     entry_count: u8,
-    entries: &'a [u8; 715],
+    entries: &'a [u8; ENTRIES_ROOM],
     client: ClientId,
 ) -> Encoded
     ensures { λ r. ⌜ Wrote (now (out .entry))
@@ -162,7 +165,7 @@ pub fn write_prepared(
     out: &mut [u8],
     replica: ReplicaId,
     timestamp: Timestamp,
-    digest: &[u8; 32],
+    digest: &[u8; DIGEST],
 ) -> Encoded
     ensures { λ r. ⌜ Wrote (now (out .entry)) (unsigned (PREPARED replica (number timestamp) (now (digest .entry)))) r (now (out .exit)) ⌝ }
 {
@@ -189,12 +192,12 @@ pub fn write_card<'a>(
     out: &mut [u8],
     replica: ReplicaId,
     nonce: u64,
-    card: &'a [u8; 17],
+    card: &'a [u8; CARD_ROOM],
     card_length: u8,
     timestamp: Timestamp,
-    digest: &'a [u8; 32],
+    digest: &'a [u8; DIGEST],
     entry_count: u8,
-    entries: &'a [u8; 715],
+    entries: &'a [u8; ENTRIES_ROOM],
     client: ClientId,
 ) -> Encoded
     ensures { λ r. ⌜ Wrote (now (out .entry))

@@ -1,22 +1,10 @@
 // The words of a padded message (FIPS 180-4, sections 5.1.1 and 5.2.1), made one by one: the padded message stands nowhere.
-ghost use mathlib.Core.List.{[], _∷_};
+use base::big_endian::from_four;
 ghost use mathlib.Core.Path.{_≡_};
 ghost use Prim.Native.Nat.{_+_, _-_, _*_, _/_, _%_, _≤_, _<_, min};
 ghost use lib.ListN.{length, take, drop};
 ghost use Rattle.base.specs.BigEndian.{fromBytes};
 ghost use Rattle.wire.specs.Sha256.{longestMessage, padded, block, blockCount, words};
-
-fn wide(x: u8) -> u32
-    ensures { λ r. ⌜ r ≡ x ⌝ }
-{
-    x as u32
-}
-
-fn word(a: u8, b: u8, c: u8, d: u8) -> u32
-    ensures { λ r. ⌜ r ≡ fromBytes (a ∷ b ∷ c ∷ d ∷ []) ⌝ }
-{
-    wide(a) * 0x100_0000 + wide(b) * 0x1_0000 + wide(c) * 0x100 + wide(d)
-}
 
 // How many words of the block that starts at `start` are the message's alone.
 fn full_words(length: usize, start: usize) -> usize
@@ -42,15 +30,15 @@ fn padding_word(message: &[u8], at: usize, total: usize) -> u32
         return (8 * n) as u32;
     }
     if n < at + 1 {
-        return word(0x80, 0, 0, 0);
+        return from_four(0x80, 0, 0, 0);
     }
     if n < at + 2 {
-        return word(message[at], 0x80, 0, 0);
+        return from_four(message[at], 0x80, 0, 0);
     }
     if n < at + 3 {
-        return word(message[at], message[at + 1], 0x80, 0);
+        return from_four(message[at], message[at + 1], 0x80, 0);
     }
-    word(message[at], message[at + 1], message[at + 2], 0x80)
+    from_four(message[at], message[at + 1], message[at + 2], 0x80)
 }
 
 // The first words of block i, which the message fills.
@@ -61,7 +49,7 @@ fn load_message(message: &[u8], i: usize, full: usize, w: &mut [u32; 64])
     let mut j: usize = 0;
     while j < full {
         let at = 64 * i + 4 * j;
-        w[j] = word(
+        w[j] = from_four(
             message[at],
             message[at + 1],
             message[at + 2],

@@ -4,6 +4,8 @@ use super::fields::put_byte;
 use super::fields::put_bytes;
 use super::fields::put_timestamp;
 use super::fields::put_timestamp_and_digest;
+use crate::layout::DIGEST;
+use crate::layout::ENTRIES_ROOM;
 use crate::layout::ENTRY;
 use crate::layout::MOST_ENTRIES;
 use base::timestamp::Timestamp;
@@ -15,7 +17,7 @@ ghost use Rattle.wire.specs.Proof.{countedEntries, preparedBytes, writte
 ghost use Rattle.wire.specs.Writing.{Put, keptEntries, keptPrepared, keptWritten, missing, bytesUnless};
 
 // The number of entries, and the entries.
-fn put_entries(out: &mut [u8], at: usize, entry_count: u8, entries: &[u8; 715]) -> usize
+fn put_entries(out: &mut [u8], at: usize, entry_count: u8, entries: &[u8; ENTRIES_ROOM]) -> usize
     requires { ⌜ at + 716 ≤ length (now out) ⌝ }
     ensures { λ r. ⌜ Put (now (out .entry)) at (countedEntries (keptEntries «entry_count» (now (entries .entry)))) 716 r (now (out .exit)) ⌝ }
 {
@@ -28,9 +30,9 @@ pub(super) fn put_prepared<'a>(
     out: &mut [u8],
     at: usize,
     timestamp: Timestamp,
-    digest: &'a [u8; 32],
+    digest: &'a [u8; DIGEST],
     entry_count: u8,
-    entries: &'a [u8; 715],
+    entries: &'a [u8; ENTRIES_ROOM],
 ) -> usize
     requires { ⌜ at + 753 ≤ length (now out) ⌝ }
     ensures { λ r. ⌜ Put (now (out .entry)) at (preparedBytes (keptPrepared timestamp (now (digest .entry)) «entry_count» (now (entries .entry)))) 753 r (now (out .exit)) ⌝ }
@@ -44,7 +46,7 @@ fn put_written(
     at: usize,
     timestamp: Timestamp,
     entry_count: u8,
-    entries: &[u8; 715],
+    entries: &[u8; ENTRIES_ROOM],
 ) -> usize
     requires { ⌜ at + 721 ≤ length (now out) ⌝ }
     ensures { λ r. ⌜ Put (now (out .entry)) at (writtenBytes (keptWritten timestamp «entry_count» (now (entries .entry)))) 721 r (now (out .exit)) ⌝ }
@@ -70,9 +72,9 @@ pub(super) fn put_prepared_unless_missing<'a>(
     out: &mut [u8],
     at: usize,
     timestamp: Timestamp,
-    digest: &'a [u8; 32],
+    digest: &'a [u8; DIGEST],
     entry_count: u8,
-    entries: &'a [u8; 715],
+    entries: &'a [u8; ENTRIES_ROOM],
 ) -> usize
     requires { ⌜ at + 753 ≤ length (now out) ⌝ }
     ensures { λ r. ⌜ Put (now (out .entry)) at (bytesUnless (missing timestamp) (preparedBytes (keptPrepared timestamp (now (digest .entry)) «entry_count» (now (entries .entry))))) 753 r (now (out .exit)) ⌝ }
@@ -88,7 +90,7 @@ pub(super) fn put_written_unless_missing(
     at: usize,
     timestamp: Timestamp,
     entry_count: u8,
-    entries: &[u8; 715],
+    entries: &[u8; ENTRIES_ROOM],
 ) -> usize
     requires { ⌜ at + 721 ≤ length (now out) ⌝ }
     ensures { λ r. ⌜ Put (now (out .entry)) at (bytesUnless (missing timestamp) (writtenBytes (keptWritten timestamp «entry_count» (now (entries .entry))))) 721 r (now (out .exit)) ⌝ }
