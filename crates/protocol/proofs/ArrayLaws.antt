@@ -5,7 +5,7 @@ use mathlib.Core.List.{List, [], _∷_, _++_, append-assoc}
 use mathlib.Core.Option.{none, some}
 use Prim.Native.Nat.{ℕ, zero, suc, _+_, _-_, _*_, _≤_, _<_, min}
 use native.Mathlib.Omega.{arith}
-use borrow.Author.Tests.{eqb-true, eq-eqb, ne-eqb}
+use borrow.Author.Tests.{eqb-true}
 use lib.Dec.{eqb}
 use lib.ListN.{length, take, drop, replicate, length-append, length-take, length-drop, length-replicate}
 use lib.Seq.{length-take-le, take-append-le, drop-append-le, take-append-add, drop-append-add, take-append-seam, take-at, drop-at, take-take, drop-drop}
@@ -161,12 +161,6 @@ module _ (from to : ℕ) (block table : List ℕ) (fills : from + length block �
 -- ---- Proofs that are there if their timestamp is issued
 
 module _ {A : Type 0} (timestamp : ℕ) (proof : A) where
-  pub not-issued : timestamp ≡ 0 → ifIssued timestamp proof ≡ none
-  not-issued e = rw (eq-eqb timestamp 0 e)
-
-  pub is-issued : (timestamp ≡ 0 → ⊥) → ifIssued timestamp proof ≡ some proof
-  is-issued h = rw (ne-eqb timestamp 0 h)
-
   pub issued-there : (P : A → Type 0) → P proof → IfThere P (ifIssued timestamp proof)
   issued-there P h = go (eqb timestamp 0)
     where

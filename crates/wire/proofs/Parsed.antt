@@ -59,11 +59,6 @@ module _ (bytes : List ℕ) (f : Framed bytes) where
       go true set = rw (accepts-written (field bytes 7) (written-whole set))
       go false set = refl
 
--- The digest where it stands.
-pub digest-part : (bytes : List ℕ) → bit (mapIn bytes) 4 ≡ true → digestIn bytes ≡ take 32 (drop (place bytes 4) bytes)
-unfolding rules
-digest-part bytes set = field-part bytes 4 set
-
 -- The message of bytes that the table lets through.
 abbrev pub messageOf : {map kind : ℕ} {party : Party} → Taken map kind party → List ℕ → Message
 messageOf (read-stamp e) bytes = READ-STAMP (clientIn bytes) (nonceIn bytes)
