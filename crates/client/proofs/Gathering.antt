@@ -14,7 +14,7 @@ use Rattle.base.specs.declared.replica_set.ReplicaSet.{ReplicaSet}
 use Rattle.wire.specs.Proof.{Entry, entriesBytes, readEntries}
 use Rattle.protocol.specs.Client.{gathered, signatureAt}
 use Rattle.base.specs.Bytes.{filled}
-use Rattle.protocol.specs.Parts.{entriesIn}
+use Rattle.protocol.specs.Parts.{entriesKept}
 use Rattle.client.specs.Arrays.{Added, Keeps}
 use Rattle.base.proofs.Filling.{zeros, filled-zeros, filled-more}
 
@@ -61,7 +61,7 @@ added width count entries one old sized signed many room was =
     rw (behind, here, was) (filled-more width (entriesBytes entries) block (omega arith) ∙ ap (filled width) (sym (bytes-append entries (one ∷ []) ∙ ap (λ (l : List ℕ). entriesBytes entries ++ l) last)))
 
 -- Entries kept in an array, as a writer takes them.
-pub kept : (entries : List Entry) (count : ℕ) (array : List ℕ) → Sized entries → length entries ≤ 11 → Keeps entries count array → entriesIn array count ≡ entries
+pub kept : (entries : List Entry) (count : ℕ) (array : List ℕ) → Sized entries → length entries ≤ 11 → Keeps entries count array → entriesKept array count ≡ entries
 kept entries count array sized few k =
     let all : min (length entries) 11 ≡ length entries = omega arith in
     let bytes = sized-bytes entries sized in

@@ -25,7 +25,7 @@ use Rattle.wire.specs.Message.{Message, PREPARE, WRITE, STAMP, PREPARED, WRITTE
 use Rattle.wire.specs.Proof.{PreparedProof}
 use Rattle.wire.specs.Sha256.{sha256}
 use Rattle.protocol.specs.Client.{done, Turn, currentCard, bestProof, lastWritten, built, withSignature, withSignatures, withDigest, withLastWritten, enough, isNew, bestOf, showedBy, toPrepare, afterStamp, onStamp, afterPrepared, onPrepared, afterWritten, afterWriteBack, onWritten, afterCard, onCard}
-use Rattle.protocol.specs.Parts.{startCard, entriesIn, ifIssued, cardStands}
+use Rattle.protocol.specs.Parts.{startCard, entriesKept, ifIssued, cardStands}
 use Rattle.protocol.specs.declared.client.Client.{Client}
 use Rattle.protocol.specs.declared.client.Phase.{Phase}
 use Rattle.protocol.specs.declared.client.Phase.the-variants.{Idle, Stamps, Prepareds, Writtens, Cards, WriteBack}
@@ -49,7 +49,7 @@ module _ (client : Client) (fits : ClientFits client) where
   last-short : writtenSize (lastWritten client) ≤ 721
   last-short = go (eqb (number (client .written)) 0)
     where
-      go : (b : Bool) → writtenSize (cond b none (some (record { timestamp = number (client .written); entries = entriesIn (client .«written_entries») (client .«written_count») }))) ≤ 721
+      go : (b : Bool) → writtenSize (cond b none (some (record { timestamp = number (client .written); entries = entriesKept (client .«written_entries») (client .«written_count») }))) ≤ 721
       go true = omega arith
       go false = omega (arith, entries-in-length (client .«written_entries») (client .«written_count»))
 

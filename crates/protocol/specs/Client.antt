@@ -24,7 +24,7 @@ use Rattle.wire.specs.Proof.{Entry, PreparedProof, WrittenProof, entriesBytes}
 use Rattle.wire.specs.Sha256.{sha256}
 use Rattle.wire.specs.Writing.{unsigned, inFront}
 use Rattle.wire.specs.declared.message.Party.the-variants.{Client as AtClient}
-use Rattle.protocol.specs.Parts.{startCard, cardIn, entriesIn, ifIssued, cardStands}
+use Rattle.protocol.specs.Parts.{startCard, cardKept, entriesKept, ifIssued, cardStands}
 use Rattle.protocol.specs.Replica.{withOutput}
 use Rattle.protocol.specs.declared.client.Client.{Client}
 use Rattle.protocol.specs.declared.client.ClientAnswer.{ClientAnswer}
@@ -36,16 +36,16 @@ use Rattle.wire.specs.Parts.{preparedTimestamp}
 -- ---- What a client's record holds
 
 abbrev pub currentCard : Client → List ℕ
-currentCard client = cardIn (client .card) (client .«card_length»)
+currentCard client = cardKept (client .card) (client .«card_length»)
 
 -- The prepared proof of the best reply, whose timestamp the phase has.
 abbrev pub bestProof : Client → Timestamp → PreparedProof
-bestProof client best = record { timestamp = number best; digest = client .digest; entries = entriesIn (client .entries) (client .«entry_count») }
+bestProof client best = record { timestamp = number best; digest = client .digest; entries = entriesKept (client .entries) (client .«entry_count») }
 
 -- "the desk's last written proof, if any"
 abbrev pub lastWritten : Client → Option WrittenProof
 lastWritten client =
-    ifIssued (number (client .written)) (record { timestamp = number (client .written); entries = entriesIn (client .«written_entries») (client .«written_count») })
+    ifIssued (number (client .written)) (record { timestamp = number (client .written); entries = entriesKept (client .«written_entries») (client .«written_count») })
 
 abbrev pub signatureAt : List ℕ → ReplicaId → List ℕ
 signatureAt signatures id = take 64 (drop (64 * (id .0 - 1)) signatures)
@@ -90,12 +90,12 @@ freshClient f id firstNonce = idleClient f id (firstNonce - 1)
 abbrev pub noClient : Client
 noClient = idleClient 0 (record { 0 = 0 }) 0
 
-abbrev pub ifSetUp : Outcome (Unit {0}) → Client → Client
-ifSetUp (accepted ready) client = client
-ifSetUp (refused number) client = noClient
+abbrev pub clientIfSetUp : Outcome (Unit {0}) → Client → Client
+clientIfSetUp (accepted ready) client = client
+clientIfSetUp (refused number) client = noClient
 
 abbrev pub madeClient : ℕ → ClientId → ℕ → Client
-madeClient f id firstNonce = ifSetUp (clientSetup f id firstNonce) (freshClient f id firstNonce)
+madeClient f id firstNonce = clientIfSetUp (clientSetup f id firstNonce) (freshClient f id firstNonce)
 
 -- ---- Changes of a record
 

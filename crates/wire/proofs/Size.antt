@@ -10,16 +10,16 @@ use Rattle.base.specs.Outcome.{accepted, guard}
 use Rattle.base.specs.Range.{within}
 use Rattle.base.specs.Rising.{rising}
 use Rattle.wire.specs.Checks.{preparedOf, writtenOf, entriesOf, all, oneEach, shaped, proven, checked}
-use Rattle.wire.specs.Layout.{fixed, counted, preparedRule, writtenRule, rules}
-use Rattle.wire.specs.Message.{Message, READ-STAMP, PREPARE, WRITE, READ, STAMP, PREPARED, WRITTEN, CARD, number, sized, preparedField, writtenField, fields, joined, body, encode, IsSignature, PreparedFits, WrittenFits, IfThere, Fits, preparedSize, writtenSize, EachFits, Legal, size, longest}
+use Rattle.wire.specs.Layout.{fixed, repeated, preparedRule, writtenRule, rules}
+use Rattle.wire.specs.Message.{Message, READ-STAMP, PREPARE, WRITE, READ, STAMP, PREPARED, WRITTEN, CARD, numberField, sized, preparedField, writtenField, fields, joined, body, encode, IsSignature, PreparedFits, WrittenFits, IfThere, Fits, preparedSize, writtenSize, EachFits, Legal, size, longest}
 use Rattle.wire.specs.Proof.{Entry, PreparedProof, WrittenProof}
 use Rattle.wire.proofs.Places.{content, Obeys, AllObey}
 use Rattle.wire.proofs.ProofBytes.{length-prepared, length-written, prepared-obeys, written-obeys}
 
-number-obeys : (width n : ℕ) → Obeys (fixed width) (number width n)
+number-obeys : (width n : ℕ) → Obeys (fixed width) (numberField width n)
 number-obeys width n rest = sym (length-toBytes width n)
 
-sized-obeys : (card : List ℕ) → Obeys (counted 1 1) (sized card)
+sized-obeys : (card : List ℕ) → Obeys (repeated 1 1) (sized card)
 sized-obeys card rest = omega arith
 
 preparedField-obeys : (proof : Option PreparedProof) → IfThere PreparedFits proof → Obeys preparedRule (preparedField proof)

@@ -9,20 +9,20 @@ use Rattle.base.specs.BitMap.{bit}
 -- How long a field is: so many bytes; or a head, whose last byte says how many units of so many bytes follow it.
 pub data Rule : Type 0 where
   fixed : ℕ → Rule
-  counted : ℕ → ℕ → Rule
+  repeated : ℕ → ℕ → Rule
 
 -- The bytes of a field that starts at the front of these bytes.
 abbrev pub extent : Rule → List ℕ → ℕ
 extent (fixed width) bytes = width
-extent (counted head unit) bytes = head + unit * getD bytes (head - 1) 0
+extent (repeated head unit) bytes = head + unit * getD bytes (head - 1) 0
 
 -- A prepared proof: timestamp (5), digest (32), number of entries (1), and entries of 65 bytes.
 abbrev pub preparedRule : Rule
-preparedRule = counted 38 65
+preparedRule = repeated 38 65
 
 -- A written proof: "the same without the digest".
 abbrev pub writtenRule : Rule
-writtenRule = counted 6 65
+writtenRule = repeated 6 65
 
 -- The fields by bit.
 unfoldable pub rules : List Rule
@@ -32,7 +32,7 @@ rules =
     ∷ fixed 8  -- 2: nonce
     ∷ fixed 5  -- 3: timestamp (stamp)
     ∷ fixed 32  -- 4: digest
-    ∷ counted 1 1  -- 5: card (length byte, card)
+    ∷ repeated 1 1  -- 5: card (length byte, card)
     ∷ preparedRule  -- 6: prepared proof
     ∷ writtenRule  -- 7: written proof
     ∷ fixed 1  -- 8: client (desk) addressed

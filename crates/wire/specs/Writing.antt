@@ -17,15 +17,15 @@ use Rattle.wire.specs.declared.writer.Encoded.{Encoded}
 use Rattle.wire.specs.declared.writer.Encoded.the-variants.{Length, Refused}
 
 -- "A party sends its own seal as zeros for the box to fill."
-unfoldable pub zeros : List ℕ
-zeros = replicate 64 0
+unfoldable pub blankSignature : List ℕ
+blankSignature = replicate 64 0
 
 abbrev pub unsigned : Message → List ℕ
-unsigned message = encode message zeros
+unsigned message = encode message blankSignature
 
 -- A READ-STAMP or READ, by its kind.
 unfoldable pub question : ℕ → ClientId → ℕ → List ℕ
-question kind client nonce = toBytes 2 7 ++ (toBytes 1 kind ++ (toBytes 1 (client .0) ++ toBytes 8 nonce)) ++ zeros
+question kind client nonce = toBytes 2 7 ++ (toBytes 1 kind ++ (toBytes 1 (client .0) ++ toBytes 8 nonce)) ++ blankSignature
 
 -- What an answer of the code stands for: the message's length.
 abbrev pub encodedOutcome : Encoded → Outcome ℕ

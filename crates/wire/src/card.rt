@@ -6,7 +6,7 @@ ghost use mathlib.Core.Option.{none};
 ghost use Prim.Native.Nat.{_+_, _≤_, _<_};
 ghost use lib.ListN.{length, getD, drop};
 ghost use Rattle.base.specs.BigEndian.{fromBytes};
-ghost use Rattle.wire.specs.Card.{row, table, standing, readFields, goodMap, checkCard, cardOutcome, fieldOf, readAnswer, cardRead, cardDigest};
+ghost use Rattle.wire.specs.Card.{row, table, standing, readFields, goodCardMap, checkCard, cardOutcome, fieldOf, readAnswer, cardRead, cardDigest};
 
 pub enum CardCheck {
     Good,
@@ -127,7 +127,7 @@ fn refused() -> CardRead
 
 // The map says which fields follow: bits 7 to 15 are 0, and both diameters are present or none.
 fn good_map(map: u32) -> bool
-    ensures { λ r. ⌜ r ≡ goodMap map ⌝ }
+    ensures { λ r. ⌜ r ≡ goodCardMap map ⌝ }
 {
     if map >= 128 {
         return false;

@@ -15,7 +15,7 @@ ghost use Prim.Native.Nat.{suc, _+_, _*_, _≤_, _<_};
 ghost use lib.Dec.{eqb};
 ghost use lib.ListN.{length, drop};
 ghost use Rattle.base.specs.Outcome.{accepted, guard};
-ghost use Rattle.wire.specs.Layout.{counted, extent, fieldBits, mapIn, place, signaturePlace};
+ghost use Rattle.wire.specs.Layout.{repeated, extent, fieldBits, mapIn, place, signaturePlace};
 ghost use Rattle.wire.specs.Decode.{framed};
 ghost use Rattle.wire.specs.Places.{Takes, Fronted, placesIn, frameOutcome};
 
@@ -60,9 +60,9 @@ fn take_fixed(bytes: &[u8], width: usize, at: usize) -> Taken
 }
 
 // A field whose head ends with the number of units that follow it.
-fn take_counted(bytes: &[u8], head: usize, unit: usize, at: usize) -> Taken
+fn take_repeated(bytes: &[u8], head: usize, unit: usize, at: usize) -> Taken
     requires { ⌜ (at ≤ length (now bytes)) × (1 ≤ head) × (unit ≤ 65) ⌝ }
-    ensures { λ r. ⌜ Takes (now (bytes .entry)) (at + extent (counted head unit) (drop at (now (bytes .entry)))) r ⌝ }
+    ensures { λ r. ⌜ Takes (now (bytes .entry)) (at + extent (repeated head unit) (drop at (now (bytes .entry)))) r ⌝ }
 {
     let Taken::Next(end) = take_fixed(bytes, head, at) else {
         return Taken::Cut;
@@ -83,9 +83,9 @@ fn take_field(bytes: &[u8], map: u16, bit: usize, at: usize) -> Taken
         2 => take_fixed(bytes, 8, at),
         3 => take_fixed(bytes, TIMESTAMP, at),
         4 => take_fixed(bytes, DIGEST, at),
-        5 => take_counted(bytes, 1, 1, at),
-        6 => take_counted(bytes, PREPARED_HEAD, ENTRY, at),
-        7 => take_counted(bytes, WRITTEN_HEAD, ENTRY, at),
+        5 => take_repeated(bytes, 1, 1, at),
+        6 => take_repeated(bytes, PREPARED_HEAD, ENTRY, at),
+        7 => take_repeated(bytes, WRITTEN_HEAD, ENTRY, at),
         _ => take_fixed(bytes, 1, at),
     }
 }

@@ -4,7 +4,7 @@ ghost use mathlib.Core.Path.{_≡_};
 ghost use Prim.Native.Nat.{_+_, _-_, _*_, _/_, _%_, _≤_, _<_, min};
 ghost use lib.ListN.{length, take, drop};
 ghost use Rattle.base.specs.BigEndian.{fromBytes};
-ghost use Rattle.wire.specs.Sha256.{longestMessage, padded, block, blockCount, words};
+ghost use Rattle.wire.specs.Sha256.{longestInput, padded, block, blockCount, words};
 
 // How many words of the block that starts at `start` are the message's alone.
 fn full_words(length: usize, start: usize) -> usize
@@ -19,7 +19,7 @@ fn full_words(length: usize, start: usize) -> usize
 
 // The word that starts at `at` of the padded message, of `total` bytes, if the message does not fill it.
 fn padding_word(message: &[u8], at: usize, total: usize) -> u32
-    requires { ⌜ (length (now message) ≤ longestMessage) × (length (now message) < at + 4) × (at % 4 ≡ 0) × (at + 4 ≤ total) × (total ≡ 64 * blockCount (length (now message))) ⌝ }
+    requires { ⌜ (length (now message) ≤ longestInput) × (length (now message) < at + 4) × (at % 4 ≡ 0) × (at + 4 ≤ total) × (total ≡ 64 * blockCount (length (now message))) ⌝ }
     ensures { λ r. ⌜ r ≡ fromBytes (take 4 (drop at (padded (now (message .entry))))) ⌝ }
 {
     let n = message.len();
@@ -61,7 +61,7 @@ fn load_message(message: &[u8], i: usize, full: usize, w: &mut [u32; 64])
 
 // The other words of block i, of `blocks` blocks.
 fn load_padding(message: &[u8], i: usize, blocks: usize, full: usize, w: &mut [u32; 64])
-    requires { ⌜ (length (now message) ≤ longestMessage) × (i < blocks) × (blocks ≡ blockCount (length (now message))) × (full ≡ min 16 ((length (now message) - 64 * i) / 4)) × (length (now w) ≡ 64) × (take full (now w) ≡ words (block (padded (now message)) i) full) ⌝ }
+    requires { ⌜ (length (now message) ≤ longestInput) × (i < blocks) × (blocks ≡ blockCount (length (now message))) × (full ≡ min 16 ((length (now message) - 64 * i) / 4)) × (length (now w) ≡ 64) × (take full (now w) ≡ words (block (padded (now message)) i) full) ⌝ }
     ensures { λ _. ⌜ (length (now (w .exit)) ≡ 64) × (take 16 (now (w .exit)) ≡ words (block (padded (now (message .entry))) i) 16) ⌝ }
 {
     let mut j: usize = full;
@@ -73,7 +73,7 @@ fn load_padding(message: &[u8], i: usize, blocks: usize, full: usize, w: &mut [u
 
 // The 16 words of block i, of `blocks` blocks, at the front of w.
 pub(super) fn load(message: &[u8], i: usize, blocks: usize, w: &mut [u32; 64])
-    requires { ⌜ (length (now message) ≤ longestMessage) × (i < blocks) × (blocks ≡ blockCount (length (now message))) × (length (now w) ≡ 64) ⌝ }
+    requires { ⌜ (length (now message) ≤ longestInput) × (i < blocks) × (blocks ≡ blockCount (length (now message))) × (length (now w) ≡ 64) ⌝ }
     ensures { λ _. ⌜ (length (now (w .exit)) ≡ 64) × (take 16 (now (w .exit)) ≡ words (block (padded (now (message .entry))) i) 16) ⌝ }
 {
     let full = full_words(message.len(), 64 * i);

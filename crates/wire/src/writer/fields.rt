@@ -11,7 +11,7 @@ ghost use Prim.Native.Nat.{_+_, _≤_, _<_, min};
 ghost use lib.ListN.{length, take};
 ghost use Rattle.base.specs.BigEndian.{toBytes};
 ghost use Rattle.base.specs.Timestamp.{number};
-ghost use Rattle.wire.specs.Writing.{Put, zeros, sizedCard, keptCard};
+ghost use Rattle.wire.specs.Writing.{Put, blankSignature, sizedCard, keptCard};
 
 // The first `count` of some bytes.
 pub(super) fn put_bytes(out: &mut [u8], at: usize, bytes: &[u8], count: usize) -> usize
@@ -112,7 +112,7 @@ pub(super) fn put_timestamp_and_digest(
 // The sender's own signature: zeros, for the signing box to fill.
 pub(super) fn put_signature(out: &mut [u8], at: usize) -> usize
     requires { ⌜ at + 64 ≤ length (now out) ⌝ }
-    ensures { λ r. ⌜ Put (now (out .entry)) at zeros 64 r (now (out .exit)) ⌝ }
+    ensures { λ r. ⌜ Put (now (out .entry)) at blankSignature 64 r (now (out .exit)) ⌝ }
 {
     let signature = [0u8; SIGNATURE];
     put_bytes(out, at, &signature, SIGNATURE)
@@ -121,7 +121,7 @@ pub(super) fn put_signature(out: &mut [u8], at: usize) -> usize
 // The client addressed, and the signature behind it.
 pub(super) fn put_addressed(out: &mut [u8], at: usize, client: u8) -> usize
     requires { ⌜ at + 65 ≤ length (now out) ⌝ }
-    ensures { λ r. ⌜ Put (now (out .entry)) at (toBytes 1 client ++ zeros) 65 r (now (out .exit)) ⌝ }
+    ensures { λ r. ⌜ Put (now (out .entry)) at (toBytes 1 client ++ blankSignature) 65 r (now (out .exit)) ⌝ }
 {
     let behind = put_byte(out, at, client);
     put_signature(out, behind)

@@ -1,4 +1,4 @@
--- `wire::frame::take_counted` meets its contract. Assumes nothing.
+-- `wire::frame::take_repeated` meets its contract. Assumes nothing.
 use mathlib.Core.Path.{_≡_, sym}
 use Prim.Native.Nat.{_+_, _-_, _*_, _≤_}
 use native.Mathlib.Nat.{mul-le-mul}
@@ -7,8 +7,8 @@ use borrow.Author.Needs.{needs}
 use lib.ListN.{length, getD, drop}
 use lib.Seq.{getD-drop}
 use Rattle.wire.proofs.Reading.{taken, cut-short}
-use Rattle.wire.proofs.frame.take_counted.Statement.{statement}
-use Rattle.wire.proofs.frame.take_counted.Tie as tie
+use Rattle.wire.proofs.frame.take_repeated.Statement.{statement}
+use Rattle.wire.proofs.frame.take_repeated.Tie as tie
 
 ended : (c : tie.After-known-told) → (c .before .end .given .0 .0 ≡ c .before .before .before .before .before .args .at + c .before .before .before .before .before .args .head) × (c .before .before .before .before .before .args .at + c .before .before .before .before .before .args .head ≤ length (c .before .before .before .before .before .args .bytes .now))
 ended c = taken _ _ _ _ (c .before .before .before .take-fixed .ensures) (c .before .end .given .1)
@@ -43,8 +43,8 @@ returns-2 c =
     let same : a .at + (a .head + a .unit * getD (drop (a .at) s) (a .head - 1) 0) ≡ c .before .before .before .before .end .given .0 .0 + a .unit * c .before .wide .result = rw count (omega arith) in
     rw same (c .take-fixed2 .ensures)
 
-pub take-counted-spec : {M : Type 1} → statement M
-take-counted-spec =
+pub take-repeated-spec : {M : Type 1} → statement M
+take-repeated-spec =
     tie.close
     (tie.spec
     (λ c κs. search needs)
