@@ -19,7 +19,8 @@ use Rattle.protocol.specs.declared.client.Client.{Client}
 use Rattle.protocol.specs.declared.client.ClientAnswer.the-variants.{Refused}
 use Rattle.protocol.specs.declared.client.Phase.the-variants.{Stamps, Cards}
 use Rattle.protocol.proofs.Calls.{long-output, short-output}
-use Rattle.client.specs.Stepping.{callOf, Calls, plain}
+use Rattle.client.specs.Leaving.{callOf, plain}
+use Rattle.client.specs.Stepping.{Calls}
 use Rattle.client.specs.declared.Stepped.{Stepped}
 use Rattle.client.proofs.Answering.{plain-call}
 use Rattle.base.proofs.Filling.{filled-zeros}

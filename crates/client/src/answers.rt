@@ -14,7 +14,7 @@ ghost use mathlib.Core.Path.{_≡_};
 ghost use Prim.Native.Nat.{min};
 ghost use Rattle.wire.specs.Sha256.{sha256};
 ghost use Rattle.protocol.specs.Client.{currentCard, withPhase};
-ghost use Rattle.client.specs.Stepping.{plain, doneWith, sentAs};
+ghost use Rattle.client.specs.Leaving.{plain, doneWith, sentAs};
 
 // An answer with no card beside it.
 pub(super) fn plain(answer: ClientAnswer, client: Client) -> Stepped

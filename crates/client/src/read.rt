@@ -23,7 +23,7 @@ ghost use lib.ListN.{length};
 ghost use Rattle.wire.specs.Message.{longest, WRITE};
 ghost use Rattle.wire.specs.Parts.{preparedPart, WholeIfThere};
 ghost use Rattle.protocol.specs.Client.{clientAnswers, currentCard, bestProof, withPhase, turn, send, afterCard, onCard, afterWriteBack};
-ghost use Rattle.client.specs.Stepping.{callOf, Takes, TakesAny};
+ghost use Rattle.client.specs.Leaving.{callOf, Takes, TakesAny};
 
 // WRITE the best card with its proof; the replicas that showed it count.
 fn write_back(client: Client, best: Timestamp, showed: ReplicaSet, out: &mut [u8]) -> Stepped

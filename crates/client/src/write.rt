@@ -33,7 +33,7 @@ ghost use Rattle.base.specs.Timestamp.{number, successor};
 ghost use Rattle.wire.specs.Message.{longest};
 ghost use Rattle.wire.specs.Parts.{preparedPart, WholeIfThere};
 ghost use Rattle.protocol.specs.Client.{clientAnswers, toPrepare, afterStamp, onStamp, afterPrepared, onPrepared, afterWritten, withSignature, withSignatures};
-ghost use Rattle.client.specs.Stepping.{callOf, Takes, TakesAny};
+ghost use Rattle.client.specs.Leaving.{callOf, Takes, TakesAny};
 
 // PREPARE the successor of the largest timestamp. The last count has none: the write ends.
 fn to_prepare(client: Client, best: Timestamp, out: &mut [u8]) -> Stepped

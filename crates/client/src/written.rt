@@ -15,7 +15,7 @@ ghost use Prim.Native.Nat.{ℕ, _≤_};
 ghost use lib.ListN.{length};
 ghost use Rattle.base.specs.Timestamp.{number};
 ghost use Rattle.protocol.specs.Client.{clientAnswers, onWritten};
-ghost use Rattle.client.specs.Stepping.{callOf};
+ghost use Rattle.client.specs.Leaving.{callOf};
 
 pub(super) fn on_written(
     client: Client,
