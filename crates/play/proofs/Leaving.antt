@@ -16,7 +16,7 @@ use Rattle.client.specs.declared.Stepped.{Stepped as ClientStepped}
 use Rattle.replica.specs.Stepping.{Steps}
 use Rattle.replica.specs.declared.Stepped.{Stepped as ReplicaStepped}
 use Rattle.wire.specs.declared.message.Party.{Party}
-use Rattle.wire.specs.Accepting.{signaturesTo}
+use Rattle.wire.specs.Signatures.{signaturesTo}
 use Rattle.play.specs.Calls.{verdicts, sentBefore, free, messageAt, ClientLeaves, ReplicaLeaves}
 use Rattle.play.specs.Log.{start, message, Copied}
 use Rattle.play.specs.declared.log.Log.{Log}
@@ -55,7 +55,7 @@ replica-behind call call′ sent stepped new store same put e =
     }
 
 -- The verdicts, the card and the message that the code hands over are the definition's.
-pub ones : (l : List ℕ) (k : ℕ) (party : Party) (bytes : List ℕ) → _≡_ {A = List ℕ} l (take k (replicate 64 1)) → k ≡ signaturesTo party bytes → k ≤ 64 → l ≡ verdicts party bytes
+pub ones : (l : List ℕ) (k : ℕ) (party : Party) (bytes : List ℕ) → _≡_ {A = List ℕ} l (take k (replicate 64 1)) → k ≡ length (signaturesTo party bytes) → k ≤ 64 → l ≡ verdicts party bytes
 unfolding verdicts
 ones l k party bytes e same few = e ∙ (take-ones k 64 few ∙ ap (λ (n : ℕ). replicate n 1) same)
 

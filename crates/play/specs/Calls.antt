@@ -4,7 +4,7 @@ use mathlib.Core.List.{List, _++_}
 use Prim.Native.Nat.{ℕ, _-_}
 use lib.ListN.{length, take, drop, replicate}
 use Rattle.base.specs.Outcome.{Outcome, accepted, refused}
-use Rattle.wire.specs.Accepting.{signaturesTo}
+use Rattle.wire.specs.Signatures.{signaturesTo}
 use Rattle.wire.specs.Message.{longest}
 use Rattle.wire.specs.declared.message.Fields.{Fields}
 use Rattle.wire.specs.declared.message.Party.{Party}
@@ -23,7 +23,7 @@ use Rattle.play.specs.declared.log.Log.{Log}
 
 -- "all marks 1"
 unfoldable pub verdicts : Party → List ℕ → List ℕ
-verdicts party bytes = replicate (signaturesTo party bytes) 1
+verdicts party bytes = replicate (length (signaturesTo party bytes)) 1
 
 -- The store behind the messages sent is the output of the next call.
 unfoldable pub sentBefore : Log → List ℕ → List ℕ

@@ -22,7 +22,8 @@ use Rattle.wire.proofs.RoundTrip.{body-injective}
 use Rattle.wire.specs.declared.message.Party.the-variants.{Replica as AtReplica, Client as AtClient}
 use Rattle.protocol.specs.Client.{send}
 use Rattle.protocol.proofs.ClientCases.{LegalAnswer}
-use Rattle.run.specs.Premises.{Signature, signedBy, signaturesOf, TrueVerdicts, TrueFor, TrueAt, Premises}
+use Rattle.wire.specs.Signatures.{Signature, signedBy, signaturesOf}
+use Rattle.run.specs.Premises.{TrueVerdicts, TrueFor, TrueAt, Premises}
 use Rattle.wire.specs.Acceptance.{senderOf, Sender, replica, client}
 use Rattle.run.specs.Run.{to-replica, to-client, Run, clientAt, answerAt, At, Correct, Sent}
 use Rattle.run.proofs.Bodies.{covered}

@@ -30,7 +30,8 @@ use Rattle.protocol.specs.declared.replica.Slots.{Slots}
 use Rattle.wire.proofs.Passed.{Passed}
 use Rattle.protocol.proofs.ReplicaFacts.{clientOf, SlotRises, prepared-legal}
 use Rattle.run.specs.Claims.{Genuine, OneDigest}
-use Rattle.run.specs.Premises.{preparedSignatures, signaturesOf, TrueVerdicts, FewFaulty, Premises}
+use Rattle.wire.specs.Signatures.{preparedSignatures, signaturesOf}
+use Rattle.run.specs.Premises.{TrueVerdicts, FewFaulty, Premises}
 use Rattle.wire.specs.Acceptance.{replica}
 use Rattle.run.specs.Run.{Run, replicaAt, answerAt, At}
 use Rattle.run.proofs.Turns.{correct-replica-range, ReplicaTurn, rests, steps, replica-turn, ReplicaStep, replica-step, Heard}

@@ -14,7 +14,8 @@ use Rattle.base.specs.declared.timestamp.Timestamp.{Timestamp}
 use Rattle.protocol.specs.Client.{done, ended}
 use Rattle.wire.specs.Checks.{proofOutcome}
 use Rattle.wire.specs.Proof.{PreparedProof, readPrepared}
-use Rattle.run.specs.Premises.{preparedSignatures, TrueVerdicts, Accepted}
+use Rattle.wire.specs.Signatures.{preparedSignatures}
+use Rattle.run.specs.Premises.{TrueVerdicts, Accepted}
 use Rattle.wire.specs.Acceptance.{client}
 use Rattle.run.specs.Run.{Event, begins-write, begins-read, Run, event, answerAt, At}
 

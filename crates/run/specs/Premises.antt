@@ -1,49 +1,19 @@
 -- The premises of demand 3: few faulty replicas, true verdicts (marks), no two cards with one digest.
 use mathlib.Core.Path.{_≡_}
 use mathlib.Core.Bool.{not}
-use mathlib.Core.List.{List, [], _∷_, _++_}
+use mathlib.Core.List.{List, [], _∷_}
 use mathlib.Core.Option.{Option, none, some}
-use Prim.Native.Nat.{ℕ, _-_, _≤_}
-use lib.ListN.{length, take}
+use Prim.Native.Nat.{ℕ, _≤_}
 use Rattle.base.specs.Counting.{count}
 use Rattle.base.specs.Outcome.{Outcome, accepted, refused}
 use Rattle.base.specs.Party.{replicaCount}
-use Rattle.base.specs.declared.party.ReplicaId.{ReplicaId}
 use Rattle.protocol.specs.Client.{Answer}
-use Rattle.wire.specs.Checks.{preparedOf, writtenOf}
 use Rattle.wire.specs.Decode.{decode}
-use Rattle.wire.specs.Message.{Message, READ-STAMP, PREPARE, WRITE, READ, STAMP, PREPARED, WRITTEN, CARD, body}
-use Rattle.wire.specs.Proof.{Entry, PreparedProof, WrittenProof}
+use Rattle.wire.specs.Message.{Message, READ-STAMP, PREPARE, WRITE, READ, STAMP, PREPARED, WRITTEN, CARD}
 use Rattle.wire.specs.Sha256.{sha256}
+use Rattle.wire.specs.Signatures.{Signature, signaturesOf}
 use Rattle.wire.specs.declared.message.Party.the-variants.{Replica as AtReplica, Client as AtClient}
-use Rattle.wire.specs.Acceptance.{senderOf, Sender, replica}
 use Rattle.run.specs.Run.{Event, begins-write, begins-read, to-replica, to-client, Run, event, answerAt, Correct, Sent}
-
--- A signature (seal) that came: whose it is, and the bytes that it covers.
-pub record Signature : Type 0 where
-  pub signer : Sender
-  pub covers : List ℕ
-
--- "An entry's seal is that of the holder's PREPARED (or WRITTEN) message with this stamp (and digest)."
-abbrev pub signedBy : (ReplicaId → Message) → List Entry → List Signature
-signedBy message [] = []
-signedBy message (entry ∷ entries) = record { signer = replica (entry .signer); covers = body (message (entry .signer)) } ∷ signedBy message entries
-
-abbrev pub preparedSignatures : PreparedProof → List Signature
-preparedSignatures proof = signedBy (λ id. PREPARED id (proof .timestamp) (proof .digest)) (proof .entries)
-
-abbrev pub writtenSignatures : WrittenProof → List Signature
-writtenSignatures proof = signedBy (λ id. WRITTEN id (proof .timestamp)) (proof .entries)
-
-abbrev pub ifThere : {A : Type 0} → (A → List Signature) → Option A → List Signature
-ifThere signatures none = []
-ifThere signatures (some proof) = signatures proof
-
--- The signatures of a message: "the message's own first, then entries in order". Its own covers "all bytes before it".
-abbrev pub signaturesOf : List ℕ → Message → List Signature
-signaturesOf bytes message =
-    record { signer = senderOf message; covers = take (length bytes - 64) bytes }
-    ∷ (ifThere preparedSignatures (preparedOf message) ++ ifThere writtenSignatures (writtenOf message))
 
 module _ (R : Run) where
   -- "A mark is true when a seal of a rule-follower is marked 1 only if that party sent that message earlier."

@@ -197,18 +197,20 @@ module _ (bytes : List ℕ) (f : Framed bytes) where
           let nothing : verdicts ≡ [] = none-left verdicts (omega arith) in
           rw (eq-eqb (place bytes 7) (place bytes 8) (omega arith), nothing) (sym (written-missing n))
 
--- Test 7 by the places of the proofs.
-pub one-each : (party : Party) (bytes : List ℕ) (message : Message) (verdicts : List ℕ) → decode party bytes ≡ accepted message → Framed bytes
-    → oneEach message verdicts ≡ (eqb (length verdicts) (signatureCount bytes) && all (λ v. leb v 1) verdicts)
-unfolding oneEach entriesOf signatureCount fieldsIn
-one-each party bytes message verdicts e f =
+-- A message has as many signatures as its places say: its own and those of its entries.
+pub entries-counted : (party : Party) (bytes : List ℕ) (message : Message) → decode party bytes ≡ accepted message → Framed bytes → 1 + length (entriesOf message) ≡ signatureCount bytes
+unfolding entriesOf signatureCount fieldsIn
+entries-counted party bytes message e f =
     let s = seen party bytes message e in
     let first = prepared-count bytes f in
     let second = written-count bytes f in
-    let p = entriesIfThere (λ (proof : PreparedProof). proof .entries) (preparedAt bytes) in
-    let w = entriesIfThere (λ (proof : WrittenProof). proof .entries) (writtenAt bytes) in
-    let count : 1 + length (p ++ w) ≡ 1 + entryCount (spanOf bytes 6) 38 + entryCount (spanOf bytes 7) 6 = rw length-append (omega arith) in
-    rw (s .prepared, s .written, count)
+    rw (s .prepared, s .written, length-append) (omega arith)
+
+-- Test 7 by the places of the proofs.
+pub one-each : (party : Party) (bytes : List ℕ) (message : Message) (verdicts : List ℕ) → decode party bytes ≡ accepted message → Framed bytes
+    → oneEach message verdicts ≡ (eqb (length verdicts) (signatureCount bytes) && all (λ v. leb v 1) verdicts)
+unfolding oneEach
+one-each party bytes message verdicts e f = rw (entries-counted party bytes message e f)
 
 -- Tests 9 to 11 by the places of the proofs.
 good-again : (x : Outcome (Unit {0})) → (x >>= λ good. accepted tt) ≡ x

@@ -49,7 +49,7 @@ pub record ByParts (proof : List ℕ) : Type 0 where
   pub entries-length : length (entriesPart proof) ≡ 65 * countPart proof
 
 -- The timestamp in front of enough bytes.
-front-timestamp : (proof : List ℕ) → 5 ≤ length proof → timestampPart proof ≡ ofNumber (fromBytes (take 5 proof))
+pub front-timestamp : (proof : List ℕ) → 5 ≤ length proof → timestampPart proof ≡ ofNumber (fromBytes (take 5 proof))
 unfolding timestampPart
 front-timestamp proof long = rw (le-ltb (length proof) 5 long)
 
@@ -109,6 +109,30 @@ few-entries f proof h =
 
 -- ---- A message by its parts
 
+-- The proofs of a message that was read, where they stand.
+module _ (party : Party) (bytes : List ℕ) (fields : Fields) (found : Parsed party bytes fields) where
+  pub prepared-is : partAt bytes (fields .prepared) ≡ field bytes 6
+  unfolding fieldsIn field
+  prepared-is = rw (found .same)
+
+  pub written-is : partAt bytes (fields .written) ≡ field bytes 7
+  unfolding fieldsIn field
+  written-is = rw (found .same)
+
+  pub prepared-shown : preparedPart (partAt bytes (fields .prepared)) ≡ preparedAt bytes
+  prepared-shown = rw prepared-is (go (bit (mapIn bytes) 6) refl)
+    where
+      go : (b : Bool) → bit (mapIn bytes) 6 ≡ b → preparedPart (field bytes 6) ≡ cond b (some (preparedFrom (field bytes 6))) none
+      go true set = some-prepared (field bytes 6) (let whole = prepared-whole bytes (found .framed) set in omega arith)
+      go false clear = rw (field-absent bytes 6 clear)
+
+  pub written-shown : writtenPart (partAt bytes (fields .written)) ≡ writtenAt bytes
+  written-shown = rw written-is (go (bit (mapIn bytes) 7) refl)
+    where
+      go : (b : Bool) → bit (mapIn bytes) 7 ≡ b → writtenPart (field bytes 7) ≡ cond b (some (writtenFrom (field bytes 7))) none
+      go true set = some-written (field bytes 7) (let whole = written-whole bytes (found .framed) set in omega arith)
+      go false clear = rw (field-absent bytes 7 clear)
+
 -- The message that 2 to 11 let through.
 pub record Handed (party : Party) (f : ℕ) (bytes verdicts : List ℕ) (message : Message) : Type 0 where
   pub decodes : decode party bytes ≡ accepted message
@@ -138,14 +162,6 @@ module _ (party : Party) (f : ℕ) (bytes verdicts : List ℕ) (fields : Fields)
   unfolding fieldsIn field
   card-is = rw (found .same)
 
-  prepared-is : partAt bytes (fields .prepared) ≡ field bytes 6
-  unfolding fieldsIn field
-  prepared-is = rw (found .same)
-
-  written-is : partAt bytes (fields .written) ≡ field bytes 7
-  unfolding fieldsIn field
-  written-is = rw (found .same)
-
   -- What follows the fields is the signature.
   pub signature-is : partAt bytes (fields .signature) ≡ signature bytes
   unfolding fieldsIn
@@ -161,24 +177,10 @@ module _ (party : Party) (f : ℕ) (bytes verdicts : List ℕ) (fields : Fields)
       let inside = found .inside 5 (omega arith) in
       rw digest-is (simp (length-take, length-drop) (omega arith))
 
-  prepared-shown : preparedPart (partAt bytes (fields .prepared)) ≡ preparedAt bytes
-  prepared-shown = rw prepared-is (go (bit (mapIn bytes) 6) refl)
-    where
-      go : (b : Bool) → bit (mapIn bytes) 6 ≡ b → preparedPart (field bytes 6) ≡ cond b (some (preparedFrom (field bytes 6))) none
-      go true set = some-prepared (field bytes 6) (let whole = prepared-whole bytes (found .framed) set in omega arith)
-      go false clear = rw (field-absent bytes 6 clear)
-
-  written-shown : writtenPart (partAt bytes (fields .written)) ≡ writtenAt bytes
-  written-shown = rw written-is (go (bit (mapIn bytes) 7) refl)
-    where
-      go : (b : Bool) → bit (mapIn bytes) 7 ≡ b → writtenPart (field bytes 7) ≡ cond b (some (writtenFrom (field bytes 7))) none
-      go true set = some-written (field bytes 7) (let whole = written-whole bytes (found .framed) set in omega arith)
-      go false clear = rw (field-absent bytes 7 clear)
-
   -- The written proof's timestamp, which is all that a replica takes of it.
   pub last-shown : timestampPart (partAt bytes (fields .written)) ≡ ofNumber (writtenTimestamp (writtenPart (partAt bytes (fields .written))))
   unfolding timestampPart
-  last-shown = rw written-is (go (bit (mapIn bytes) 7) refl)
+  last-shown = rw (written-is party bytes fields found) (go (bit (mapIn bytes) 7) refl)
     where
       go : (b : Bool) → bit (mapIn bytes) 7 ≡ b → timestampPart (field bytes 7) ≡ ofNumber (writtenTimestamp (writtenPart (field bytes 7)))
       go true set =
@@ -191,7 +193,7 @@ module _ (party : Party) (f : ℕ) (bytes verdicts : List ℕ) (fields : Fields)
   proof-whole =
       let h = handed _ (found .decodes) in
       let s = seen party bytes _ (found .decodes) in
-      rw prepared-is (go (bit (mapIn bytes) 6) refl (rw (s .prepared) at (h .passed .prepared-shaped)))
+      rw (prepared-is party bytes fields found) (go (bit (mapIn bytes) 6) refl (rw (s .prepared) at (h .passed .prepared-shaped)))
     where
       go : (b : Bool) → bit (mapIn bytes) 6 ≡ b → ifThere (λ (proof : PreparedProof). shaped f (proof .entries)) (cond b (some (preparedFrom (field bytes 6))) none) ≡ true → WholeIfThere (field bytes 6)
       go true set h = whole-if (field bytes 6) (record { ends = prepared-whole bytes (found .framed) set; few = few-entries f (field bytes 6) h })
@@ -205,12 +207,12 @@ module _ (f : ℕ) (bytes verdicts : List ℕ) (fields : Fields) (e : acceptance
   pub handed-prepare : fields .kind ≡ 2
       → Handed Replica f bytes verdicts (PREPARE (record { 0 = fields .sender }) (number (fields .timestamp)) (partAt bytes (fields .digest)) (preparedPart (partAt bytes (fields .prepared))) (writtenPart (partAt bytes (fields .written))))
   handed-prepare k =
-      rw (digest-is Replica f bytes verdicts fields e, prepared-shown Replica f bytes verdicts fields e, written-shown Replica f bytes verdicts fields e)
+      rw (digest-is Replica f bytes verdicts fields e, prepared-shown Replica bytes fields (found Replica f bytes verdicts fields e), written-shown Replica bytes fields (found Replica f bytes verdicts fields e))
       (handed Replica f bytes verdicts fields e _ (reads-2 bytes fields (reads Replica f bytes verdicts fields e) k))
 
   pub handed-write : fields .kind ≡ 3 → Handed Replica f bytes verdicts (WRITE (record { 0 = fields .sender }) (cardAt bytes (fields .card)) (preparedFrom (partAt bytes (fields .prepared))))
   handed-write k =
-      rw (card-is Replica f bytes verdicts fields e, prepared-is Replica f bytes verdicts fields e)
+      rw (card-is Replica f bytes verdicts fields e, prepared-is Replica bytes fields (found Replica f bytes verdicts fields e))
       (handed Replica f bytes verdicts fields e _ (reads-3 bytes fields (reads Replica f bytes verdicts fields e) k))
 
   pub handed-read : fields .kind ≡ 4 → Handed Replica f bytes verdicts (READ (record { 0 = fields .sender }) (fields .nonce))
@@ -233,14 +235,14 @@ module _ (f : ℕ) (bytes verdicts : List ℕ) (fields : Fields) (e : acceptance
   write-proof k =
       let set = write-set (taken-kind Replica bytes fields (reads Replica f bytes verdicts fields e) 3 k) in
       let whole = prepared-whole bytes (found Replica f bytes verdicts fields e .framed) set in
-      let same = prepared-is Replica f bytes verdicts fields e in
+      let same = prepared-is Replica bytes fields (found Replica f bytes verdicts fields e) in
       there (partAt bytes (fields .prepared)) (proof-whole Replica f bytes verdicts fields e) (λ none. let size = ap length same in omega arith) .whole
 
 -- The replies, kind by kind.
 module _ (f : ℕ) (bytes verdicts : List ℕ) (fields : Fields) (e : acceptance Client f bytes verdicts ≡ accepted fields) where
   pub handed-stamp : fields .kind ≡ 5 → Handed Client f bytes verdicts (STAMP (record { 0 = fields .sender }) (fields .nonce) (preparedPart (partAt bytes (fields .prepared))) (fields .addressed))
   handed-stamp k =
-      rw (prepared-shown Client f bytes verdicts fields e)
+      rw (prepared-shown Client bytes fields (found Client f bytes verdicts fields e))
       (handed Client f bytes verdicts fields e _ (reads-5 bytes fields (reads Client f bytes verdicts fields e) k))
 
   pub handed-prepared : fields .kind ≡ 6 → Handed Client f bytes verdicts (PREPARED (record { 0 = fields .sender }) (number (fields .timestamp)) (partAt bytes (fields .digest)))
@@ -253,7 +255,7 @@ module _ (f : ℕ) (bytes verdicts : List ℕ) (fields : Fields) (e : acceptance
 
   pub handed-card : fields .kind ≡ 8 → Handed Client f bytes verdicts (CARD (record { 0 = fields .sender }) (fields .nonce) (cardAt bytes (fields .card)) (preparedPart (partAt bytes (fields .prepared))) (fields .addressed))
   handed-card k =
-      rw (card-is Client f bytes verdicts fields e, prepared-shown Client f bytes verdicts fields e)
+      rw (card-is Client f bytes verdicts fields e, prepared-shown Client bytes fields (found Client f bytes verdicts fields e))
       (handed Client f bytes verdicts fields e _ (reads-8 bytes fields (reads Client f bytes verdicts fields e) k))
 
   -- "desks 5 to 8"

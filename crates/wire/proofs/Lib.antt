@@ -19,6 +19,7 @@ pub mod Reading
 pub mod RoundTrip
 pub mod Rows
 pub mod Signers
+pub mod Signing
 pub mod Size
 pub mod Stores
 pub mod Unsigned

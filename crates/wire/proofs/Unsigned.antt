@@ -1,12 +1,12 @@
 -- The bytes of each message in the parts in which they are written. Assumes nothing.
-use mathlib.Core.Path.{_≡_}
+use mathlib.Core.Path.{_≡_, refl}
 use mathlib.Core.Bool.{Bool, true, false, cond}
-use mathlib.Core.List.{List, _++_, append-assoc}
+use mathlib.Core.List.{List, _++_, append-assoc, append-nil}
 use Prim.Native.Nat.{ℕ, _+_}
 use Rattle.base.specs.BigEndian.{toBytes}
 use Rattle.base.specs.declared.party.ClientId.{ClientId}
 use Rattle.base.specs.declared.party.ReplicaId.{ReplicaId}
-use Rattle.wire.specs.Message.{READ-STAMP, PREPARE, WRITE, READ, STAMP, PREPARED, WRITTEN, CARD, fields, joined, body, encode}
+use Rattle.wire.specs.Message.{Message, READ-STAMP, PREPARE, WRITE, READ, STAMP, PREPARED, WRITTEN, CARD, fields, joined, body, encode}
 use Rattle.wire.specs.Proof.{PreparedProof, WrittenProof, preparedBytes, writtenBytes}
 use Rattle.wire.specs.Writing.{unsigned, question, unless, bytesUnless, sizedCard, blankSignature}
 
@@ -15,6 +15,11 @@ head map kind sender = toBytes 2 map ++ (toBytes 1 kind ++ toBytes 1 sender)
 
 abbrev addressed : ClientId → List ℕ
 addressed client = toBytes 1 (client .0) ++ blankSignature
+
+-- A body with its signature as zeros.
+pub body-unsigned : (message : Message) → body message ++ blankSignature ≡ unsigned message
+unfolding encode
+body-unsigned message = refl
 
 module _ (client : ClientId) where
   pub question-parts : (kind nonce : ℕ) → (head 7 kind (client .0) ++ toBytes 8 nonce) ++ blankSignature ≡ question kind client nonce
@@ -51,14 +56,13 @@ module _ (replica : ReplicaId) where
   stamp-parts map nonce true proof client e = rw e (simp append-assoc)
   stamp-parts map nonce false proof client e = rw e (simp append-assoc)
 
-  pub prepared-parts : (timestamp : ℕ) (digest : List ℕ)
-      → (head 27 6 (replica .0) ++ (toBytes 5 timestamp ++ digest)) ++ blankSignature ≡ unsigned (PREPARED replica timestamp digest)
-  unfolding encode body fields joined
-  prepared-parts timestamp digest = simp append-assoc
+  pub prepared-body : (timestamp : ℕ) (digest : List ℕ) → head 27 6 (replica .0) ++ (toBytes 5 timestamp ++ digest) ≡ body (PREPARED replica timestamp digest)
+  unfolding body fields joined
+  prepared-body timestamp digest = simp (append-assoc, append-nil)
 
-  pub written-parts : (timestamp : ℕ) → (head 11 7 (replica .0) ++ toBytes 5 timestamp) ++ blankSignature ≡ unsigned (WRITTEN replica timestamp)
-  unfolding encode body fields joined
-  written-parts timestamp = simp append-assoc
+  pub written-body : (timestamp : ℕ) → head 11 7 (replica .0) ++ toBytes 5 timestamp ≡ body (WRITTEN replica timestamp)
+  unfolding body fields joined
+  written-body timestamp = simp (append-assoc, append-nil)
 
   pub card-parts : (map nonce : ℕ) (card : List ℕ) (absent : Bool) (proof : PreparedProof) (client : ClientId) → map ≡ 295 + cond absent 0 64
       → (((head map 8 (replica .0) ++ toBytes 8 nonce) ++ sizedCard card) ++ bytesUnless absent (preparedBytes proof)) ++ addressed client

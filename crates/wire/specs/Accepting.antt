@@ -6,10 +6,10 @@ use Prim.Native.Nat.{ℕ, _+_, _-_, _/_}
 use lib.Dec.{eqb}
 use lib.ListN.{length, take, drop}
 use Rattle.base.specs.BigEndian.{fromBytes}
-use Rattle.base.specs.Outcome.{Outcome, accepted, refused, guard, _>>=_}
+use Rattle.base.specs.Outcome.{Outcome, accepted, guard, _>>=_}
 use Rattle.wire.specs.Acceptance.{senderOf, inItsRange}
 use Rattle.wire.specs.Checks.{oneEach, ownGenuine, proven, proofOutcome}
-use Rattle.wire.specs.Decode.{decode, fieldsIn, framed, reading}
+use Rattle.wire.specs.Decode.{decode, fieldsIn, framed}
 use Rattle.wire.specs.Judging.{entriesIn, proofCheckOutcome}
 use Rattle.wire.specs.Message.{Message}
 use Rattle.wire.specs.Places.{between}
@@ -40,14 +40,6 @@ countIn fields = 1 + entryCount (fields .prepared) 38 + entryCount (fields .writ
 
 unfoldable pub signatureCount : List ℕ → ℕ
 signatureCount bytes = countIn (fieldsIn bytes)
-
--- "one byte per seal": as many verdicts as a message has signatures, for the party that can read it.
-abbrev pub signaturesIf : Outcome Fields → ℕ
-signaturesIf (accepted fields) = countIn fields
-signaturesIf (refused number) = 0
-
-unfoldable pub signaturesTo : Party → List ℕ → ℕ
-signaturesTo party bytes = signaturesIf (reading party bytes)
 
 -- 9 to 11 of the proof from one place to another, with its entries' verdicts; good if there is none.
 unfoldable pub proofBetween : ℕ → List ℕ → ℕ → ℕ → ℕ → List ℕ → Outcome (Unit {0})

@@ -13,4 +13,5 @@ pub mod Parts
 pub mod Places
 pub mod Proof
 pub mod Sha256
+pub mod Signatures
 pub mod Writing

@@ -1,14 +1,49 @@
 // The signatures of a message: its own and those of its proofs' entries. So many verdicts come with it.
+// A signing box, which makes and judges them, asks here how many there are, whose each is, and which bytes it covers.
+use crate::arrays::digest_array;
 use crate::layout::ENTRY;
+use crate::layout::LONGEST_MESSAGE;
 use crate::layout::PREPARED_HEAD;
+use crate::layout::SIGNATURE;
 use crate::layout::WRITTEN_HEAD;
 use crate::message::Fields;
 use crate::message::Party;
 use crate::message::Reading;
 use crate::message::Span;
+use crate::slices::front;
+use crate::writer::put_prepared_body;
+use crate::writer::put_written_body;
+use base::bytes::put;
+use base::party::ClientId;
+use base::party::ReplicaId;
+use base::refusal::OUTPUT_TOO_SHORT;
 ghost use mathlib.Core.Path.{_≡_};
-ghost use Prim.Native.Nat.{_-_, _/_, _≤_};
-ghost use Rattle.wire.specs.Accepting.{entryCount, countIn, signaturesTo};
+ghost use mathlib.Core.List.{_++_};
+ghost use mathlib.Core.Option.{some};
+ghost use Prim.Native.Nat.{_-_, _/_, _≤_, _<_};
+ghost use lib.ListN.{length, take, getElem?};
+ghost use Rattle.base.specs.Outcome.{accepted, guard};
+ghost use Rattle.wire.specs.Acceptance.{numbered};
+ghost use Rattle.wire.specs.Accepting.{entryCount, countIn};
+ghost use Rattle.wire.specs.Decode.{reading};
+ghost use Rattle.wire.specs.Message.{longest};
+ghost use Rattle.wire.specs.Parts.{countPart, writtenCount, preparedPart, writtenPart};
+ghost use Rattle.wire.specs.Proof.{preparedFrom, writtenFrom};
+ghost use Rattle.wire.specs.Signatures.{signaturesTo, signatureTo, signerOf, Answers, EntriesStand, signaturesIfThere, preparedSignatures, writtenSignatures};
+ghost use Rattle.wire.specs.Writing.{roomy};
+
+// Whose a signature is.
+pub enum Signer {
+    Replica(ReplicaId),
+    Client(ClientId),
+}
+
+// A signature of a message: its signer, and how many bytes it covers; none with the number asked for; or the refusal.
+pub enum Signed {
+    By(Signer, usize),
+    Nothing,
+    Refused(u8),
+}
 
 // How much the first is above the second; 0 if it is below.
 fn excess(a: usize, b: usize) -> usize
@@ -38,10 +73,96 @@ pub(super) fn count_in(fields: Fields) -> usize
 
 // How many signatures a message has, for the party that can read it. One that it cannot read has none.
 pub fn signature_count(party: Party, bytes: &[u8]) -> usize
-    ensures { λ r. ⌜ (r ≡ signaturesTo party (now (bytes .entry))) × (r ≤ 64) ⌝ }
+    ensures { λ r. ⌜ (r ≡ length (signaturesTo party (now (bytes .entry)))) × (r ≤ 64) ⌝ }
 {
     match crate::reader::read(party, bytes) {
         Reading::Message(fields) => count_in(fields),
         Reading::Refused(_) => 0,
+    }
+}
+
+// The sender with a number, of a message that this party takes.
+fn sender(party: Party, number: u8) -> Signer
+    ensures { λ r. ⌜ signerOf r ≡ numbered party number ⌝ }
+{
+    match party {
+        Party::Replica => Signer::Client(ClientId(number)),
+        Party::Client => Signer::Replica(ReplicaId(number)),
+    }
+}
+
+// The message's own: its sender's, over all bytes before it.
+fn own(party: Party, number: u8, bytes: &[u8], out: &mut [u8]) -> Signed
+    requires { ⌜ (64 ≤ length (now bytes)) × (length (now bytes) ≤ length (now out)) ⌝ }
+    ensures { λ r. ⌜ Answers
+        (accepted (some (record { signer = numbered party number; covers = take (length (now (bytes .entry)) - 64) (now (bytes .entry)) })))
+        (now (out .entry)) r (now (out .exit)) ⌝ }
+{
+    let covered = bytes.len() - SIGNATURE;
+    put(out, 0, front(bytes, covered));
+    Signed::By(sender(party, number), covered)
+}
+
+// An entry's of a prepared proof: its replica's, over the PREPARED with the proof's timestamp and digest.
+fn of_prepared(proof: &[u8], i: usize, out: &mut [u8]) -> Signed
+    requires { ⌜ EntriesStand 38 (now proof) × (i < countPart (now proof)) × (longest ≤ length (now out)) ⌝ }
+    ensures { λ r. ⌜ Answers (accepted (getElem? (preparedSignatures (preparedFrom (now (proof .entry)))) i)) (now (out .entry)) r (now (out .exit)) ⌝ }
+{
+    let replica = ReplicaId(proof[PREPARED_HEAD + ENTRY * i]);
+    let digest = digest_array(crate::parts::digest(proof));
+    let covered = put_prepared_body(out, replica, crate::parts::timestamp(proof), &digest);
+    Signed::By(Signer::Replica(replica), covered)
+}
+
+// An entry's of a written proof: its replica's, over the WRITTEN with the proof's timestamp.
+fn of_written(proof: &[u8], i: usize, out: &mut [u8]) -> Signed
+    requires { ⌜ EntriesStand 6 (now proof) × (i < writtenCount (now proof)) × (longest ≤ length (now out)) ⌝ }
+    ensures { λ r. ⌜ Answers (accepted (getElem? (writtenSignatures (writtenFrom (now (proof .entry)))) i)) (now (out .entry)) r (now (out .exit)) ⌝ }
+{
+    let replica = ReplicaId(proof[WRITTEN_HEAD + ENTRY * i]);
+    let covered = put_written_body(out, replica, crate::parts::timestamp(proof));
+    Signed::By(Signer::Replica(replica), covered)
+}
+
+// An entry's, the prepared proof's entries first.
+fn of_entries(prepared: &[u8], written: &[u8], i: usize, out: &mut [u8]) -> Signed
+    requires { ⌜ EntriesStand 38 (now prepared) × EntriesStand 6 (now written) × (longest ≤ length (now out)) ⌝ }
+    ensures { λ r. ⌜ Answers
+        (accepted (getElem? (signaturesIfThere preparedSignatures (preparedPart (now (prepared .entry))) ++ signaturesIfThere writtenSignatures (writtenPart (now (written .entry)))) i))
+        (now (out .entry)) r (now (out .exit)) ⌝ }
+{
+    let first = crate::parts::entry_count(prepared) as usize;
+    if i < first {
+        return of_prepared(prepared, i, out);
+    }
+    let behind = i - first;
+    if behind < crate::parts::written_entry_count(written) as usize {
+        return of_written(written, behind, out);
+    }
+    Signed::Nothing
+}
+
+fn of_fields(party: Party, bytes: &[u8], fields: Fields, i: usize, out: &mut [u8]) -> Signed
+    requires { ⌜ (reading party (now bytes) ≡ accepted fields) × (longest ≤ length (now out)) ⌝ }
+    ensures { λ r. ⌜ Answers (signatureTo party (now (bytes .entry)) i) (now (out .entry)) r (now (out .exit)) ⌝ }
+{
+    if i == 0 {
+        return own(party, fields.sender, bytes, out);
+    }
+    let prepared = crate::parts::part(bytes, fields.prepared);
+    let written = crate::parts::part(bytes, fields.written);
+    of_entries(prepared, written, i - 1, out)
+}
+
+// Whose the i-th signature of a message is, the message's own being number 0, and which bytes it covers: they stand in front of the output, its old bytes behind.
+pub fn signature(party: Party, bytes: &[u8], i: usize, out: &mut [u8]) -> Signed
+    ensures { λ r. ⌜ Answers (guard 1 (roomy (now (out .entry))) (signatureTo party (now (bytes .entry)) i)) (now (out .entry)) r (now (out .exit)) ⌝ }
+{
+    if out.len() < LONGEST_MESSAGE {
+        return Signed::Refused(OUTPUT_TOO_SHORT);
+    }
+    match crate::reader::read(party, bytes) {
+        Reading::Message(fields) => of_fields(party, bytes, fields, i, out),
+        Reading::Refused(number) => Signed::Refused(number),
     }
 }

@@ -21,9 +21,11 @@ use proof::bit_unless_missing;
 use proof::put_prepared;
 use proof::put_prepared_unless_missing;
 use proof::put_written_unless_missing;
+ghost use Prim.Native.Nat.{_≤_};
+ghost use lib.ListN.{length};
 ghost use Rattle.base.specs.Timestamp.{number};
-ghost use Rattle.wire.specs.Message.{READ-STAMP, PREPARE, WRITE, READ, STAMP, PREPARED, WRITTEN, CARD};
-ghost use Rattle.wire.specs.Writing.{Wrote, unsigned, missing, unless, keptPrepared, keptWritten, keptCard, question};
+ghost use Rattle.wire.specs.Message.{READ-STAMP, PREPARE, WRITE, READ, STAMP, PREPARED, WRITTEN, CARD, body};
+ghost use Rattle.wire.specs.Writing.{Put, Wrote, unsigned, missing, unless, keptPrepared, keptWritten, keptCard, question};
 
 // The length of what was written, or the refusal.
 pub enum Encoded {
@@ -161,6 +163,28 @@ pub fn write_stamp<'a>(
     Encoded::Length(put_addressed(out, c, client.0))
 }
 
+// A PREPARED or WRITTEN without its signature: the bytes that the signature covers, in a proof's entry too.
+pub(super) fn put_prepared_body(
+    out: &mut [u8],
+    replica: ReplicaId,
+    timestamp: Timestamp,
+    digest: &[u8; 32],
+) -> usize
+    requires { ⌜ 41 ≤ length (now out) ⌝ }
+    ensures { λ r. ⌜ Put (now (out .entry)) 0 (body (PREPARED replica (number timestamp) (now (digest .entry)))) 41 r (now (out .exit)) ⌝ }
+{
+    let behind = put_head(out, WITH_DIGEST, 6, replica.0);
+    put_timestamp_and_digest(out, behind, timestamp, digest)
+}
+
+pub(super) fn put_written_body(out: &mut [u8], replica: ReplicaId, timestamp: Timestamp) -> usize
+    requires { ⌜ 9 ≤ length (now out) ⌝ }
+    ensures { λ r. ⌜ Put (now (out .entry)) 0 (body (WRITTEN replica (number timestamp))) 9 r (now (out .exit)) ⌝ }
+{
+    let behind = put_head(out, WITH_TIMESTAMP, 7, replica.0);
+    put_timestamp(out, behind, timestamp)
+}
+
 pub fn write_prepared(
     out: &mut [u8],
     replica: ReplicaId,
@@ -172,9 +196,8 @@ pub fn write_prepared(
     if out.len() < LONGEST_MESSAGE {
         return Encoded::Refused(OUTPUT_TOO_SHORT);
     }
-    let a = put_head(out, WITH_DIGEST, 6, replica.0);
-    let b = put_timestamp_and_digest(out, a, timestamp, digest);
-    Encoded::Length(put_signature(out, b))
+    let behind = put_prepared_body(out, replica, timestamp, digest);
+    Encoded::Length(put_signature(out, behind))
 }
 
 pub fn write_written(out: &mut [u8], replica: ReplicaId, timestamp: Timestamp) -> Encoded
@@ -183,9 +206,8 @@ pub fn write_written(out: &mut [u8], replica: ReplicaId, timestamp: Timestamp) -
     if out.len() < LONGEST_MESSAGE {
         return Encoded::Refused(OUTPUT_TOO_SHORT);
     }
-    let a = put_head(out, WITH_TIMESTAMP, 7, replica.0);
-    let b = put_timestamp(out, a, timestamp);
-    Encoded::Length(put_signature(out, b))
+    let behind = put_written_body(out, replica, timestamp);
+    Encoded::Length(put_signature(out, behind))
 }
 
 pub fn write_card<'a>(

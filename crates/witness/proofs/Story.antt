@@ -21,7 +21,8 @@ use Rattle.base.specs.declared.party.ReplicaId.{ReplicaId}
 use Rattle.base.specs.declared.timestamp.Timestamp.{Timestamp}
 use Rattle.protocol.specs.Client.{Answer, send, counted, done, ended}
 use Rattle.run.specs.Claims.{GoesOn, Begins, Finished, Genuine}
-use Rattle.run.specs.Premises.{Signature, signaturesOf, preparedSignatures, TrueVerdicts, TrueFor, TrueAt, cardOf, CardOfRun}
+use Rattle.wire.specs.Signatures.{Signature, signaturesOf, preparedSignatures}
+use Rattle.run.specs.Premises.{TrueVerdicts, TrueFor, TrueAt, cardOf, CardOfRun}
 use Rattle.wire.specs.Acceptance.{Sender, replica, client}
 use Rattle.run.specs.Run.{Event, begins-write, begins-read, to-replica, to-client, partyOf, HasBytes, CorrectIn, Run, event, answerTo, answerAt, At, Sent}
 use Rattle.wire.specs.Decode.{decode}

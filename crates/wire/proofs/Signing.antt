@@ -1,0 +1,236 @@
+-- The signatures of a message by its bytes: how many there are, and the i-th of them. Assumes nothing.
+use mathlib.Core.Path.{_≡_, refl, sym, ap, subst, _∙_}
+use mathlib.Core.Bool.{Bool, true, false}
+use mathlib.Core.List.{List, [], _∷_, _++_}
+use mathlib.Core.Option.{Option, none, some}
+use Prim.Native.Nat.{ℕ, zero, suc, _+_, _-_, _*_, _≤_, _<_}
+use native.Mathlib.Omega.{arith}
+use borrow.Author.Tests.{le-ltb}
+use lib.ListN.{length, getD, take, drop, getElem?, length-append, length-take, length-drop}
+use lib.Seq.{getD-drop}
+use Rattle.base.specs.BigEndian.{fromBytes}
+use Rattle.base.specs.BitMap.{bit}
+use Rattle.base.specs.Bytes.{filled}
+use Rattle.base.specs.Outcome.{Outcome, accepted, refused}
+use Rattle.base.specs.Timestamp.{number}
+use Rattle.base.specs.declared.party.ReplicaId.{ReplicaId}
+use Rattle.base.proofs.Filling.{filled-whole}
+use Rattle.base.proofs.Timestamps.{number-ofNumber}
+use Rattle.wire.specs.Acceptance.{Sender, replica, numbered}
+use Rattle.wire.specs.Accepting.{countIn}
+use Rattle.wire.specs.Checks.{preparedOf, writtenOf, entriesIfThere, entriesOf}
+use Rattle.wire.specs.Decode.{reading}
+use Rattle.wire.specs.Layout.{mapIn, field}
+use Rattle.wire.specs.Message.{Message, PREPARED, WRITTEN, body}
+use Rattle.wire.specs.Parts.{partAt, preparedPart, writtenPart, timestampPart, digestPart, countPart, writtenCount}
+use Rattle.wire.specs.Proof.{Entry, PreparedProof, WrittenProof, preparedFrom, writtenFrom, readEntries}
+use Rattle.wire.specs.Signatures.{Signature, signedBy, preparedSignatures, writtenSignatures, signaturesIfThere, signaturesOf, signaturesTo, signatureTo, signerOf, Answers, EntriesStand}
+use Rattle.wire.specs.Writing.{Put}
+use Rattle.wire.specs.declared.message.Fields.{Fields}
+use Rattle.wire.specs.declared.message.Party.{Party}
+use Rattle.wire.specs.declared.signatures.Signed.{Signed}
+use Rattle.wire.specs.declared.signatures.Signed.the-variants.{By, Nothing, Refused}
+use Rattle.wire.specs.declared.signatures.Signer.{Signer}
+use Rattle.wire.proofs.Accepting.{seen, placed-reading, all-signatures, entries-counted}
+use Rattle.wire.proofs.Framed.{field-absent}
+use Rattle.wire.proofs.Handed.{prepared-is, written-is, prepared-shown, written-shown, front-timestamp}
+use Rattle.wire.proofs.Parsed.{messageOf, parsed, prepared-whole, written-whole, decode-refused}
+use Rattle.wire.proofs.ProofBytes.{length-read}
+
+-- ---- How many
+
+length-signed : (message : ReplicaId → Message) (entries : List Entry) → length (signedBy message entries) ≡ length entries
+length-signed message [] = refl
+length-signed message (entry ∷ entries) = ap suc (length-signed message entries)
+
+prepared-length : (proof : Option PreparedProof) → length (signaturesIfThere preparedSignatures proof) ≡ length (entriesIfThere (λ (p : PreparedProof). p .entries) proof)
+prepared-length none = refl
+prepared-length (some proof) = length-signed (λ id. PREPARED id (proof .timestamp) (proof .digest)) (proof .entries)
+
+written-length : (proof : Option WrittenProof) → length (signaturesIfThere writtenSignatures proof) ≡ length (entriesIfThere (λ (p : WrittenProof). p .entries) proof)
+written-length none = refl
+written-length (some proof) = length-signed (λ id. WRITTEN id (proof .timestamp)) (proof .entries)
+
+-- Its own, and one an entry: as many as verdicts that test 7 asks for.
+pub length-signatures : (bytes : List ℕ) (message : Message) → length (signaturesOf bytes message) ≡ 1 + length (entriesOf message)
+unfolding entriesOf
+length-signatures bytes message =
+    let first = prepared-length (preparedOf message) in
+    let second = written-length (writtenOf message) in
+    simp length-append (omega arith)
+
+-- Of bytes that can be read, as many as their fields say; of others none.
+pub counted : (party : Party) (bytes : List ℕ) (fields : Fields) → reading party bytes ≡ accepted fields → length (signaturesTo party bytes) ≡ countIn fields
+unfolding signaturesTo
+counted party bytes fields e =
+    let p = parsed party bytes fields e in
+    let m = messageOf (p .taken) bytes in
+    rw (p .decodes)
+    (length-signatures bytes m ∙ entries-counted party bytes m (p .decodes) (p .framed) ∙ sym (all-signatures bytes fields (placed-reading party bytes fields e)))
+
+pub uncounted : (party : Party) (bytes : List ℕ) (n : ℕ) → reading party bytes ≡ refused n → length (signaturesTo party bytes) ≡ 0
+unfolding signaturesTo
+uncounted party bytes n e = rw (decode-refused party bytes n e)
+
+-- ---- The i-th
+
+-- An entry's signature: its replica's, over that replica's message.
+abbrev entrySignature : (ReplicaId → Message) → ReplicaId → Signature
+entrySignature message id = record { signer = replica id; covers = body (message id) }
+
+signed-at : (message : ReplicaId → Message) (n : ℕ) (bytes : List ℕ) (i : ℕ) → i < n
+    → getElem? (signedBy message (readEntries n bytes)) i ≡ some (entrySignature message (record { 0 = getD bytes (65 * i) 0 }))
+unfolding readEntries
+signed-at message zero bytes i h = absurd (omega arith)
+signed-at message (suc n) bytes zero h = refl
+signed-at message (suc n) bytes (suc i) h =
+    let next : 65 + 65 * i ≡ 65 * suc i = omega arith in
+    signed-at message n (drop 65 bytes) i (omega arith) ∙ rw (getD-drop 65 bytes (65 * i) 0, next)
+
+-- An entry that is counted lies within its proof.
+module _ (proof : List ℕ) (i : ℕ) where
+  pub prepared-inside : EntriesStand 38 proof → i < countPart proof → 38 + 65 * i < length proof
+  unfolding countPart
+  prepared-inside stand h = let size = length-drop 38 proof in omega arith
+
+  pub written-inside : EntriesStand 6 proof → i < writtenCount proof → 6 + 65 * i < length proof
+  unfolding writtenCount
+  written-inside stand h = let size = length-drop 6 proof in omega arith
+
+-- Of a proof, by the parts that the code answers.
+pub prepared-at : (proof : List ℕ) (i : ℕ) → EntriesStand 38 proof → i < countPart proof
+    → getElem? (preparedSignatures (preparedFrom proof)) i
+    ≡ some (entrySignature (λ id. PREPARED id (number (timestampPart proof)) (filled 32 (digestPart proof))) (record { 0 = getD proof (38 + 65 * i) 0 }))
+unfolding countPart digestPart
+prepared-at proof i stand h =
+    let long = prepared-inside proof i stand h in
+    let stamp : number (timestampPart proof) ≡ fromBytes (take 5 proof) = ap number (front-timestamp proof (omega arith)) ∙ number-ofNumber (fromBytes (take 5 proof)) in
+    let digest : length (take 32 (drop 5 proof)) ≡ 32 = simp (length-take, length-drop) (omega arith) in
+    rw (stamp, le-ltb (length proof) 37 (omega arith), filled-whole 32 (take 32 (drop 5 proof)) digest, ← getD-drop 38 proof (65 * i) 0)
+    (signed-at (λ id. PREPARED id (fromBytes (take 5 proof)) (take 32 (drop 5 proof))) (getD proof 37 0) (drop 38 proof) i h)
+
+pub written-at : (proof : List ℕ) (i : ℕ) → EntriesStand 6 proof → i < writtenCount proof
+    → getElem? (writtenSignatures (writtenFrom proof)) i ≡ some (entrySignature (λ id. WRITTEN id (number (timestampPart proof))) (record { 0 = getD proof (6 + 65 * i) 0 }))
+unfolding writtenCount
+written-at proof i stand h =
+    let long = written-inside proof i stand h in
+    let stamp : number (timestampPart proof) ≡ fromBytes (take 5 proof) = ap number (front-timestamp proof (omega arith)) ∙ number-ofNumber (fromBytes (take 5 proof)) in
+    rw (stamp, ← getD-drop 6 proof (65 * i) 0)
+    (signed-at (λ id. WRITTEN id (fromBytes (take 5 proof))) (getD proof 5 0) (drop 6 proof) i h)
+
+-- Of a list behind another.
+module _ {A : Type 0} where
+  in-first : (a b : List A) (i : ℕ) → i < length a → getElem? (a ++ b) i ≡ getElem? a i
+  in-first [] b i h = absurd (omega arith)
+  in-first (x ∷ a) b zero h = refl
+  in-first (x ∷ a) b (suc i) h = in-first a b i (omega arith)
+
+  in-second : (a b : List A) (i : ℕ) → length a ≤ i → getElem? (a ++ b) i ≡ getElem? b (i - length a)
+  in-second [] b i h = let all : i - 0 ≡ i = omega arith in rw all
+  in-second (x ∷ a) b zero h = absurd (omega arith)
+  in-second (x ∷ a) b (suc i) h = let less : suc i - suc (length a) ≡ i - length a = omega arith in in-second a b i (omega arith) ∙ rw less
+
+  behind-all : (a : List A) (i : ℕ) → length a ≤ i → getElem? a i ≡ none
+  behind-all [] i h = refl
+  behind-all (x ∷ a) zero h = absurd (omega arith)
+  behind-all (x ∷ a) (suc i) h = behind-all a i (omega arith)
+
+-- Of both proofs.
+abbrev preparedIn : List ℕ → List Signature
+preparedIn proof = signaturesIfThere preparedSignatures (preparedPart proof)
+
+abbrev writtenIn : List ℕ → List Signature
+writtenIn proof = signaturesIfThere writtenSignatures (writtenPart proof)
+
+prepared-size : (proof : List ℕ) → length (preparedIn proof) ≡ countPart proof
+unfolding countPart
+prepared-size [] = refl
+prepared-size (byte ∷ proof) = let p = preparedFrom (byte ∷ proof) in length-signed (λ id. PREPARED id (p .timestamp) (p .digest)) (p .entries) ∙ length-read _ _
+
+written-size : (proof : List ℕ) → length (writtenIn proof) ≡ writtenCount proof
+unfolding writtenCount
+written-size [] = refl
+written-size (byte ∷ proof) = let p = writtenFrom (byte ∷ proof) in length-signed (λ id. WRITTEN id (p .timestamp)) (p .entries) ∙ length-read _ _
+
+prepared-there : (proof : List ℕ) → 0 < countPart proof → preparedIn proof ≡ preparedSignatures (preparedFrom proof)
+unfolding countPart
+prepared-there [] h = absurd (omega arith)
+prepared-there (byte ∷ proof) h = refl
+
+written-there : (proof : List ℕ) → 0 < writtenCount proof → writtenIn proof ≡ writtenSignatures (writtenFrom proof)
+unfolding writtenCount
+written-there [] h = absurd (omega arith)
+written-there (byte ∷ proof) h = refl
+
+module _ (prepared written : List ℕ) (i : ℕ) where
+  pub of-first : i < countPart prepared → getElem? (preparedSignatures (preparedFrom prepared)) i ≡ getElem? (preparedIn prepared ++ writtenIn written) i
+  of-first h =
+      let size = prepared-size prepared in
+      sym (in-first (preparedIn prepared) (writtenIn written) i (omega arith) ∙ rw (prepared-there prepared (omega arith)))
+
+  pub of-second : countPart prepared ≤ i → i - countPart prepared < writtenCount written
+      → getElem? (writtenSignatures (writtenFrom written)) (i - countPart prepared) ≡ getElem? (preparedIn prepared ++ writtenIn written) i
+  of-second past h =
+      let size = prepared-size prepared in
+      sym (in-second (preparedIn prepared) (writtenIn written) i (omega arith) ∙ rw (size, written-there written (omega arith)))
+
+  pub of-neither : countPart prepared ≤ i → writtenCount written ≤ i - countPart prepared → getElem? (preparedIn prepared ++ writtenIn written) i ≡ none
+  of-neither past h =
+      let first = prepared-size prepared in
+      let second = written-size written in
+      behind-all (preparedIn prepared ++ writtenIn written) i (rw length-append (omega arith))
+
+-- Of a message that was read.
+module _ (party : Party) (bytes : List ℕ) (fields : Fields) (e : reading party bytes ≡ accepted fields) where
+  pub own-at : signatureTo party bytes 0 ≡ accepted (some (record { signer = numbered party (fields .sender); covers = take (length bytes - 64) bytes }))
+  unfolding signatureTo
+  own-at =
+      let p = parsed party bytes fields e in
+      let s = seen party bytes _ (p .decodes) in
+      rw (p .decodes, s .sender, ← placed-reading party bytes fields e .sender)
+
+  pub entry-at : (i : ℕ) → signatureTo party bytes (suc i) ≡ accepted (getElem? (preparedIn (partAt bytes (fields .prepared)) ++ writtenIn (partAt bytes (fields .written))) i)
+  unfolding signatureTo
+  entry-at i =
+      let p = parsed party bytes fields e in
+      let s = seen party bytes _ (p .decodes) in
+      rw (p .decodes, s .prepared, s .written, prepared-shown party bytes fields p, written-shown party bytes fields p)
+
+  pub prepared-stand : EntriesStand 38 (partAt bytes (fields .prepared))
+  prepared-stand = rw (prepared-is party bytes fields (parsed party bytes fields e)) (go (bit (mapIn bytes) 6) refl)
+    where
+      go : (b : Bool) → bit (mapIn bytes) 6 ≡ b → EntriesStand 38 (field bytes 6)
+      go true set = let whole = prepared-whole bytes (parsed party bytes fields e .framed) set in rw length-drop (omega arith)
+      go false clear = rw (field-absent bytes 6 clear) (omega arith)
+
+  pub written-stand : EntriesStand 6 (partAt bytes (fields .written))
+  written-stand = rw (written-is party bytes fields (parsed party bytes fields e)) (go (bit (mapIn bytes) 7) refl)
+    where
+      go : (b : Bool) → bit (mapIn bytes) 7 ≡ b → EntriesStand 6 (field bytes 7)
+      go true set = let whole = written-whole bytes (parsed party bytes fields e .framed) set in rw length-drop (omega arith)
+      go false clear = rw (field-absent bytes 7 clear) (omega arith)
+
+pub unread-at : (party : Party) (bytes : List ℕ) (i n : ℕ) → reading party bytes ≡ refused n → signatureTo party bytes i ≡ refused n
+unfolding signatureTo
+unread-at party bytes i n e = rw (decode-refused party bytes n e)
+
+-- ---- Answers
+
+-- The bytes covered, stored in front of the output.
+pub answers : {found : Outcome (Option Signature)} {old covers : List ℕ} {sender : Sender} {signer : Signer} {most next : ℕ} {new : List ℕ}
+    → found ≡ accepted (some (record { signer = sender; covers = covers })) → signerOf signer ≡ sender → Put old 0 covers most next new → Answers found old (By signer next) new
+answers {found} {old} {covers} {sender} {signer} {most} {next} {new} e who a =
+    let all : next ≡ length covers = omega (arith, a .behind) in
+    let none : 0 + length covers ≡ length covers = omega arith in
+    record { answered = rw (e, who, all); holds = a .holds ∙ rw (e, none) }
+
+-- The same, found otherwise.
+pub found-so : {found found′ : Outcome (Option Signature)} {old : List ℕ} {answer : Signed} {new : List ℕ} → found ≡ found′ → Answers found old answer new → Answers found′ old answer new
+found-so {old = old} {answer} {new} e a = subst (λ (f : Outcome (Option Signature)). Answers f old answer new) e a
+
+-- No signature, or no message: the output is as it was.
+pub no-answer : {found : Outcome (Option Signature)} {old : List ℕ} → found ≡ accepted none → Answers found old Nothing old
+no-answer e = record { answered = rw e; holds = rw e }
+
+pub refuses : {found : Outcome (Option Signature)} {old : List ℕ} {n : ℕ} → found ≡ refused n → Answers found old (Refused n) old
+refuses e = record { answered = rw e; holds = rw e }

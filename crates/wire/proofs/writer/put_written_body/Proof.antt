@@ -1,0 +1,18 @@
+-- `wire::writer::put_written_body` meets its contract. Assumes nothing.
+use native.Mathlib.Omega.{arith}
+use Rattle.base.specs.Timestamp.{number}
+use Rattle.wire.proofs.Stores.{then, restated}
+use Rattle.wire.proofs.Unsigned.{written-body}
+use borrow.Author.Needs.{needs}
+use Rattle.wire.proofs.writer.put_written_body.Statement.{statement}
+use Rattle.wire.proofs.writer.put_written_body.Tie as tie
+
+returns : tie.Need-returns
+returns c =
+    let y = c .before .before in
+    let x = y .before .before .before .before in
+    let a = x .before .before .before .args in
+    restated 9 (written-body (a .replica) (number (a .timestamp))) (omega arith) (then (x .put-head .ensures) (y .put-timestamp .ensures))
+
+pub put-written-body-spec : {M : Type 1} → statement M
+put-written-body-spec = tie.close (tie.spec (λ c κs. search needs) (λ c κs. search needs) (λ c. search needs) returns)

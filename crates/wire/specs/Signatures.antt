@@ -1,0 +1,86 @@
+-- Document 01, "Messages": the signatures (seals) of a message, whose each is and which bytes it covers. A signing box asks for them one by one.
+use mathlib.Core.Path.{_≡_}
+use mathlib.Core.List.{List, [], _∷_, _++_}
+use mathlib.Core.Option.{Option, none, some}
+use Prim.Native.Nat.{ℕ, _-_, _*_, _≤_}
+use lib.ListN.{length, getD, take, drop, getElem?}
+use Rattle.base.specs.Outcome.{Outcome, accepted, refused, _>>=_}
+use Rattle.base.specs.declared.party.ReplicaId.{ReplicaId}
+use Rattle.wire.specs.Acceptance.{Sender, replica, client, senderOf}
+use Rattle.wire.specs.Checks.{preparedOf, writtenOf}
+use Rattle.wire.specs.Decode.{decode}
+use Rattle.wire.specs.Message.{Message, PREPARED, WRITTEN, body}
+use Rattle.wire.specs.Proof.{Entry, PreparedProof, WrittenProof}
+use Rattle.wire.specs.Writing.{inFront}
+use Rattle.wire.specs.declared.message.Party.{Party}
+use Rattle.wire.specs.declared.signatures.Signed.{Signed}
+use Rattle.wire.specs.declared.signatures.Signed.the-variants.{By, Nothing, Refused}
+use Rattle.wire.specs.declared.signatures.Signer.{Signer}
+use Rattle.wire.specs.declared.signatures.Signer.the-variants.{Replica, Client}
+
+-- A signature (seal): whose it is, and the bytes that it covers.
+pub record Signature : Type 0 where
+  pub signer : Sender
+  pub covers : List ℕ
+
+-- "An entry's seal is that of the holder's PREPARED (or WRITTEN) message with this stamp (and digest)."
+abbrev pub signedBy : (ReplicaId → Message) → List Entry → List Signature
+signedBy message [] = []
+signedBy message (entry ∷ entries) = record { signer = replica (entry .signer); covers = body (message (entry .signer)) } ∷ signedBy message entries
+
+abbrev pub preparedSignatures : PreparedProof → List Signature
+preparedSignatures proof = signedBy (λ id. PREPARED id (proof .timestamp) (proof .digest)) (proof .entries)
+
+abbrev pub writtenSignatures : WrittenProof → List Signature
+writtenSignatures proof = signedBy (λ id. WRITTEN id (proof .timestamp)) (proof .entries)
+
+abbrev pub signaturesIfThere : {A : Type 0} → (A → List Signature) → Option A → List Signature
+signaturesIfThere signatures none = []
+signaturesIfThere signatures (some proof) = signatures proof
+
+-- The signatures of a message: "the message's own first, then entries in order". Its own covers "all bytes before it".
+abbrev pub signaturesOf : List ℕ → Message → List Signature
+signaturesOf bytes message =
+    record { signer = senderOf message; covers = take (length bytes - 64) bytes }
+    ∷ (signaturesIfThere preparedSignatures (preparedOf message) ++ signaturesIfThere writtenSignatures (writtenOf message))
+
+-- The signatures of bytes that a party is handed; none if it cannot read them (2 to 5).
+abbrev pub listed : List ℕ → Outcome Message → List Signature
+listed bytes (accepted message) = signaturesOf bytes message
+listed bytes (refused number) = []
+
+unfoldable pub signaturesTo : Party → List ℕ → List Signature
+signaturesTo party bytes = listed bytes (decode party bytes)
+
+-- The i-th of them, counted from 0, if there are so many; or the refusal of the bytes.
+unfoldable pub signatureTo : Party → List ℕ → ℕ → Outcome (Option Signature)
+signatureTo party bytes i = decode party bytes >>= λ message. accepted (getElem? (signaturesOf bytes message) i)
+
+-- What an answer of the code stands for: the signer, and how many bytes the signature covers.
+abbrev pub signerOf : Signer → Sender
+signerOf (Replica id) = replica id
+signerOf (Client id) = client id
+
+abbrev pub signedOutcome : Signed → Outcome (Option (Sender × ℕ))
+signedOutcome (By signer covered) = accepted (some (signerOf signer, covered))
+signedOutcome Nothing = accepted none
+signedOutcome (Refused number) = refused number
+
+abbrev pub inShort : Option Signature → Option (Sender × ℕ)
+inShort none = none
+inShort (some signature) = some (signature .signer, length (signature .covers))
+
+-- "any other lent buffer that is filled is treated alike": the bytes covered in front, and the old ones behind; all old ones where there is no signature.
+abbrev pub coveredIn : Outcome (Option Signature) → List ℕ → List ℕ
+coveredIn (accepted (some signature)) old = inFront (signature .covers) old
+coveredIn (accepted none) old = old
+coveredIn (refused number) old = old
+
+-- This signature was found, or none, or the refusal; the output was `old` and is now `new`.
+pub record Answers (found : Outcome (Option Signature)) (old : List ℕ) (answer : Signed) (new : List ℕ) : Type 0 where
+  pub answered : signedOutcome answer ≡ found >>= λ signature. accepted (inShort signature)
+  pub holds : new ≡ coveredIn found old
+
+-- Behind a proof's head stand as many entries as its last byte says.
+abbrev pub EntriesStand : ℕ → List ℕ → Type 0
+EntriesStand head proof = 65 * getD proof (head - 1) 0 ≤ length (drop head proof)
