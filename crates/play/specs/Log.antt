@@ -25,8 +25,3 @@ message log store before = take (sentLength log before) (drop (start before (len
 -- A message of so many bytes more. "It reads the first 100 lines", so there are never more than 100.
 unfoldable pub logged : ℕ → Log → Log
 logged size log = cond (ltb (log .count) 100) (record { count = log .count + 1; lengths = set (log .lengths) (log .count) size }) log
-
--- Bytes copied to the front of a buffer, as many as there is room for.
-pub record Copied (bytes old : List ℕ) (count : ℕ) (new : List ℕ) : Type 0 where
-  pub many : count ≡ min (length bytes) (length old)
-  pub holds : new ≡ take count bytes ++ drop count old

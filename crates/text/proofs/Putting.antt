@@ -39,7 +39,7 @@ fronts x y k m h full = go (leb (length x) k) refl
         let short : k + m ≡ k = omega arith in
         rw (short, none) (take-append-le k x y h ∙ sym (append-nil (take k x)))
 
-module _ (old : List ℕ) (at : ℕ) (x y : List ℕ) (e f : ℕ) (mid new : List ℕ) (first : Puts old at x e mid) (second : Puts mid e y f new) where
+module _ {old : List ℕ} {at : ℕ} {x y : List ℕ} {e f : ℕ} {mid new : List ℕ} (first : Puts old at x e mid) (second : Puts mid e y f new) where
   long : length mid ≡ length old
   long = ap length (first .is) ∙ written-length old at x
 

@@ -4,7 +4,7 @@ use libc::STDIN_FILENO;
 use libc::STDOUT_FILENO;
 ghost use mathlib.Core.Path.{_≡_};
 ghost use Prim.Native.Nat.{_+_, _<_};
-ghost use lib.ListN.{getD};
+ghost use lib.ListN.{getD, take, drop};
 ghost use Rattle.text.specs.Decimal.{decimal};
 ghost use Rattle.text.specs.Hex.{hexValue, pairValue, HexRead, digitOf, DigitBelow, hexDigit, hexPair, hex};
 ghost use Rattle.text.specs.Line.{LineEnd};
@@ -81,6 +81,27 @@ pub fn line_end(text: &[u8], from: usize) -> usize
         at += 1;
     }
     at
+}
+
+// The first bytes, as many as are asked for or are there.
+pub fn front(bytes: &[u8], n: usize) -> &[u8]
+    ensures { λ r. ⌜ now r ≡ take n (now (bytes .entry)) ⌝ }
+{
+    if n < bytes.len() {
+        return &bytes[0..n];
+    }
+    bytes
+}
+
+// The bytes from a place on.
+pub fn behind(bytes: &[u8], at: usize) -> &[u8]
+    ensures { λ r. ⌜ now r ≡ drop at (now (bytes .entry)) ⌝ }
+{
+    if at < bytes.len() {
+        return &bytes[at..];
+    }
+    let end = bytes.len();
+    &bytes[end..]
 }
 
 pub fn print(text: &[u8]) {

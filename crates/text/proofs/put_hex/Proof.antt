@@ -36,11 +36,10 @@ loop-again : tie.Need-loop-again Inv-loop μ-loop
 loop-again c =
     let p = c .before .before in
     let l = p .before .before .before .before .loop in
-    let a = p .before .before .before .before .before .before .before .args in
-    let rest = hex (drop (l .i + 1) (a .bytes .now)) in (
+    let a = p .before .before .before .before .before .before .before .args in (
       omega arith,
       omega arith,
-      λ f new later. l .inv .2 f new (same-bytes (more (a .bytes .now) (l .i) (omega arith)) (then _ _ _ rest _ f _ new (p .put-pair .ensures) later)),
+      λ f new later. l .inv .2 f new (same-bytes (more (a .bytes .now) (l .i) (omega arith)) (then (p .put-pair .ensures) later)),
     )
 
 returns : tie.Need-returns Inv-loop μ-loop

@@ -1,0 +1,81 @@
+// The whole run of the player: from the bytes of its script to all that it prints.
+use crate::output::put_line;
+use crate::turn::turn;
+use crate::world::World;
+use crate::world::fresh;
+ghost use mathlib.Core.Path.{_≡_};
+ghost use lib.ListN.{take};
+ghost use Rattle.text.specs.Line.{lines};
+ghost use Rattle.text.specs.Put.{Puts};
+ghost use Rattle.play.specs.Player.{turn};
+ghost use Rattle.play.specs.Session.{printedLines, printed, PlaysLine};
+ghost use Rattle.play.specs.Worlds.{emptyStore};
+
+// What a line leaves: the world, and the place behind what is printed.
+struct Played {
+    world: World,
+    end: usize,
+}
+
+// So many lines are played.
+const LINES: u8 = 100;
+
+// Plays the line of this number, and prints what it says.
+fn play_line(
+    world: World,
+    number: u8,
+    line: &[u8],
+    store: &mut [u8],
+    out: &mut [u8],
+    at: usize,
+) -> Played
+    ensures { λ r. ⌜ PlaysLine (turn world (now (store .entry)) (now (line .entry))) number (now (out .entry)) at r (now (store .exit)) (now (out .exit)) ⌝ }
+{
+    let turned = turn(world, line, store);
+    let saying = turned.saying;
+    let end = put_line(out, at, number, saying);
+    let after = turned.world;
+    Played {
+        world: after,
+        end: end,
+    }
+}
+
+// Plays the first 100 lines of a script, and prints from a place on.
+fn play_lines(world: World, script: &[u8], store: &mut [u8], out: &mut [u8], at: usize) -> usize
+    ensures { λ r. ⌜ Puts (now (out .entry)) at (printedLines world (now (store .entry)) 1 (take 100 (lines (now (script .entry))))) r (now (out .exit)) ⌝ }
+{
+    let mut after = world;
+    let mut number: u8 = 0;
+    let mut from = 0;
+    let mut next = at;
+    while from < script.len() {
+        if number == LINES {
+            return next;
+        }
+        number += 1;
+        let end = text::line_end(script, from);
+        let played = play_line(after, number, &script[from..end], store, out, next);
+        after = played.world;
+        next = played.end;
+        from = end + 1;
+    }
+    next
+}
+
+// Room for 100 messages, in a function of its own, so that no other's proof has to unfold so long an array.
+fn store() -> [u8; 157_900]
+    ensures { λ r. ⌜ r ≡ emptyStore ⌝ }
+{
+    [0u8; 157_900]
+}
+
+// Plays a script, and puts all that is printed into the front of a buffer, as far as it has room (`LONGEST_OUTPUT` bytes
+// are room for any script); answers how many bytes that are.
+pub fn play(script: &[u8], out: &mut [u8]) -> usize
+    ensures { λ r. ⌜ Puts (now (out .entry)) 0 (printed (now (script .entry))) r (now (out .exit)) ⌝ }
+{
+    let mut sent = store();
+    let at = text::put(out, 0, b"holders 4 desks 4\n");
+    play_lines(fresh(), script, &mut sent, out, at)
+}
