@@ -133,15 +133,12 @@ fn capital_digit(n: u8) -> u8
     if n < 10 { 48 + n } else { 55 + n }
 }
 
-fn print_pair(byte: u8) {
-    let pair = [capital_digit(byte / 16), capital_digit(byte % 16)];
-    print(&pair);
-}
-
 pub fn print_hex(bytes: &[u8]) {
     let mut i = 0;
     while i < bytes.len() {
-        print_pair(bytes[i]);
+        let byte = bytes[i];
+        let pair = [capital_digit(byte / 16), capital_digit(byte % 16)];
+        print(&pair);
         i += 1;
     }
 }
