@@ -9,6 +9,7 @@ use lib.Seq.{take-all, take-at, drop-length}
 use Rattle.base.specs.Outcome.{Outcome}
 use Rattle.text.specs.Hex.{hexPairs, HexRead}
 use Rattle.text.specs.Put.{Puts}
+use Rattle.text.proofs.Putting.{put-front}
 use Rattle.protocol.specs.Client.{Turn, ClientCall}
 use Rattle.protocol.specs.Replica.{ReplicaCall, replicaCall}
 use Rattle.protocol.specs.declared.replica.Replica.{Replica}
@@ -21,7 +22,7 @@ use Rattle.wire.specs.Accepting.{signaturesTo}
 use Rattle.play.specs.Calls.{verdicts, sentBefore, free, messageAt, ClientLeaves, ReplicaLeaves}
 use Rattle.play.specs.Log.{start, message}
 use Rattle.play.specs.declared.log.Log.{Log}
-use Rattle.play.proofs.Lists.{take-ones, put-front}
+use Rattle.play.proofs.Lists.{take-ones}
 
 pub client-leaves : (call : ClientCall) (step : Outcome Turn) (stepped : ClientStepped) (new : List ℕ) → Calls call step stepped new → ClientLeaves call [] stepped new
 client-leaves call step stepped new e =

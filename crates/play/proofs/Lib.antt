@@ -3,6 +3,7 @@ pub mod Keeping
 pub mod Leaving
 pub mod Lists
 pub mod LongLines
+pub mod Pieces
 pub mod Printing
 pub mod Room
 pub mod Turning

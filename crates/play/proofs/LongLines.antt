@@ -1,8 +1,8 @@
 -- A line of 39 bytes or more is unread, so that cutting it there changes nothing. Assumes nothing.
-use mathlib.Core.Path.{_≡_, refl, sym, ap, ap₂, _∙_}
+use mathlib.Core.Path.{_≡_, refl, ap}
 use mathlib.Core.Bool.{Bool, true, false, cond, _&&_, and-false}
 use mathlib.Core.List.{List, [], _∷_, _++_, map}
-use Prim.Native.Nat.{ℕ, zero, suc, _+_, _-_, _*_, _≤_, _<_}
+use Prim.Native.Nat.{ℕ, _+_, _-_, _*_, _≤_, _<_}
 use native.Mathlib.Omega.{arith}
 use borrow.Author.Tests.{lt-ltb, ne-eqb, eqb-false, leb-true, leb-false}
 use lib.Dec.{eqb, ltb, leb}
@@ -14,7 +14,6 @@ use Rattle.play.specs.Grammar.{isCard, numeral, messageNumber, asked, sh
 use Rattle.play.specs.Output.{line}
 use Rattle.play.specs.Player.{Turn, addressee, does, turn}
 use Rattle.play.specs.Session.{printedLines}
-use Rattle.play.specs.declared.grammar.Command.{Command}
 use Rattle.play.specs.declared.grammar.Command.the-variants.{ToReplica, ToClient, Unread}
 use Rattle.play.specs.declared.turn.Addressee.the-variants.{Nobody}
 use Rattle.play.specs.declared.world.World.{World}

@@ -1,17 +1,15 @@
 -- How much room any input needs: for what is kept of it, and for what is printed. Assumes nothing.
-use mathlib.Core.Path.{_≡_, refl, ap}
+use mathlib.Core.Path.{_≡_, refl}
 use mathlib.Core.Bool.{Bool, true, false, cond}
 use mathlib.Core.List.{List, [], _∷_, _++_}
 use Prim.Native.Nat.{ℕ, zero, suc, _+_, _-_, _*_, _/_, _%_, _≤_}
 use native.Mathlib.Omega.{arith}
-use borrow.Author.Tests.{leb-true, leb-false}
+use borrow.Author.Tests.{leb-false}
 use lib.Dec.{eqb, ltb, leb}
 use lib.ListN.{length, take, length-append, length-take}
-use Rattle.text.specs.Decimal.{decimal, digitsWithin}
+use Rattle.text.specs.Decimal.{digitsWithin}
 use Rattle.text.specs.Hex.{hex}
 use Rattle.text.specs.Line.{lines}
-use Rattle.protocol.specs.Parts.{cardIn}
-use Rattle.base.specs.declared.timestamp.Timestamp.{Timestamp}
 use Rattle.play.specs.Grammar.{command}
 use Rattle.play.specs.Output.{header, stamp, said, line}
 use Rattle.play.specs.Player.{Turn, addressee, does, clientsTurn, turn}

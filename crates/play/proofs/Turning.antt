@@ -8,7 +8,7 @@ use Rattle.base.specs.declared.party.ClientId.{ClientId}
 use Rattle.base.specs.declared.party.ReplicaId.{ReplicaId}
 use Rattle.protocol.specs.Parts.{cardIn}
 use Rattle.protocol.specs.Replica.{noReplica}
-use Rattle.protocol.specs.Client.{noClient, ClientCall}
+use Rattle.protocol.specs.Client.{noClient}
 use Rattle.protocol.specs.declared.replica.Replica.{Replica}
 use Rattle.protocol.specs.declared.client.Client.{Client}
 use Rattle.protocol.specs.declared.client.ClientAnswer.{ClientAnswer}

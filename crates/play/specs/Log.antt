@@ -1,7 +1,6 @@
 -- The messages that were sent, as the player keeps them: a store of bytes, 1,579 for each message, and how long each is.
-use mathlib.Core.Path.{_≡_}
 use mathlib.Core.Bool.{cond}
-use mathlib.Core.List.{List, _++_}
+use mathlib.Core.List.{List}
 use Prim.Native.Nat.{ℕ, _+_, _*_, min}
 use lib.Dec.{ltb}
 use lib.ListN.{length, getD, take, drop, set, replicate}

@@ -2,12 +2,12 @@
 use mathlib.Core.Path.{_≡_, refl, sym, ap, ap₂, subst, _∙_}
 use mathlib.Core.Bool.{Bool, true, false}
 use mathlib.Core.List.{List, [], _++_, append-assoc, append-nil}
-use Prim.Native.Nat.{ℕ, _+_, _-_, _≤_, _<_}
+use Prim.Native.Nat.{ℕ, _+_, _≤_, _<_}
 use native.Mathlib.Omega.{arith}
 use borrow.Author.Tests.{leb-true, leb-false}
 use lib.Dec.{leb}
 use lib.ListN.{length, take, drop, length-append, length-take, length-drop}
-use lib.Seq.{take-length, take-append-le, take-append-add, take-paste, drop-paste, paste-zero, drop-drop}
+use lib.Seq.{take-all, take-at, take-length, length-take-le, take-append-le, take-append-add, take-paste, drop-paste, paste-zero, drop-drop}
 use Rattle.text.specs.Put.{fitting, written, Puts}
 
 module _ (old : List ℕ) (at : ℕ) (bytes : List ℕ) where
@@ -72,3 +72,17 @@ module _ {old : List ℕ} {at : ℕ} {x y : List ℕ} {e f : ℕ} {mid new : Lis
           let l = long in
           let a = first .ends in
           second .is ∙ (beyond mid e y (omega arith) ∙ (first .is ∙ (beyond old at x (omega arith) ∙ sym (beyond old at (x ++ y) (omega arith)))))
+
+-- What was put in front stands there, as far as there was room.
+pub put-front : (bytes old : List ℕ) (n : ℕ) (new : List ℕ) → Puts old 0 bytes n new → take n new ≡ take (length old) bytes
+unfolding written
+put-front bytes old n new c =
+    let k = fitting old 0 bytes in
+    let here : n ≡ k = omega (arith, c .ends) in
+    rw (c .is) (take-at (take k bytes) (drop (0 + k) old) n (length-take-le k bytes (omega arith) ∙ sym here) ∙ go (leb (length bytes) (length old)) refl)
+  where
+    go : (b : Bool) → leb (length bytes) (length old) ≡ b → take (fitting old 0 bytes) bytes ≡ take (length old) bytes
+    go true e =
+        let h = leb-true (length bytes) (length old) e in
+        take-all (fitting old 0 bytes) bytes (omega arith) ∙ sym (take-all (length old) bytes h)
+    go false e = let h = leb-false (length bytes) (length old) e in let same : fitting old 0 bytes ≡ length old = omega arith in rw same

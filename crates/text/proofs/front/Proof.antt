@@ -1,7 +1,6 @@
 -- `text::front` meets its contract. Assumes nothing.
 use native.Mathlib.Omega.{arith}
-use mathlib.Core.Path.{sym, _≡_, refl}
-use lib.ListN.{length, take}
+use mathlib.Core.Path.{sym, _≡_}
 use lib.Seq.{take-all}
 use Prim.Native.Nat.{_-_}
 use borrow.Author.Needs.{needs}

@@ -1,5 +1,4 @@
 -- `play::log::copy_message` meets its contract. Assumes nothing.
-use mathlib.Core.Path.{refl, sym}
 use borrow.Author.Needs.{needs}
 use Rattle.play.specs.Log.{message}
 use Rattle.play.proofs.log.copy_message.Statement.{statement}

@@ -1,5 +1,4 @@
 -- `play::world::fresh` meets its contract. Assumes nothing.
-use mathlib.Core.Path.{refl}
 use borrow.Author.Needs.{needs}
 use Rattle.play.specs.Worlds.{freshWorld}
 use Rattle.play.proofs.world.fresh.Statement.{statement}
