@@ -12,7 +12,7 @@ use Rattle.text.specs.Hex.{hex}
 use Rattle.text.specs.Line.{lines}
 use Rattle.play.specs.Grammar.{command}
 use Rattle.play.specs.Output.{header, stamp, said, line}
-use Rattle.play.specs.Player.{Turn, addressee, does, clientsTurn, turn}
+use Rattle.play.specs.Player.{Turn, addressee, does, clientTurn, replicaTurn, turn}
 use Rattle.play.specs.Script.{startPlace, step, keptByte, keptOf}
 use Rattle.play.specs.Session.{printedLines, printed}
 use Rattle.play.specs.Worlds.{freshWorld, emptyStore}
@@ -80,7 +80,7 @@ line-room number what card h = simp length-append (omega (arith, digits-room 19 
 
 -- A line shows a card of at most 17 bytes.
 card-room : (world : World) (store text : List ℕ) (party : Addressee) → length (does world store text party .card) ≤ 17
-unfolding does clientsTurn
+unfolding does clientTurn replicaTurn
 card-room world store text (ToTheClient id call) = simp length-take (omega arith)
 card-room world store text (ToTheReplica id m) = omega arith
 card-room world store text Nobody = omega arith

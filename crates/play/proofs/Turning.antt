@@ -16,7 +16,7 @@ use Rattle.client.specs.declared.Stepped.{Stepped as ClientStepped}
 use Rattle.replica.specs.declared.Stepped.{Stepped as ReplicaStepped}
 use Rattle.play.specs.Calls.{sentBefore, clientDoes, replicaDoes, ClientLeaves, ReplicaLeaves}
 use Rattle.play.specs.Grammar.{command}
-use Rattle.play.specs.Player.{saidOf, loggedBy, reply, clientsTurn, replicasTurn, addressee, does, turn, Says, ClientsFollow, ReplicasFollow, Plays}
+use Rattle.play.specs.Player.{saidOf, loggedBy, reply, clientTurn, replicaTurn, addressee, does, turn, Says, Plays}
 use Rattle.play.specs.Worlds.{clientSeat, replicaSeat}
 use Rattle.play.specs.declared.calls.Call.{Call}
 use Rattle.play.specs.declared.log.Log.{Log}
@@ -25,49 +25,50 @@ use Rattle.play.specs.declared.output.Said.the-variants.{Unread as NotRe
 use Rattle.play.specs.declared.output.Saying.{Saying}
 use Rattle.play.specs.declared.grammar.Command.{Command}
 use Rattle.play.specs.declared.turn.Addressee.{Addressee}
-use Rattle.play.specs.declared.turn.Addressee.the-variants.{Client as ToTheClient, Replica as ToTheReplica, Nobody}
-use Rattle.play.specs.declared.turn.ClientsTurned.{ClientsTurned}
-use Rattle.play.specs.declared.turn.ReplicasTurned.{ReplicasTurned}
+use Rattle.play.specs.declared.turn.Addressee.the-variants.{Nobody}
+use Rattle.play.specs.declared.turn.Turned.{Turned}
 use Rattle.play.specs.declared.world.World.{World}
 
-module _ (log : Log) (store : List ℕ) (answer : ClientAnswer) (next : Log) (what : Said) (old : List ℕ)
-    (kept : next ≡ loggedBy answer log) (says : what ≡ saidOf (log .count) answer) where
-  module _ (replicas : List Replica) (id : ReplicaId) (m i : ℕ) (one : Replica) (stepped : ReplicaStepped) (at : i ≡ replicaSeat id)
-      (first : one ≡ getD replicas i noReplica) (given : answer ≡ reply (stepped .answer))
-      (does : ReplicaLeaves (replicaDoes one log store m) (sentBefore log store) stepped old) where
-    pub replicas-follow : ReplicasFollow (replicasTurn replicas log store id m) (record { replicas = set replicas i (stepped .replica); log = next; said = what }) old
-    unfolding replicasTurn
-    replicas-follow =
-        let party : one ≡ getD replicas (replicaSeat id) noReplica = first ∙ ap (λ (k : ℕ). getD replicas k noReplica) at in
-        let d = subst (λ (r : Replica). ReplicaLeaves (replicaDoes r log store m) (sentBefore log store) stepped old) party does in
+module _ (world : World) (store : List ℕ) (answer : ClientAnswer) (next : Log) (what : Said) (old : List ℕ) (kept : next ≡ loggedBy answer (world .log))
+    (says : what ≡ saidOf (world .log .count) answer) where
+  module _ (id : ReplicaId) (m i : ℕ) (one : Replica) (stepped : ReplicaStepped) (saying : Saying) (at : i ≡ replicaSeat id) (first : one ≡ getD (world .replicas) i noReplica)
+      (given : answer ≡ reply (stepped .answer)) (does : ReplicaLeaves (replicaDoes one (world .log) store m) (sentBefore (world .log) store) stepped old)
+      (shown : Says what [] saying) where
+    pub replica-plays : Plays (replicaTurn world store id m)
+        (record { world = record { replicas = set (world .replicas) i (stepped .replica); clients = world .clients; log = next }; saying = saying }) old
+    unfolding replicaTurn
+    replica-plays =
+        let party : one ≡ getD (world .replicas) (replicaSeat id) noReplica = first ∙ ap (λ (k : ℕ). getD (world .replicas) k noReplica) at in
+        let d = subst (λ (r : Replica). ReplicaLeaves (replicaDoes r (world .log) store m) (sentBefore (world .log) store) stepped old) party does in
         let said = given ∙ ap reply (d .answer) in
+        let log = kept ∙ ap (λ (a : ClientAnswer). loggedBy a (world .log)) said in
+        let replicas = ap₂ (λ (k : ℕ) (r : Replica). set (world .replicas) k r) at (d .replica) in
         record {
-          replicas-are = ap₂ (λ (k : ℕ) (r : Replica). set replicas k r) at (d .replica);
-          log-is = kept ∙ ap (λ (a : ClientAnswer). loggedBy a log) said;
-          said-is = says ∙ ap (saidOf (log .count)) said;
+          world-is = ap₂ (λ (rs : List Replica) (l : Log). record { replicas = rs; clients = world .clients; log = l }) replicas log;
+          says = record { what-is = shown .what-is ∙ (says ∙ ap (saidOf (world .log .count)) said); card-is = shown .card-is };
           store-is = d .store-is;
         }
 
-  module _ (clients : List Client) (id : ClientId) (call : Call) (asked : List ℕ) (i : ℕ) (one : Client) (stepped : ClientStepped) (at : i ≡ clientSeat id)
-      (first : one ≡ getD clients i noClient) (given : answer ≡ stepped .answer) (does : ClientLeaves (clientDoes one log store asked call) (sentBefore log store) stepped old) where
-    abbrev turned : ClientsTurned
+  module _ (id : ClientId) (call : Call) (asked : List ℕ) (i : ℕ) (one : Client) (stepped : ClientStepped) (at : i ≡ clientSeat id) (first : one ≡ getD (world .clients) i noClient)
+      (given : answer ≡ stepped .answer) (does : ClientLeaves (clientDoes one (world .log) store asked call) (sentBefore (world .log) store) stepped old) where
+    abbrev turned : Turned
     turned =
         record {
-          clients = set clients i (stepped .client);
-          log = next;
+          world = record { replicas = world .replicas; clients = set (world .clients) i (stepped .client); log = next };
           saying = record { what = what; card = stepped .card; «card_length» = stepped .«card_length» };
         }
 
-    pub clients-follow : ClientsFollow (clientsTurn clients log store id call asked) turned old
-    unfolding clientsTurn
-    clients-follow =
-        let party : one ≡ getD clients (clientSeat id) noClient = first ∙ ap (λ (k : ℕ). getD clients k noClient) at in
-        let d = subst (λ (r : Client). ClientLeaves (clientDoes r log store asked call) (sentBefore log store) stepped old) party does in
+    pub client-plays : Plays (clientTurn world store id call asked) turned old
+    unfolding clientTurn
+    client-plays =
+        let party : one ≡ getD (world .clients) (clientSeat id) noClient = first ∙ ap (λ (k : ℕ). getD (world .clients) k noClient) at in
+        let d = subst (λ (r : Client). ClientLeaves (clientDoes r (world .log) store asked call) (sentBefore (world .log) store) stepped old) party does in
         let said = given ∙ d .answer in
+        let log = kept ∙ ap (λ (a : ClientAnswer). loggedBy a (world .log)) said in
+        let clients = ap₂ (λ (k : ℕ) (r : Client). set (world .clients) k r) at (d .client) in
         record {
-          clients-are = ap₂ (λ (k : ℕ) (r : Client). set clients k r) at (d .client);
-          log-is = kept ∙ ap (λ (a : ClientAnswer). loggedBy a log) said;
-          says = record { what-is = says ∙ ap (saidOf (log .count)) said; card-is = ap₂ (λ (k : ℕ) (l : List ℕ). cardIn l k) (d .«card_length») (d .card) };
+          world-is = ap₂ (λ (cs : List Client) (l : Log). record { replicas = world .replicas; clients = cs; log = l }) clients log;
+          says = record { what-is = says ∙ ap (saidOf (world .log .count)) said; card-is = ap₂ (λ (k : ℕ) (l : List ℕ). cardIn l k) (d .«card_length») (d .card) };
           store-is = d .store-is;
         }
 
@@ -82,29 +83,10 @@ module _ (world : World) (store text : List ℕ) (asked : Command) (party : Addr
   found : addressee (world .log .count) (command text) ≡ party
   found = ap (addressee (world .log .count)) (sym reads) ∙ sym finds
 
-  pub client-plays : (id : ClientId) (call : Call) (turned : ClientsTurned) → party ≡ ToTheClient id call → ClientsFollow (clientsTurn (world .clients) (world .log) store id call text) turned old
-      → Plays (turn world store text) (record { world = record { replicas = world .replicas; clients = turned .clients; log = turned .log }; saying = turned .saying }) old
-  unfolding turn does
-  client-plays id call turned known f =
-      rw (found, known)
-      (record {
-        world-is = ap₂ (λ (cs : List Client) (l : Log). record { replicas = world .replicas; clients = cs; log = l }) (f .clients-are) (f .log-is);
-        says = f .says;
-        store-is = f .store-is;
-      })
+  pub turn-plays : (turned : Turned) (known : Addressee) → party ≡ known → Plays (does world store text known) turned old → Plays (turn world store text) turned old
+  unfolding turn
+  turn-plays turned known e p = rw (found, e) p
 
-  pub replica-plays : (id : ReplicaId) (m : ℕ) (turned : ReplicasTurned) (saying : Saying) → party ≡ ToTheReplica id m
-      → ReplicasFollow (replicasTurn (world .replicas) (world .log) store id m) turned old → Says (turned .said) [] saying
-      → Plays (turn world store text) (record { world = record { replicas = turned .replicas; clients = world .clients; log = turned .log }; saying = saying }) old
-  unfolding turn does
-  replica-plays id m turned saying known f s =
-      rw (found, known)
-      (record {
-        world-is = ap₂ (λ (rs : List Replica) (l : Log). record { replicas = rs; clients = world .clients; log = l }) (f .replicas-are) (f .log-is);
-        says = record { what-is = s .what-is ∙ f .said-is; card-is = s .card-is };
-        store-is = f .store-is;
-      })
-
-  pub nobody-plays : (saying : Saying) → party ≡ Nobody → Says NotRead [] saying → old ≡ store → Plays (turn world store text) (record { world = world; saying = saying }) old
-  unfolding turn does
-  nobody-plays saying known s same = rw (found, known) (record { world-is = refl; says = s; store-is = same })
+  pub nobody-plays : (saying : Saying) → Says NotRead [] saying → old ≡ store → Plays (does world store text Nobody) (record { world = world; saying = saying }) old
+  unfolding does
+  nobody-plays saying s same = record { world-is = refl; says = s; store-is = same }

@@ -10,10 +10,8 @@ use Rattle.base.specs.declared.party.ReplicaId.{ReplicaId}
 use Rattle.protocol.specs.Parts.{cardIn}
 use Rattle.protocol.specs.Replica.{noReplica, ReplicaCall}
 use Rattle.protocol.specs.Client.{noClient, ClientCall}
-use Rattle.protocol.specs.declared.replica.Replica.{Replica}
 use Rattle.protocol.specs.declared.replica.ReplicaAnswer.{ReplicaAnswer}
 use Rattle.protocol.specs.declared.replica.ReplicaAnswer.the-variants.{Send as Sends, Refused as Refuses}
-use Rattle.protocol.specs.declared.client.Client.{Client}
 use Rattle.protocol.specs.declared.client.ClientAnswer.{ClientAnswer}
 use Rattle.protocol.specs.declared.client.ClientAnswer.the-variants.{Send, Counted, Done, Ended, Refused}
 use Rattle.play.specs.Calls.{sentBefore, clientDoes, replicaDoes}
@@ -30,8 +28,6 @@ use Rattle.play.specs.declared.output.Saying.{Saying}
 use Rattle.play.specs.declared.output.Said.the-variants.{Sent, Taken, Done as Finished, Ended as NoSuccessor, Refused as TurnedDown, Unread as NotRead}
 use Rattle.play.specs.declared.turn.Addressee.{Addressee}
 use Rattle.play.specs.declared.turn.Addressee.the-variants.{Client as ToTheClient, Replica as ToTheReplica, Nobody}
-use Rattle.play.specs.declared.turn.ClientsTurned.{ClientsTurned}
-use Rattle.play.specs.declared.turn.ReplicasTurned.{ReplicasTurned}
 use Rattle.play.specs.declared.turn.Turned.{Turned}
 use Rattle.play.specs.declared.world.World.{World}
 
@@ -57,49 +53,45 @@ reply (Sends size) = Send size
 reply (Refuses number) = Refused number
 
 -- What a line leaves: the parties, the messages sent and the store that holds them; and what is said of it, with the card that `done` shows.
-pub record ClientsTurn : Type 0 where
-  pub clients : List Client
-  pub log : Log
-  pub store : List ℕ
-  pub said : Said
-  pub card : List ℕ
-
-pub record ReplicasTurn : Type 0 where
-  pub replicas : List Replica
-  pub log : Log
-  pub store : List ℕ
-  pub said : Said
-
 pub record Turn : Type 0 where
   pub world : World
   pub store : List ℕ
   pub said : Said
   pub card : List ℕ
 
-abbrev pub afterClient : List Client → Log → List ℕ → ClientId → ClientCall → ClientsTurn
-afterClient clients log store id call =
+abbrev pub afterClient : World → List ℕ → ClientId → ClientCall → Turn
+afterClient world store id call =
     record {
-      clients = set clients (clientSeat id) (call .client);
-      log = loggedBy (call .answer) log;
-      store = sentBefore log store ++ call .output;
-      said = saidOf (log .count) (call .answer);
+      world =
+          record {
+            replicas = world .replicas;
+            clients = set (world .clients) (clientSeat id) (call .client);
+            log = loggedBy (call .answer) (world .log);
+          };
+      store = sentBefore (world .log) store ++ call .output;
+      said = saidOf (world .log .count) (call .answer);
       card = cardIn (call .card) (call .«card_length»);
     }
 
-abbrev pub afterReplica : List Replica → Log → List ℕ → ReplicaId → ReplicaCall → ReplicasTurn
-afterReplica replicas log store id call =
+abbrev pub afterReplica : World → List ℕ → ReplicaId → ReplicaCall → Turn
+afterReplica world store id call =
     record {
-      replicas = set replicas (replicaSeat id) (call .replica);
-      log = loggedBy (reply (call .answer)) log;
-      store = sentBefore log store ++ call .output;
-      said = saidOf (log .count) (reply (call .answer));
+      world =
+          record {
+            replicas = set (world .replicas) (replicaSeat id) (call .replica);
+            clients = world .clients;
+            log = loggedBy (reply (call .answer)) (world .log);
+          };
+      store = sentBefore (world .log) store ++ call .output;
+      said = saidOf (world .log .count) (reply (call .answer));
+      card = [];
     }
 
-unfoldable pub clientsTurn : List Client → Log → List ℕ → ClientId → Call → List ℕ → ClientsTurn
-clientsTurn clients log store id call text = afterClient clients log store id (clientDoes (getD clients (clientSeat id) noClient) log store text call)
+unfoldable pub clientTurn : World → List ℕ → ClientId → Call → List ℕ → Turn
+clientTurn world store id call text = afterClient world store id (clientDoes (getD (world .clients) (clientSeat id) noClient) (world .log) store text call)
 
-unfoldable pub replicasTurn : List Replica → Log → List ℕ → ReplicaId → ℕ → ReplicasTurn
-replicasTurn replicas log store id m = afterReplica replicas log store id (replicaDoes (getD replicas (replicaSeat id) noReplica) log store m)
+unfoldable pub replicaTurn : World → List ℕ → ReplicaId → ℕ → Turn
+replicaTurn world store id m = afterReplica world store id (replicaDoes (getD (world .replicas) (replicaSeat id) noReplica) (world .log) store m)
 
 abbrev pub ifSent : ℕ → ℕ → Addressee → Addressee
 ifSent count m party = cond (within 1 count m) party Nobody
@@ -112,27 +104,9 @@ addressee count (ToReplica id m) = ifSent count m (ToTheReplica id m)
 addressee count (ToClient id m) = ifSent count m (ToTheClient id (Deliver m))
 addressee count Unread = Nobody
 
-abbrev pub withClients : World → ClientsTurn → Turn
-withClients world turned =
-    record {
-      world = record { replicas = world .replicas; clients = turned .clients; log = turned .log };
-      store = turned .store;
-      said = turned .said;
-      card = turned .card;
-    }
-
-abbrev pub withReplicas : World → ReplicasTurn → Turn
-withReplicas world turned =
-    record {
-      world = record { replicas = turned .replicas; clients = world .clients; log = turned .log };
-      store = turned .store;
-      said = turned .said;
-      card = [];
-    }
-
 unfoldable pub does : World → List ℕ → List ℕ → Addressee → Turn
-does world store text (ToTheClient id call) = withClients world (clientsTurn (world .clients) (world .log) store id call text)
-does world store text (ToTheReplica id m) = withReplicas world (replicasTurn (world .replicas) (world .log) store id m)
+does world store text (ToTheClient id call) = clientTurn world store id call text
+does world store text (ToTheReplica id m) = replicaTurn world store id m
 does world store text Nobody = record { world = world; store = store; said = NotRead; card = [] }
 
 -- One line of the input.
@@ -145,18 +119,6 @@ turn world store text = does world store text (addressee (world .log .count) (co
 pub record Says (said : Said) (card : List ℕ) (saying : Saying) : Type 0 where
   pub what-is : saying .what ≡ said
   pub card-is : cardIn (saying .card) (saying .«card_length») ≡ card
-
-pub record ClientsFollow (turn : ClientsTurn) (turned : ClientsTurned) (store : List ℕ) : Type 0 where
-  pub clients-are : turned .clients ≡ turn .clients
-  pub log-is : turned .log ≡ turn .log
-  pub says : Says (turn .said) (turn .card) (turned .saying)
-  pub store-is : store ≡ turn .store
-
-pub record ReplicasFollow (turn : ReplicasTurn) (turned : ReplicasTurned) (store : List ℕ) : Type 0 where
-  pub replicas-are : turned .replicas ≡ turn .replicas
-  pub log-is : turned .log ≡ turn .log
-  pub said-is : turned .said ≡ turn .said
-  pub store-is : store ≡ turn .store
 
 pub record Plays (turn : Turn) (turned : Turned) (store : List ℕ) : Type 0 where
   pub world-is : turned .world ≡ turn .world

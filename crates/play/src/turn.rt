@@ -10,31 +10,17 @@ use crate::world::client_seat;
 use crate::world::replica_seat;
 use base::party::ClientId;
 use base::party::ReplicaId;
-use protocol::client::Client;
 use protocol::client::ClientAnswer;
-use protocol::replica::Replica;
 use protocol::replica::ReplicaAnswer;
 ghost use mathlib.Core.Path.{_≡_};
 ghost use Rattle.base.specs.Range.{within};
-ghost use Rattle.play.specs.Player.{saidOf, loggedBy, reply, addressee, clientsTurn, replicasTurn, turn, ClientsFollow, ReplicasFollow, Plays};
+ghost use Rattle.play.specs.Player.{saidOf, loggedBy, reply, addressee, clientTurn, replicaTurn, turn, Plays};
 
 // Whom a command is addressed to, and for what.
 pub enum Addressee {
     Client(ClientId, Call),
     Replica(ReplicaId, usize),
     Nobody,
-}
-
-struct ClientsTurned {
-    clients: [Client; 4],
-    log: Log,
-    saying: Saying,
-}
-
-struct ReplicasTurned {
-    replicas: [Replica; 4],
-    log: Log,
-    said: Said,
 }
 
 pub struct Turned {
@@ -105,27 +91,24 @@ fn addressed(command: Command, count: u8) -> Addressee
     }
 }
 
-fn clients_turn(
-    clients: [Client; 4],
-    log: Log,
-    id: ClientId,
-    call: Call,
-    line: &[u8],
-    store: &mut [u8],
-) -> ClientsTurned
-    ensures { λ r. ⌜ ClientsFollow (clientsTurn clients log (now (store .entry)) id call (now (line .entry))) r (now (store .exit)) ⌝ }
+// A client's call, and what that leaves.
+fn client_turn(world: World, id: ClientId, call: Call, line: &[u8], store: &mut [u8]) -> Turned
+    ensures { λ r. ⌜ Plays (clientTurn world (now (store .entry)) id call (now (line .entry))) r (now (store .exit)) ⌝ }
 {
+    let log = world.log;
+    let clients = world.clients;
     let i = client_seat(id);
     let client = clients[i];
     let stepped = crate::calls::client_does(client, log, call, line, store);
     let next = stepped.client;
     let answer = stepped.answer;
     let card = stepped.card;
-    let mut after = clients;
-    after[i] = next;
-    ClientsTurned {
-        clients: after,
-        log: logged(log, answer),
+    let longer = logged(log, answer);
+    let mut after = world;
+    after.clients[i] = next;
+    after.log = longer;
+    Turned {
+        world: after,
         saying: Saying {
             what: said(log.count, answer),
             card: card,
@@ -134,27 +117,25 @@ fn clients_turn(
     }
 }
 
-fn replicas_turn(
-    replicas: [Replica; 4],
-    log: Log,
-    id: ReplicaId,
-    m: usize,
-    store: &mut [u8],
-) -> ReplicasTurned
-    ensures { λ r. ⌜ ReplicasFollow (replicasTurn replicas log (now (store .entry)) id m) r (now (store .exit)) ⌝ }
+// A replica's call, and what that leaves.
+fn replica_turn(world: World, id: ReplicaId, m: usize, store: &mut [u8]) -> Turned
+    ensures { λ r. ⌜ Plays (replicaTurn world (now (store .entry)) id m) r (now (store .exit)) ⌝ }
 {
+    let log = world.log;
+    let replicas = world.replicas;
     let i = replica_seat(id);
     let replica = replicas[i];
     let stepped = crate::calls::replica_does(replica, log, m, store);
     let next = stepped.replica;
     let given = stepped.answer;
     let answer = reply(given);
-    let mut after = replicas;
-    after[i] = next;
-    ReplicasTurned {
-        replicas: after,
-        log: logged(log, answer),
-        said: said(log.count, answer),
+    let longer = logged(log, answer);
+    let mut after = world;
+    after.replicas[i] = next;
+    after.log = longer;
+    Turned {
+        world: after,
+        saying: without_card(said(log.count, answer)),
     }
 }
 
@@ -163,37 +144,9 @@ pub(super) fn turn(world: World, line: &[u8], store: &mut [u8]) -> Turned
     ensures { λ r. ⌜ Plays (turn world (now (store .entry)) (now (line .entry))) r (now (store .exit)) ⌝ }
 {
     let log = world.log;
-    let replicas = world.replicas;
-    let clients = world.clients;
     match addressed(crate::grammar::parse(line), log.count) {
-        Addressee::Client(id, call) => {
-            let turned = clients_turn(clients, log, id, call, line, store);
-            let after = turned.clients;
-            let longer = turned.log;
-            let saying = turned.saying;
-            Turned {
-                world: World {
-                    replicas: replicas,
-                    clients: after,
-                    log: longer,
-                },
-                saying: saying,
-            }
-        }
-        Addressee::Replica(id, m) => {
-            let turned = replicas_turn(replicas, log, id, m, store);
-            let after = turned.replicas;
-            let longer = turned.log;
-            let said = turned.said;
-            Turned {
-                world: World {
-                    replicas: after,
-                    clients: clients,
-                    log: longer,
-                },
-                saying: without_card(said),
-            }
-        }
+        Addressee::Client(id, call) => client_turn(world, id, call, line, store),
+        Addressee::Replica(id, m) => replica_turn(world, id, m, store),
         Addressee::Nobody => Turned {
             world: world,
             saying: without_card(Said::Unread),
