@@ -1,4 +1,4 @@
-// Lines, hex digits and numbers as text, for the programs that test the crates.
+// Lines, hex digits and numbers as text, for the player and the programs that test the crates.
 use base::party::within;
 use libc::STDIN_FILENO;
 use libc::STDOUT_FILENO;
