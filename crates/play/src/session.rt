@@ -11,7 +11,7 @@ ghost use Rattle.play.specs.Player.{turn};
 ghost use Rattle.play.specs.Session.{printedLines, printed, PlaysLine};
 ghost use Rattle.play.specs.Worlds.{emptyStore};
 
-// What a line leaves: the world, and the place behind what is printed.
+// What the lines so far leave: the world, and the place behind what is printed.
 struct Played {
     world: World,
     end: usize,
@@ -21,19 +21,13 @@ struct Played {
 const LINES: u8 = 100;
 
 // Plays the line of this number, and prints what it says.
-fn play_line(
-    world: World,
-    number: u8,
-    line: &[u8],
-    store: &mut [u8],
-    out: &mut [u8],
-    at: usize,
-) -> Played
-    ensures { λ r. ⌜ PlaysLine (turn world (now (store .entry)) (now (line .entry))) number (now (out .entry)) at r (now (store .exit)) (now (out .exit)) ⌝ }
+fn play_line(before: Played, number: u8, line: &[u8], store: &mut [u8], out: &mut [u8]) -> Played
+    ensures { λ r. ⌜ PlaysLine (turn (before .world) (now (store .entry)) (now (line .entry))) number (now (out .entry)) (before .end) r (now (store .exit)) (now (out .exit)) ⌝ }
 {
+    let world = before.world;
     let turned = turn(world, line, store);
     let saying = turned.saying;
-    let end = put_line(out, at, number, saying);
+    let end = put_line(out, before.end, number, saying);
     let after = turned.world;
     Played {
         world: after,
@@ -41,26 +35,23 @@ fn play_line(
     }
 }
 
-// Plays the first 100 lines of a script, and prints from a place on.
-fn play_lines(world: World, script: &[u8], store: &mut [u8], out: &mut [u8], at: usize) -> usize
-    ensures { λ r. ⌜ Puts (now (out .entry)) at (printedLines world (now (store .entry)) 1 (take 100 (lines (now (script .entry))))) r (now (out .exit)) ⌝ }
+// Plays the first 100 lines of a script; answers the place behind what is printed.
+fn play_lines(begun: Played, script: &[u8], store: &mut [u8], out: &mut [u8]) -> usize
+    ensures { λ r. ⌜ Puts (now (out .entry)) (begun .end) (printedLines (begun .world) (now (store .entry)) 1 (take 100 (lines (now (script .entry))))) r (now (out .exit)) ⌝ }
 {
-    let mut after = world;
+    let mut played = begun;
     let mut number: u8 = 0;
     let mut from = 0;
-    let mut next = at;
     while from < script.len() {
         if number == LINES {
-            return next;
+            return played.end;
         }
         number += 1;
         let end = text::line_end(script, from);
-        let played = play_line(after, number, &script[from..end], store, out, next);
-        after = played.world;
-        next = played.end;
+        played = play_line(played, number, &script[from..end], store, out);
         from = end + 1;
     }
-    next
+    played.end
 }
 
 // Room for 100 messages, in a function of its own, so that no other's proof has to unfold so long an array.
@@ -77,5 +68,9 @@ pub fn play(script: &[u8], out: &mut [u8]) -> usize
 {
     let mut sent = store();
     let at = text::put(out, 0, b"holders 4 desks 4\n");
-    play_lines(fresh(), script, &mut sent, out, at)
+    let begun = Played {
+        world: fresh(),
+        end: at,
+    };
+    play_lines(begun, script, &mut sent, out)
 }

@@ -32,23 +32,35 @@ fn client(id: ClientId) -> Client
     client::fresh(FAULT_BOUND, id, FIRST_NONCE).client
 }
 
+fn replicas() -> [Replica; 4]
+    ensures { λ r. ⌜ r ≡ freshWorld .replicas ⌝ }
+{
+    [
+        replica(ReplicaId(1)),
+        replica(ReplicaId(2)),
+        replica(ReplicaId(3)),
+        replica(ReplicaId(4)),
+    ]
+}
+
+fn clients() -> [Client; 4]
+    ensures { λ r. ⌜ r ≡ freshWorld .clients ⌝ }
+{
+    [
+        client(ClientId(1)),
+        client(ClientId(2)),
+        client(ClientId(3)),
+        client(ClientId(4)),
+    ]
+}
+
 // The world before the first line.
 pub fn fresh() -> World
     ensures { λ r. ⌜ r ≡ freshWorld ⌝ }
 {
     World {
-        replicas: [
-            replica(ReplicaId(1)),
-            replica(ReplicaId(2)),
-            replica(ReplicaId(3)),
-            replica(ReplicaId(4)),
-        ],
-        clients: [
-            client(ClientId(1)),
-            client(ClientId(2)),
-            client(ClientId(3)),
-            client(ClientId(4)),
-        ],
+        replicas: replicas(),
+        clients: clients(),
         log: crate::log::empty(),
     }
 }

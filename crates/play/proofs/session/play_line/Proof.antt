@@ -13,7 +13,7 @@ returns : tie.Need-returns
 returns c =
     let p = c .before .before .before in
     let t = p .before .before .before .before .before in
-    let a = t .before .before .before .before .before .args in
+    let a = t .before .before .before .before .before .before .args in
     let e = t .turn .ensures in
     record {
       world-is = e .world-is;
