@@ -5,8 +5,6 @@ use Prim.Native.Nat.{ℕ, _+_, _-_, _*_, _%_}
 use lib.Dec.{eqb, ltb}
 use lib.ListN.{length, getD, drop}
 use Rattle.base.specs.Range.{within}
-use Rattle.base.specs.declared.party.ClientId.{ClientId}
-use Rattle.base.specs.declared.party.ReplicaId.{ReplicaId}
 use Rattle.wire.specs.Checks.{all}
 use Rattle.play.specs.declared.grammar.Command.{Command}
 use Rattle.play.specs.declared.grammar.Command.the-variants.{Write, Read, ToReplica, ToClient, Unread}

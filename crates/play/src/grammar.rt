@@ -2,8 +2,9 @@
 use base::party::ClientId;
 use base::party::ReplicaId;
 use base::party::within;
+use text::behind;
 ghost use mathlib.Core.Path.{_≡_};
-ghost use lib.ListN.{getD, drop};
+ghost use lib.ListN.{getD};
 ghost use Rattle.wire.specs.Checks.{all};
 ghost use Rattle.play.specs.Grammar.{isHexDigit, isCard, numeral, messageNumber, asked, command};
 
@@ -29,17 +30,6 @@ fn byte_at(line: &[u8], at: usize) -> u8
         return line[at];
     }
     0
-}
-
-// What stands from a place on.
-pub(super) fn behind(line: &[u8], at: usize) -> &[u8]
-    ensures { λ r. ⌜ now r ≡ drop at (now (line .entry)) ⌝ }
-{
-    if at < line.len() {
-        return &line[at..];
-    }
-    let end = line.len();
-    &line[end..]
 }
 
 fn is_hex_digit(byte: u8) -> bool

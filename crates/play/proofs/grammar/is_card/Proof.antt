@@ -1,7 +1,5 @@
 -- `play::grammar::is_card` meets its contract. Assumes nothing.
-use mathlib.Core.Path.{refl, sym, _≡_, _∙_}
 use native.Mathlib.Omega.{arith}
-use mathlib.Core.Bool.{true, false}
 use Prim.Native.Nat.{_%_}
 use lib.ListN.{length}
 use borrow.Author.Tests.{eq-eqb, ne-eqb}
