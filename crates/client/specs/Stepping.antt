@@ -5,7 +5,7 @@ use Prim.Native.Nat.{ℕ}
 use Rattle.base.specs.Outcome.{Outcome}
 use Rattle.base.specs.Party.{clientSetup, setupOutcome}
 use Rattle.base.specs.declared.party.ClientId.{ClientId}
-use Rattle.protocol.specs.Client.{Turn, ClientCall, madeClient, answerOutcome, stepOutcome}
+use Rattle.protocol.specs.Client.{Turn, ClientCall, madeClient, clientOutcome, stepOutcome}
 use Rattle.client.specs.declared.NewClient.{NewClient}
 use Rattle.client.specs.declared.Stepped.{Stepped}
 
@@ -22,4 +22,4 @@ pub record Calls (made : ClientCall) (step : Outcome Turn) (stepped : Stepped) (
   pub client : stepped .client ≡ made .client
   pub output : new ≡ made .output
   -- What the answer stands for, with the card beside it and the message in the output.
-  pub says : answerOutcome (stepped .answer) (stepped .«card_length») (stepped .card) new ≡ stepOutcome step
+  pub says : clientOutcome (stepped .answer) (stepped .«card_length») (stepped .card) new ≡ stepOutcome step

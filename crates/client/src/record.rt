@@ -117,18 +117,18 @@ pub(super) fn with_signatures(client: Client, signatures: [u8; SIGNATURES_ROOM])
 }
 
 // The counted replicas and their signatures as a proof's entries.
-pub(super) fn built(client: Client, counts: ReplicaSet) -> Built
-    ensures { λ r. ⌜ Keeps (built client counts (client .signatures)) (r .count) (r .entries) ⌝ }
+pub(super) fn built(client: Client, counted: ReplicaSet) -> Built
+    ensures { λ r. ⌜ Keeps (built client counted (client .signatures)) (r .count) (r .entries) ⌝ }
 {
     let signatures = client.signatures;
-    crate::signatures::gather(base::party::replica_count(client.f), counts, &signatures)
+    crate::signatures::gather(base::party::replica_count(client.f), counted, &signatures)
 }
 
 // The client's own write is finished: its WRITTENs are the last written proof.
-pub(super) fn with_last_written(client: Client, timestamp: Timestamp, counts: ReplicaSet) -> Client
-    ensures { λ r. ⌜ r ≡ withLastWritten timestamp (built client counts (client .signatures)) client ⌝ }
+pub(super) fn with_last_written(client: Client, timestamp: Timestamp, counted: ReplicaSet) -> Client
+    ensures { λ r. ⌜ r ≡ withLastWritten timestamp (built client counted (client .signatures)) client ⌝ }
 {
-    let proof = built(client, counts);
+    let proof = built(client, counted);
     let entries = proof.entries;
     let mut next = client;
     next.written = timestamp;

@@ -38,14 +38,14 @@ pub(super) fn with_signature(
 fn add_entry(
     entries: &mut [u8],
     count: u8,
-    counts: ReplicaSet,
+    counted: ReplicaSet,
     id: ReplicaId,
     signatures: &[u8],
 ) -> u8
     requires { ⌜ (1 ≤ id .0) × (id .0 ≤ 16) × (length (now entries) ≡ 715) × (length (now signatures) ≡ 1024) ⌝ }
-    ensures { λ r. ⌜ Added counts id (now (signatures .entry)) count (now (entries .entry)) r (now (entries .exit)) ⌝ }
+    ensures { λ r. ⌜ Added counted id (now (signatures .entry)) count (now (entries .entry)) r (now (entries .exit)) ⌝ }
 {
-    if !counts.has(id) {
+    if !counted.has(id) {
         return count;
     }
     if MOST_ENTRIES <= count {
@@ -60,16 +60,16 @@ fn add_entry(
 }
 
 // The counted replicas among 1 to n, in rising order.
-pub(super) fn gather(n: u8, counts: ReplicaSet, signatures: &[u8; SIGNATURES_ROOM]) -> Built
+pub(super) fn gather(n: u8, counted: ReplicaSet, signatures: &[u8; SIGNATURES_ROOM]) -> Built
     requires { ⌜ n ≤ 16 ⌝ }
-    ensures { λ r. ⌜ Keeps (take 11 (gathered n counts (now (signatures .entry)))) (r .count) (r .entries) ⌝ }
+    ensures { λ r. ⌜ Keeps (take 11 (gathered n counted (now (signatures .entry)))) (r .count) (r .entries) ⌝ }
 {
     let mut entries = [0u8; ENTRIES_ROOM];
     let mut count: u8 = 0;
     let mut id: u8 = 0;
     while id < n {
         id += 1;
-        count = add_entry(&mut entries, count, counts, ReplicaId(id), signatures);
+        count = add_entry(&mut entries, count, counted, ReplicaId(id), signatures);
     }
     Built {
         count: count,

@@ -10,7 +10,7 @@ use lib.ListN.{length, getD, take, drop, length-drop}
 use lib.Seq.{take-all, length-take-le}
 use Rattle.base.specs.Range.{within}
 use Rattle.base.proofs.Range.{above, below, bounds}
-use Rattle.play.specs.Grammar.{isCard, numeral, messageNumber, asked, short, command}
+use Rattle.play.specs.Grammar.{isHexCard, numeral, messageNumber, asked, short, command}
 use Rattle.play.specs.Output.{line}
 use Rattle.play.specs.Player.{Turn, addressee, does, turn}
 use Rattle.play.specs.Session.{printedLines}
@@ -61,7 +61,7 @@ long-number (a ∷ b ∷ c ∷ d ∷ digits) h = go (eqb a 48) refl
     go false e = first (eqb-false a 48 e) (within 48 57 a) refl
 
 asked-long : (count letter party : ℕ) (rest : List ℕ) → 35 ≤ length rest → addressee count (asked letter party rest) ≡ Nobody
-unfolding addressee asked isCard
+unfolding addressee asked isHexCard
 asked-long count letter party rest h =
     rw (long-number rest (omega arith), above 2 34 (length rest) (omega arith), and-false (eqb letter 119)) (go (eqb letter 104) (eqb letter 100))
   where

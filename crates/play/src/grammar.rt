@@ -6,7 +6,7 @@ use text::behind;
 ghost use mathlib.Core.Path.{_≡_};
 ghost use lib.ListN.{getD};
 ghost use Rattle.wire.specs.Checks.{all};
-ghost use Rattle.play.specs.Grammar.{isHexDigit, isCard, numeral, messageNumber, asked, command};
+ghost use Rattle.play.specs.Grammar.{isHexDigit, isHexCard, numeral, messageNumber, asked, command};
 
 // What a line asks for. A number that writes no message's number is 0.
 pub enum Command {
@@ -56,7 +56,7 @@ fn all_hex(digits: &[u8]) -> bool
 
 // 1 to 17 pairs of capital hex digits.
 fn is_card(digits: &[u8]) -> bool
-    ensures { λ r. ⌜ r ≡ isCard (now (digits .entry)) ⌝ }
+    ensures { λ r. ⌜ r ≡ isHexCard (now (digits .entry)) ⌝ }
 {
     if digits.len() < 2 {
         return false;

@@ -8,7 +8,7 @@ use native.Mathlib.Omega.{arith}
 use borrow.Author.Tests.{eqb-true}
 use lib.Dec.{eqb}
 use lib.ListN.{length, take, drop, replicate, length-append, length-take, length-drop, length-replicate}
-use lib.Seq.{length-take-le, take-append-le, drop-append-le, take-append-add, drop-append-add, take-append-seam, take-at, drop-at, take-take, drop-drop}
+use lib.Seq.{length-take-le, take-append-le, drop-append-le, drop-append-add, take-append-seam, take-at, drop-at, take-take, drop-drop}
 use Rattle.base.specs.BigEndian.{Bytes}
 use Rattle.base.specs.Bytes.{filled}
 use Rattle.base.proofs.BigEndian.{bytes-append, bytes-take, bytes-drop}

@@ -68,13 +68,6 @@ pub place-present : (bytes : List ℕ) (b : ℕ) → bit (mapIn bytes) b ≡ tru
 unfolding place
 place-present bytes b e = rw e
 
--- The bytes of a field by its rule.
-pub field-part : (bytes : List ℕ) (b : ℕ) → bit (mapIn bytes) b ≡ true → field bytes b ≡ take (extent (getD rules b (fixed 0)) (drop (place bytes b) bytes)) (drop (place bytes b) bytes)
-unfolding field
-field-part bytes b set =
-    let size : place bytes (suc b) - place bytes b ≡ extent (getD rules b (fixed 0)) (drop (place bytes b) bytes) = omega (arith, place-present bytes b set) in
-    rw size
-
 pub field-absent : (bytes : List ℕ) (b : ℕ) → bit (mapIn bytes) b ≡ false → field bytes b ≡ []
 unfolding field
 field-absent bytes b e = let none : place bytes (suc b) - place bytes b ≡ 0 = omega (arith, place-absent bytes b e) in rw none

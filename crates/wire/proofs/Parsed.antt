@@ -7,7 +7,7 @@ use mathlib.Core.Option.{Option, none, some}
 use Prim.Native.Nat.{ℕ, _+_, _≤_}
 use native.Mathlib.Omega.{arith}
 use lib.Dec.{eqb}
-use lib.ListN.{length, take, drop}
+use lib.ListN.{length, take}
 use Rattle.base.specs.BitMap.{bit}
 use Rattle.base.specs.Outcome.{Outcome, accepted, refused, guard}
 use Rattle.base.specs.Range.{within}
@@ -21,7 +21,7 @@ use Rattle.wire.specs.Proof.{PreparedProof, WrittenProof, preparedFrom, 
 use Rattle.wire.specs.declared.message.Fields.{Fields}
 use Rattle.wire.specs.declared.message.Party.{Party}
 use Rattle.wire.specs.declared.message.Party.the-variants.{Replica, Client}
-use Rattle.wire.proofs.Framed.{Framed, framed-passes, framed-accepted, field-part, field-whole, place-rises, place-within, place-one, place-two}
+use Rattle.wire.proofs.Framed.{Framed, framed-passes, framed-accepted, field-whole, place-rises, place-within, place-one, place-two}
 use Rattle.wire.proofs.ProofBytes.{accepts-prepared, accepts-written}
 use Rattle.wire.proofs.Rows.{Taken, read-stamp, prepare, write, read, stamp, prepared, written, card, Passed, row, accepted-passed}
 

@@ -8,7 +8,7 @@ use lib.ListN.{length, getD, take, length-append}
 use lib.Seq.{drop-at}
 use Rattle.base.specs.BigEndian.{fromBytes, toBytes}
 use Rattle.base.specs.BitMap.{bit, mapOf}
-use Rattle.base.specs.Outcome.{Outcome, accepted, refused}
+use Rattle.base.specs.Outcome.{Outcome, accepted}
 use Rattle.base.proofs.BigEndian.{length-toBytes, fromBytes-toBytes}
 use Rattle.wire.specs.Decode.{Kind, kinds, ofKind, tested, decode, takerOf, kindIn, optional, preparedIn, writtenIn}
 use Rattle.wire.specs.Layout.{mapIn, place, field, signature}

@@ -8,7 +8,8 @@ use Rattle.base.specs.declared.party.ClientId.{ClientId}
 use Rattle.base.specs.declared.party.ReplicaId.{ReplicaId}
 use Rattle.wire.specs.Message.{Message, READ-STAMP, PREPARE, WRITE, READ, STAMP, PREPARED, WRITTEN, CARD, fields, joined, body, encode}
 use Rattle.wire.specs.Proof.{PreparedProof, WrittenProof, preparedBytes, writtenBytes}
-use Rattle.wire.specs.Writing.{unsigned, question, unless, bytesUnless, sizedCard, blankSignature}
+use Rattle.wire.specs.Putting.{question, bytesUnless, sizedCard}
+use Rattle.wire.specs.Writing.{unsigned, unless, blankSignature}
 
 abbrev head : ℕ → ℕ → ℕ → List ℕ
 head map kind sender = toBytes 2 map ++ (toBytes 1 kind ++ toBytes 1 sender)

@@ -25,7 +25,8 @@ ghost use Prim.Native.Nat.{_≤_};
 ghost use lib.ListN.{length};
 ghost use Rattle.base.specs.Timestamp.{number};
 ghost use Rattle.wire.specs.Message.{READ-STAMP, PREPARE, WRITE, READ, STAMP, PREPARED, WRITTEN, CARD, body};
-ghost use Rattle.wire.specs.Writing.{Put, Wrote, unsigned, missing, unless, keptPrepared, keptWritten, keptCard, question};
+ghost use Rattle.wire.specs.Putting.{Put, question};
+ghost use Rattle.wire.specs.Writing.{Wrote, unsigned, missing, unless, keptPrepared, keptWritten, keptCard};
 
 // The length of what was written, or the refusal.
 pub enum Encoded {

@@ -11,7 +11,8 @@ ghost use Prim.Native.Nat.{_+_, _≤_, _<_, min};
 ghost use lib.ListN.{length, take};
 ghost use Rattle.base.specs.BigEndian.{toBytes};
 ghost use Rattle.base.specs.Timestamp.{number};
-ghost use Rattle.wire.specs.Writing.{Put, blankSignature, sizedCard, keptCard};
+ghost use Rattle.wire.specs.Putting.{Put, sizedCard};
+ghost use Rattle.wire.specs.Writing.{blankSignature, keptCard};
 
 // The first `count` of some bytes.
 pub(super) fn put_bytes(out: &mut [u8], at: usize, bytes: &[u8], count: usize) -> usize

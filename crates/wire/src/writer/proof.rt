@@ -14,7 +14,8 @@ ghost use mathlib.Core.Bool.{cond};
 ghost use Prim.Native.Nat.{_+_, _≤_};
 ghost use lib.ListN.{length};
 ghost use Rattle.wire.specs.Proof.{countedEntries, preparedBytes, writtenBytes};
-ghost use Rattle.wire.specs.Writing.{Put, keptEntries, keptPrepared, keptWritten, missing, bytesUnless};
+ghost use Rattle.wire.specs.Putting.{Put, bytesUnless};
+ghost use Rattle.wire.specs.Writing.{keptEntries, keptPrepared, keptWritten, missing};
 
 // The number of entries, and the entries.
 fn put_entries(out: &mut [u8], at: usize, entry_count: u8, entries: &[u8; ENTRIES_ROOM]) -> usize
