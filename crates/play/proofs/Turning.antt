@@ -6,7 +6,7 @@ use native.Mathlib.Omega.{arith}
 use lib.ListN.{length, getD, set}
 use Rattle.base.specs.declared.party.ClientId.{ClientId}
 use Rattle.base.specs.declared.party.ReplicaId.{ReplicaId}
-use Rattle.protocol.specs.Parts.{cardIn}
+use Rattle.protocol.specs.Parts.{cardKept}
 use Rattle.protocol.specs.Replica.{noReplica}
 use Rattle.protocol.specs.Client.{noClient}
 use Rattle.protocol.specs.declared.replica.Replica.{Replica}
@@ -68,7 +68,7 @@ module _ (world : World) (store : List ℕ) (answer : ClientAnswer) (next : Log)
         let clients = ap₂ (λ (k : ℕ) (r : Client). set (world .clients) k r) at (d .client) in
         record {
           world-is = ap₂ (λ (cs : List Client) (l : Log). record { replicas = world .replicas; clients = cs; log = l }) clients log;
-          says = record { what-is = says ∙ ap (saidOf (world .log .count)) said; card-is = ap₂ (λ (k : ℕ) (l : List ℕ). cardIn l k) (d .«card_length») (d .card) };
+          says = record { what-is = says ∙ ap (saidOf (world .log .count)) said; card-is = ap₂ (λ (k : ℕ) (l : List ℕ). cardKept l k) (d .«card_length») (d .card) };
           store-is = d .store-is;
         }
 

@@ -7,7 +7,7 @@ use lib.ListN.{getD, set}
 use Rattle.base.specs.Range.{within}
 use Rattle.base.specs.declared.party.ClientId.{ClientId}
 use Rattle.base.specs.declared.party.ReplicaId.{ReplicaId}
-use Rattle.protocol.specs.Parts.{cardIn}
+use Rattle.protocol.specs.Parts.{cardKept}
 use Rattle.protocol.specs.Replica.{noReplica, ReplicaCall}
 use Rattle.protocol.specs.Client.{noClient, ClientCall}
 use Rattle.protocol.specs.declared.replica.ReplicaAnswer.{ReplicaAnswer}
@@ -70,7 +70,7 @@ afterClient world store id call =
           };
       store = sentBefore (world .log) store ++ call .output;
       said = saidOf (world .log .count) (call .answer);
-      card = cardIn (call .card) (call .«card_length»);
+      card = cardKept (call .card) (call .«card_length»);
     }
 
 abbrev pub afterReplica : World → List ℕ → ReplicaId → ReplicaCall → Turn
@@ -118,7 +118,7 @@ turn world store text = does world store text (addressee (world .log .count) (co
 -- The code has the card in an array, with its length.
 pub record Says (said : Said) (card : List ℕ) (saying : Saying) : Type 0 where
   pub what-is : saying .what ≡ said
-  pub card-is : cardIn (saying .card) (saying .«card_length») ≡ card
+  pub card-is : cardKept (saying .card) (saying .«card_length») ≡ card
 
 pub record Plays (turn : Turn) (turned : Turned) (store : List ℕ) : Type 0 where
   pub world-is : turned .world ≡ turn .world

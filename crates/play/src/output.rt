@@ -7,7 +7,7 @@ use text::put_number;
 ghost use mathlib.Core.Path.{_≡_};
 ghost use mathlib.Core.List.{[], _++_};
 ghost use Prim.Native.Nat.{min};
-ghost use Rattle.protocol.specs.Parts.{cardIn};
+ghost use Rattle.protocol.specs.Parts.{cardKept};
 ghost use Rattle.text.specs.Decimal.{decimal};
 ghost use Rattle.text.specs.Put.{Puts};
 ghost use Rattle.play.specs.Output.{stamp, said, line};
@@ -88,7 +88,7 @@ fn card_length(length: u8) -> usize
 
 // A line of the output: the number of the input's line, and what is said of it.
 pub(super) fn put_line(out: &mut [u8], at: usize, number: u8, saying: Saying) -> usize
-    ensures { λ r. ⌜ Puts (now (out .entry)) at (line number (saying .what) (cardIn (saying .card) (saying .«card_length»))) r (now (out .exit)) ⌝ }
+    ensures { λ r. ⌜ Puts (now (out .entry)) at (line number (saying .what) (cardKept (saying .card) (saying .«card_length»))) r (now (out .exit)) ⌝ }
 {
     let what = saying.what;
     let card = saying.card;
