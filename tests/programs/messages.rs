@@ -1,4 +1,4 @@
-//! Messages for the program `messages`: two at a time for the later card, and the first by itself for its fields.
+//! Messages for the program `messages`: two at a time for the later card, and the first by itself for its fields and signatures.
 use crate::cards::{damaged_card, good_card};
 use crate::model::message::*;
 use crate::model::random::Random;
@@ -8,7 +8,7 @@ use crate::tally::Tally;
 const PAIRS: usize = 10_000;
 const ROOM: usize = 262_144;
 
-pub const FLOORS: [(&str, usize); 20] = [
+pub const FLOORS: [(&str, usize); 21] = [
     ("first later", 1_000),
     ("second later", 1_000),
     ("tie", 500),
@@ -27,6 +27,7 @@ pub const FLOORS: [(&str, usize); 20] = [
     ("read PREPARED", 50),
     ("read WRITTEN", 50),
     ("read CARD", 1_000),
+    ("signatures of both proofs", 50),
     ("longest message read", 10),
     ("one byte longer", 20),
 ];
@@ -272,8 +273,8 @@ fn fields(message: &Message) -> String {
     .concat()
 }
 
-/// What a party that takes these kinds reads: tests 2 to 5.
-fn reading(bytes: &[u8], to_replica: bool, tally: &mut Tally) -> String {
+/// The message that a party that takes these kinds reads: tests 2 to 5.
+fn read(bytes: &[u8], to_replica: bool) -> Result<Message, Refusal> {
     let kinds = if to_replica {
         READ_TIMESTAMP..=READ
     } else {
@@ -281,8 +282,15 @@ fn reading(bytes: &[u8], to_replica: bool, tally: &mut Tally) -> String {
     };
     // Without verdicts 7 refuses what passes 2 to 6, and no sender breaks 6.
     match check(bytes, &[], kinds, 0..=u8::MAX, 1) {
-        Err(7) => {
-            let message = Message::decode(bytes).expect("it passed 2 to 4");
+        Err(7) => Message::decode(bytes),
+        Err(refusal) => Err(refusal),
+        Ok(_) => unreachable!("a message has a signature, and no verdict came with it"),
+    }
+}
+
+fn reading(bytes: &[u8], to_replica: bool, tally: &mut Tally) -> String {
+    match read(bytes, to_replica) {
+        Ok(message) => {
             tally.count(format!(
                 "read {}",
                 KIND_NAMES[usize::from(message.kind) - 1]
@@ -296,23 +304,72 @@ fn reading(bytes: &[u8], to_replica: bool, tally: &mut Tally) -> String {
             tally.count(format!("refused {refusal}"));
             format!("refused {refusal}")
         }
-        Ok(_) => unreachable!("a message has a signature, and no verdict came with it"),
     }
 }
 
-/// The party that takes the kind, most of the time.
-fn reading_line(random: &mut Random, bytes: &[u8], tally: &mut Tally) -> Line {
+/// A signature: whose it is, and what it covers, all bytes of its message that stand before it.
+fn signature(party: &str, message: &Message) -> String {
+    let bytes = message.encode();
+    let covered = hex(&bytes[..bytes.len() - 64]);
+    format!(" {party} {} over {covered}", message.sender)
+}
+
+/// The signatures of the entries: each is that of its replica's PREPARED or WRITTEN.
+fn entry_signatures(message: &Message) -> Vec<String> {
+    let prepared = message.prepared.iter().flat_map(|proof| {
+        proof.entries.iter().map(|entry| Message {
+            timestamp: Some(proof.timestamp),
+            digest: Some(proof.digest),
+            ..Message::new(PREPARED, entry.replica)
+        })
+    });
+    let written = message.written.iter().flat_map(|proof| {
+        proof.entries.iter().map(|entry| Message {
+            timestamp: Some(proof.timestamp),
+            ..Message::new(WRITTEN, entry.replica)
+        })
+    });
+    let signed = prepared.chain(written);
+    signed.map(|reply| signature("replica", &reply)).collect()
+}
+
+/// The signatures of a message that passes 2 to 5, and that there is no further one.
+fn signatures(bytes: &[u8], to_replica: bool, tally: &mut Tally) -> String {
+    let message = match read(bytes, to_replica) {
+        Ok(message) => message,
+        Err(refusal) => return format!("signatures 0 refused {refusal}"),
+    };
+    if message.prepared.is_some() && message.written.is_some() {
+        tally.count("signatures of both proofs");
+    }
+    let sender = if to_replica { "client" } else { "replica" };
+    let own = signature(sender, &message);
+    let others = entry_signatures(&message);
+    format!(
+        "signatures {}{own}{} nothing",
+        1 + others.len(),
+        others.concat()
+    )
+}
+
+/// The party that takes the kind, most of the time: what it reads, and the signatures.
+fn reading_lines(random: &mut Random, bytes: &[u8], tally: &mut Tally) -> [Line; 2] {
     let takes = bytes.get(2).is_some_and(|kind| *kind <= READ);
     let to_replica = takes != random.percent(10);
     let letter = if to_replica { 'h' } else { 'd' };
-    Line {
+    let read = Line {
         text: format!("{letter} {}", hex(bytes)).into_bytes(),
         expected: reading(bytes, to_replica, tally),
-    }
+    };
+    let signed = Line {
+        text: format!("s {letter} {}", hex(bytes)).into_bytes(),
+        expected: signatures(bytes, to_replica, tally),
+    };
+    [read, signed]
 }
 
-/// A pair's line, and one for its first message.
-fn lines(random: &mut Random, tally: &mut Tally) -> [Line; 2] {
+/// A pair's line, and two for its first message.
+fn lines(random: &mut Random, tally: &mut Tally) -> [Line; 3] {
     let first = message(random, tally);
     let mut second = message(random, tally);
     if random.percent(50) {
@@ -323,7 +380,8 @@ fn lines(random: &mut Random, tally: &mut Tally) -> [Line; 2] {
         text: format!("l {} {}", hex(&first), hex(&second)).into_bytes(),
         expected: format!("later card {}", hex(&card)),
     };
-    [pair, reading_line(random, &first, tally)]
+    let [read, signed] = reading_lines(random, &first, tally);
+    [pair, read, signed]
 }
 
 pub fn compare(program: &Program, random: &mut Random, tally: &mut Tally) -> Result<(), Failure> {

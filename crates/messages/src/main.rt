@@ -1,6 +1,7 @@
 // Reads messages in hex, one a line, behind `h ` where a replica is handed it and `d ` where a client is, and prints what the reader finds.
 // Behind `hF ` or `dF `, F a fault bound, verdicts follow the message, and it prints what tests 2 to 11 make of both.
 // Behind `l ` two messages stand, and it prints the later card.
+// Behind `s h ` or `s d ` it prints the message's signatures: how many, whose each is, and the bytes that it covers.
 use base::timestamp::Timestamp;
 use libc::STDIN_FILENO;
 use libc::STDOUT_FILENO;
@@ -10,6 +11,8 @@ use wire::message::Fields;
 use wire::message::Party;
 use wire::message::Reading;
 use wire::parts;
+use wire::signatures::Signed;
+use wire::signatures::Signer;
 ghost use mathlib.Core.Path.{_≡_};
 ghost use Prim.Native.Nat.{_≤_};
 ghost use lib.ListN.{length};
@@ -129,6 +132,48 @@ fn print_judgement(party: Party, f: u8, bytes: &[u8], verdicts: &[u8]) {
     text::print(b"\n");
 }
 
+fn print_signer(signer: Signer) {
+    match signer {
+        Signer::Replica(id) => {
+            text::print(b" replica ");
+            print_byte(id.0);
+        }
+        Signer::Client(id) => {
+            text::print(b" client ");
+            print_byte(id.0);
+        }
+    }
+}
+
+fn print_signature(party: Party, bytes: &[u8], i: usize) {
+    let mut out = [0u8; 2048];
+    match wire::signatures::signature(party, bytes, i, &mut out) {
+        Signed::By(signer, covered) => {
+            print_signer(signer);
+            text::print(b" over ");
+            text::print_hex(&out[..covered]);
+        }
+        Signed::Nothing => text::print(b" nothing"),
+        Signed::Refused(number) => {
+            text::print(b" ");
+            print_refusal(number);
+        }
+    }
+}
+
+// The signatures, and that there is no further one.
+fn print_signatures(party: Party, bytes: &[u8]) {
+    let count = wire::signatures::signature_count(party, bytes);
+    text::print(b"signatures ");
+    text::print_number(count as u32);
+    let mut i = 0;
+    while i <= count {
+        print_signature(party, bytes, i);
+        i += 1;
+    }
+    text::print(b"\n");
+}
+
 fn unread() {
     text::print(b"unread\n");
 }
@@ -141,6 +186,32 @@ fn answer(party: Party, digits: &[u8]) {
         print_reading(party, &bytes[..n]);
     } else {
         unread();
+    }
+}
+
+fn list(party: Party, digits: &[u8]) {
+    let mut bytes = [0u8; 4096];
+    let n = text::read_hex(digits, &mut bytes);
+    if digits.len() == 2 * n {
+        print_signatures(party, &bytes[..n]);
+    } else {
+        unread();
+    }
+}
+
+fn list_line(line: &[u8]) {
+    if line.len() < 2 {
+        unread();
+        return;
+    }
+    if line[1] != b' ' {
+        unread();
+        return;
+    }
+    match line[0] {
+        b'h' => list(Party::Replica, &line[2..]),
+        b'd' => list(Party::Client, &line[2..]),
+        _ => unread(),
     }
 }
 
@@ -243,6 +314,7 @@ fn answer_line(line: &[u8]) {
         b'h' => answer(Party::Replica, &line[2..]),
         b'd' => answer(Party::Client, &line[2..]),
         b'l' => print_later(&line[2..]),
+        b's' => list_line(&line[2..]),
         _ => unread(),
     }
 }

@@ -234,3 +234,13 @@ no-answer e = record { answered = rw e; holds = rw e }
 
 pub refuses : {found : Outcome (Option Signature)} {old : List ℕ} {n : ℕ} → found ≡ refused n → Answers found old (Refused n) old
 refuses e = record { answered = rw e; holds = rw e }
+
+-- What is covered fits into the output that it stands in.
+pub covered-inside : (found : Outcome (Option Signature)) {old : List ℕ} {signer : Signer} {covered : ℕ} {new : List ℕ} → Answers found old (By signer covered) new → length new ≡ length old → covered ≤ length old
+covered-inside (accepted (some signature)) {old} {signer} {covered} {new} a same =
+    let short : _≡_ {A = Sender × ℕ} (signerOf signer, covered) (signature .signer, length (signature .covers)) = cc (a .answered) in
+    let all : covered ≡ length (signature .covers) = ap (λ (p : Sender × ℕ). p .1) short in
+    let size : length new ≡ length (signature .covers) + length (drop (length (signature .covers)) old) = ap length (a .holds) ∙ length-append (signature .covers) (drop (length (signature .covers)) old) in
+    omega arith
+covered-inside (accepted none) a same = let z : _≡_ {A = ℕ} 0 1 = cc (a .answered) in absurd (omega arith)
+covered-inside (refused n) a same = let z : _≡_ {A = ℕ} 0 1 = cc (a .answered) in absurd (omega arith)

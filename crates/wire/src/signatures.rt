@@ -142,6 +142,7 @@ fn of_entries(prepared: &[u8], written: &[u8], i: usize, out: &mut [u8]) -> Sign
     Signed::Nothing
 }
 
+// Of a message with these fields.
 fn of_fields(party: Party, bytes: &[u8], fields: Fields, i: usize, out: &mut [u8]) -> Signed
     requires { ⌜ (reading party (now bytes) ≡ accepted fields) × (longest ≤ length (now out)) ⌝ }
     ensures { λ r. ⌜ Answers (signatureTo party (now (bytes .entry)) i) (now (out .entry)) r (now (out .exit)) ⌝ }
