@@ -1,10 +1,10 @@
 // The calls that a line asks for, each with the store behind the messages sent as its output.
 use crate::log::Log;
+use base::slices::behind;
+use base::slices::front;
 use client::Stepped;
 use protocol::client::Client;
 use protocol::replica::Replica;
-use text::behind;
-use text::front;
 use wire::layout::LONGEST_MESSAGE;
 use wire::message::Party;
 use wire::signatures::signature_count;

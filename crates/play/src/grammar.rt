@@ -2,7 +2,7 @@
 use base::party::ClientId;
 use base::party::ReplicaId;
 use base::party::within;
-use text::behind;
+use base::slices::behind;
 ghost use mathlib.Core.Path.{_≡_};
 ghost use lib.ListN.{getD};
 ghost use Rattle.wire.specs.Checks.{all};

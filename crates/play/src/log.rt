@@ -1,6 +1,6 @@
 // The messages sent: how many, and how long each is. Their bytes stand in a borrowed store, 1,579 for each.
-use text::behind;
-use text::front;
+use base::slices::behind;
+use base::slices::front;
 use wire::layout::LONGEST_MESSAGE;
 ghost use mathlib.Core.Path.{_≡_};
 ghost use Prim.Native.Nat.{_≤_};

@@ -1,6 +1,6 @@
 // The lines that the player prints.
+use base::slices::front;
 use base::timestamp::Timestamp;
-use text::front;
 use text::put;
 use text::put_hex;
 use text::put_number;

@@ -1,9 +1,9 @@
 // The run player: plays the first 100 lines of standard input and prints a line for each.
+use base::slices::front;
 use libc::STDIN_FILENO;
 use libc::STDOUT_FILENO;
 use play::script::is_full;
 use play::script::keep;
-use text::front;
 ghost use Rattle.io.specs.Counts.{Counts};
 
 // One read, so that nobody waits for what stands behind the lines that are played.

@@ -83,27 +83,6 @@ pub fn line_end(text: &[u8], from: usize) -> usize
     at
 }
 
-// The first bytes, as many as are asked for or are there.
-pub fn front(bytes: &[u8], n: usize) -> &[u8]
-    ensures { λ r. ⌜ now r ≡ take n (now (bytes .entry)) ⌝ }
-{
-    if n < bytes.len() {
-        return &bytes[0..n];
-    }
-    bytes
-}
-
-// The bytes from a place on.
-pub fn behind(bytes: &[u8], at: usize) -> &[u8]
-    ensures { λ r. ⌜ now r ≡ drop at (now (bytes .entry)) ⌝ }
-{
-    if at < bytes.len() {
-        return &bytes[at..];
-    }
-    let end = bytes.len();
-    &bytes[end..]
-}
-
 pub fn print(text: &[u8]) {
     io::write_all(STDOUT_FILENO, text);
 }

@@ -43,10 +43,6 @@ abbrev pub frameOutcome : Framing → Outcome Places
 frameOutcome (Whole places) = accepted places
 frameOutcome (Refused number) = refused number
 
--- The bytes from one place to another.
-abbrev pub between : List ℕ → ℕ → ℕ → List ℕ
-between bytes at end = take (end - at) (drop at bytes)
-
 -- A field from one place to another: none, or one of so many bytes at least.
 pub record Room (bytes : List ℕ) (width at end : ℕ) : Type 0 where
   pub rises : at ≤ end

@@ -12,5 +12,4 @@ pub mod parts;
 pub mod reader;
 pub mod sha256;
 pub mod signatures;
-mod slices;
 pub mod writer;

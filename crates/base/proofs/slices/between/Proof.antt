@@ -1,8 +1,8 @@
--- `wire::slices::between` meets its contract. Assumes nothing.
+-- `base::slices::between` meets its contract. Assumes nothing.
 use borrow.Author.Needs.{needs}
-use Rattle.wire.proofs.Cuts.{between-cut}
-use Rattle.wire.proofs.slices.between.Statement.{statement}
-use Rattle.wire.proofs.slices.between.Tie as tie
+use Rattle.base.proofs.Cuts.{between-cut}
+use Rattle.base.proofs.slices.between.Statement.{statement}
+use Rattle.base.proofs.slices.between.Tie as tie
 
 returns : tie.Need-returns
 returns c =

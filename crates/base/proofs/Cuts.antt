@@ -8,7 +8,7 @@ use borrow.Author.Tests.{leb-true, leb-false}
 use lib.Dec.{leb}
 use lib.ListN.{length, take, drop, length-drop, drop-of-length-le}
 use lib.Seq.{take-all, take-nil, drop-length}
-use Rattle.wire.specs.Places.{between}
+use Rattle.base.specs.Bytes.{between}
 
 module _ (s : List ℕ) where
   -- A part is the same if its end is cut to the end of the bytes.

@@ -1,13 +1,13 @@
--- `wire::slices::behind` meets its contract. Assumes nothing.
+-- `base::slices::behind` meets its contract. Assumes nothing.
 use mathlib.Core.Path.{_∙_}
 use Prim.Native.Nat.{_-_}
 use native.Mathlib.Omega.{arith}
 use borrow.Author.Needs.{needs}
 use lib.ListN.{length, drop, length-drop}
 use lib.Seq.{take-all}
-use Rattle.wire.proofs.Cuts.{drop-cut}
-use Rattle.wire.proofs.slices.behind.Statement.{statement}
-use Rattle.wire.proofs.slices.behind.Tie as tie
+use Rattle.base.proofs.Cuts.{drop-cut}
+use Rattle.base.proofs.slices.behind.Statement.{statement}
+use Rattle.base.proofs.slices.behind.Tie as tie
 
 returns : tie.Need-returns
 returns c =

@@ -2,7 +2,7 @@
 ghost use mathlib.Core.Path.{_≡_};
 ghost use Prim.Native.Nat.{min};
 ghost use lib.ListN.{take, drop};
-ghost use Rattle.wire.specs.Places.{between};
+ghost use Rattle.base.specs.Bytes.{between};
 
 fn smaller(a: usize, b: usize) -> usize
     ensures { λ r. ⌜ r ≡ min a b ⌝ }
@@ -10,7 +10,7 @@ fn smaller(a: usize, b: usize) -> usize
     if a < b { a } else { b }
 }
 
-pub(super) fn between(bytes: &[u8], at: usize, end: usize) -> &[u8]
+pub fn between(bytes: &[u8], at: usize, end: usize) -> &[u8]
     ensures { λ r. ⌜ now r ≡ between (now (bytes .entry)) at end ⌝ }
 {
     let to = smaller(end, bytes.len());
@@ -19,14 +19,14 @@ pub(super) fn between(bytes: &[u8], at: usize, end: usize) -> &[u8]
 }
 
 // So many bytes in front, and all but these.
-pub(super) fn front(bytes: &[u8], count: usize) -> &[u8]
+pub fn front(bytes: &[u8], count: usize) -> &[u8]
     ensures { λ r. ⌜ now r ≡ take count (now (bytes .entry)) ⌝ }
 {
     let to = smaller(count, bytes.len());
     &bytes[0..to]
 }
 
-pub(super) fn behind(bytes: &[u8], count: usize) -> &[u8]
+pub fn behind(bytes: &[u8], count: usize) -> &[u8]
     ensures { λ r. ⌜ now r ≡ drop count (now (bytes .entry)) ⌝ }
 {
     let from = smaller(count, bytes.len());

@@ -1,11 +1,11 @@
--- `wire::slices::front` meets its contract. Assumes nothing.
+-- `base::slices::front` meets its contract. Assumes nothing.
 use mathlib.Core.Path.{_≡_}
 use Prim.Native.Nat.{_-_}
 use native.Mathlib.Omega.{arith}
 use borrow.Author.Needs.{needs}
-use Rattle.wire.proofs.Cuts.{take-cut}
-use Rattle.wire.proofs.slices.front.Statement.{statement}
-use Rattle.wire.proofs.slices.front.Tie as tie
+use Rattle.base.proofs.Cuts.{take-cut}
+use Rattle.base.proofs.slices.front.Statement.{statement}
+use Rattle.base.proofs.slices.front.Tie as tie
 
 returns : tie.Need-returns
 returns c =
