@@ -4,7 +4,7 @@ use libc::STDIN_FILENO;
 use libc::STDOUT_FILENO;
 ghost use mathlib.Core.Path.{_≡_};
 ghost use Prim.Native.Nat.{_+_, _<_};
-ghost use lib.ListN.{getD, take, drop};
+ghost use lib.ListN.{getD};
 ghost use Rattle.text.specs.Decimal.{decimal};
 ghost use Rattle.text.specs.Hex.{hexValue, pairValue, HexRead, digitOf, DigitBelow, hexDigit, hexPair, hex};
 ghost use Rattle.text.specs.Line.{LineEnd};

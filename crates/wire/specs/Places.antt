@@ -2,7 +2,7 @@
 use mathlib.Core.Path.{_≡_}
 use mathlib.Core.List.{List}
 use Prim.Native.Nat.{ℕ, _+_, _-_, _≤_, _<_}
-use lib.ListN.{length, take, drop}
+use lib.ListN.{length}
 use Rattle.base.specs.Outcome.{Outcome, accepted, refused}
 use Rattle.wire.specs.Layout.{mapIn, place, signaturePlace}
 use Rattle.wire.specs.declared.frame.Framing.{Framing}
