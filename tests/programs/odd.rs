@@ -1,8 +1,8 @@
-//! Lines that the player's grammar does not have, or hardly has.
+//! Lines that the player's grammar does not have, or hardly has; and inputs that are no scripts.
 use crate::model::random::Random;
 use crate::program::hex;
 
-/// A name, and such a line.
+/// A name, and such a line or input.
 type Odd = (&'static str, fn(&mut Random) -> Vec<u8>);
 
 pub const ODD_LINES: [Odd; 14] = [
@@ -71,6 +71,37 @@ pub const ODD_LINES: [Odd; 14] = [
     }),
     ("overlong line", overlong),
 ];
+
+/// Whole inputs, up to three million bytes.
+pub const ODD_INPUTS: [Odd; 5] = [
+    ("bytes of any value", |random| {
+        let length = length(random);
+        random.some_bytes(length)
+    }),
+    ("bytes of the grammar", |random| {
+        let length = length(random);
+        let mut byte = || random.pick(b"rwhd 1234\n0AF");
+        (0..length).map(|_| byte()).collect()
+    }),
+    ("one line without end", |random| {
+        vec![random.pick(b"r1 \0"); length(random)]
+    }),
+    ("empty lines", |random| {
+        vec![b'\n'; random.pick(&[1, 99, 100, 101, 4_096, 9_000])]
+    }),
+    ("one line many times", |random| {
+        let line = random.pick(&["r 1\n", "w 2 0000\n", "h 1 1\n", "r 1\r\n"]);
+        line.repeat(random.pick(&[99, 100, 101, 200, 300_000]))
+            .into_bytes()
+    }),
+];
+
+/// Around the sizes of the pieces in which an input may be read, and far above.
+fn length(random: &mut Random) -> usize {
+    random.pick(&[
+        1, 39, 40, 3_999, 4_000, 4_095, 4_096, 4_097, 20_000, 3_000_000,
+    ])
+}
 
 fn pairs(random: &mut Random, number: usize) -> Vec<u8> {
     let bytes = random.some_bytes(number);

@@ -1,7 +1,7 @@
 //! Scripts for the program `player`, steered so that operations finish.
 use crate::cards::{damaged_card, good_card};
 use crate::model::random::Random;
-use crate::odd::ODD_LINES;
+use crate::odd::{ODD_INPUTS, ODD_LINES};
 use crate::player::{printed, Player, Said, MOST_LINES, PARTIES};
 use crate::program::{hex, Failure, Program};
 use crate::tally::Tally;
@@ -9,7 +9,10 @@ use std::collections::BTreeMap;
 
 const SCRIPTS: usize = 2_000;
 
-pub const FLOORS: [(&str, usize); 30] = [
+/// Of each kind of odd input.
+const INPUTS: usize = 30;
+
+pub const FLOORS: [(&str, usize); 35] = [
     ("sent", 40_000),
     ("taken", 20_000),
     ("done: read", 1_500),
@@ -40,6 +43,11 @@ pub const FLOORS: [(&str, usize); 30] = [
     ("other space", 200),
     ("CR, NUL or another byte", 200),
     ("overlong line", 200),
+    ("bytes of any value", INPUTS),
+    ("bytes of the grammar", INPUTS),
+    ("one line without end", INPUTS),
+    ("empty lines", INPUTS),
+    ("one line many times", INPUTS),
 ];
 
 #[derive(Clone, Copy)]
@@ -329,6 +337,13 @@ fn up_to(input: &[u8], lines: usize) -> String {
     shown.join("\n")
 }
 
+fn compare_input(program: &Program, input: &[u8], expected: &[String]) -> Result<(), Failure> {
+    match program.difference(input, expected)? {
+        Some(difference) => Err(Failure::Differs(up_to(input, difference.at), difference)),
+        None => Ok(()),
+    }
+}
+
 pub fn compare(program: &Program, random: &mut Random, tally: &mut Tally) -> Result<(), Failure> {
     for _ in 0..SCRIPTS {
         let input = script(random, tally);
@@ -336,8 +351,13 @@ pub fn compare(program: &Program, random: &mut Random, tally: &mut Tally) -> Res
         for line in &expected[1..] {
             count_printed(line, tally);
         }
-        if let Some(difference) = program.difference(&input, &expected)? {
-            return Err(Failure::Differs(up_to(&input, difference.at), difference));
+        compare_input(program, &input, &expected)?;
+    }
+    for (name, input) in ODD_INPUTS {
+        for _ in 0..INPUTS {
+            let input = input(random);
+            compare_input(program, &input, &printed(&input))?;
+            tally.count(name);
         }
     }
     Ok(())

@@ -1,6 +1,7 @@
 pub mod BigEndian
 pub mod Booleans
 pub mod Counting
+pub mod Cuts
 pub mod Digits
 pub mod Filling
 pub mod Outcome

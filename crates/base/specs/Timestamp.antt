@@ -1,8 +1,9 @@
 -- Document 01, "Parties and stamps": timestamps (stamps).
-use mathlib.Core.Bool.{Bool, _&&_, cond}
+use mathlib.Core.Path.{_≡_}
+use mathlib.Core.Bool.{Bool, _&&_, _||_, cond}
 use mathlib.Core.Option.{Option, none, some}
 use Prim.Native.Nat.{ℕ, _+_, _*_, _/_, _%_}
-use lib.Dec.{leb, eqb}
+use lib.Dec.{leb, ltb, eqb}
 use Rattle.base.specs.Range.{within}
 use Rattle.base.specs.declared.party.ClientId.{ClientId}
 use Rattle.base.specs.declared.timestamp.Timestamp.{Timestamp}
@@ -15,6 +16,19 @@ number t = t .count * 256 + t .client .0
 
 abbrev pub ofNumber : ℕ → Timestamp
 ofNumber n = record { count = n / 256; client = record { 0 = n % 256 } }
+
+-- "Counts compare first, then desks."
+abbrev pub isBefore : Timestamp → Timestamp → Bool
+isBefore s t = ltb (s .count) (t .count) || (eqb (s .count) (t .count) && ltb (s .client .0) (t .client .0))
+
+-- The answer to this question, which is the order of the numbers.
+pub record Before (s t : Timestamp) (answer : Bool) : Type 0 where
+  pub counts-first : answer ≡ isBefore s t
+  pub by-number : answer ≡ ltb (number s) (number t)
+
+-- Whether two timestamps are one.
+abbrev pub isSame : Timestamp → Timestamp → Bool
+isSame s t = eqb (number s) (number t)
 
 -- "0.0 is the starting stamp."
 abbrev pub start : Timestamp

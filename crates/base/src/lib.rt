@@ -4,4 +4,5 @@ pub mod bytes;
 pub mod party;
 pub mod refusal;
 pub mod replica_set;
+pub mod slices;
 pub mod timestamp;

@@ -2,9 +2,8 @@
 use crate::party::ClientId;
 ghost use mathlib.Core.Path.{_≡_};
 ghost use mathlib.Core.List.{_∷_, []};
-ghost use lib.Dec.{ltb, eqb};
 ghost use Rattle.base.specs.BigEndian.{fromBytes, toBytes};
-ghost use Rattle.base.specs.Timestamp.{number, ofNumber, start, successor, successorOf, isIssued};
+ghost use Rattle.base.specs.Timestamp.{number, ofNumber, Before, isSame, start, successor, successorOf, isIssued};
 
 // A timestamp (document 01: stamp), written count.client.
 #[repr(C)]
@@ -42,13 +41,13 @@ impl Timestamp {
     }
 
     pub fn is_before(self, other: Timestamp) -> bool
-        ensures { λ r. ⌜ r ≡ ltb (number self) (number other) ⌝ }
+        ensures { λ r. ⌜ Before self other r ⌝ }
     {
         self.number() < other.number()
     }
 
     pub fn is(self, other: Timestamp) -> bool
-        ensures { λ r. ⌜ r ≡ eqb (number self) (number other) ⌝ }
+        ensures { λ r. ⌜ r ≡ isSame self other ⌝ }
     {
         self.number() == other.number()
     }

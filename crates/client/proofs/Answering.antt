@@ -23,7 +23,7 @@ use Rattle.protocol.specs.Client.{send, call, answered}
 use Rattle.protocol.specs.declared.client.Client.{Client}
 use Rattle.protocol.specs.declared.client.ClientAnswer.{ClientAnswer}
 use Rattle.protocol.specs.declared.client.ClientAnswer.the-variants.{Send, Done}
-use Rattle.client.specs.Stepping.{callOf, plain, doneWith, sentAs}
+use Rattle.client.specs.Leaving.{callOf, plain, doneWith, sentAs}
 use Rattle.client.specs.declared.Stepped.{Stepped}
 
 module _ (stepped : Stepped) (old : List ℕ) (next : Client) where

@@ -18,11 +18,11 @@ use Rattle.protocol.proofs.client.Phase.{the-type}
 
 pub busy : (phase : Phase) → OneOf (1 ∷ 2 ∷ 3 ∷ 4 ∷ 5 ∷ []) (tagOf the-type phase) → isIdle phase ≡ false
 busy Idle k = absurd (⊎-elim (λ e. omega arith) (⊎-elim (λ e. omega arith) (⊎-elim (λ e. omega arith) (⊎-elim (λ e. omega arith) (λ e. omega arith)))) k)
-busy (Stamps nonce best counts) k = refl
-busy (Prepareds timestamp counts) k = refl
-busy (Writtens timestamp counts) k = refl
-busy (Cards nonce best counts showed) k = refl
-busy (WriteBack timestamp counts) k = refl
+busy (Stamps nonce best counted) k = refl
+busy (Prepareds timestamp counted) k = refl
+busy (Writtens timestamp counted) k = refl
+busy (Cards nonce best counted showed) k = refl
+busy (WriteBack timestamp counted) k = refl
 
 -- A nonce below the last one has a next one.
 pub next-fits : (n : ℕ) → ltb n 18_446_744_073_709_551_615 ≡ ltb (n + 1) (2 ^ 64)

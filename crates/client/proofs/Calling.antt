@@ -12,26 +12,27 @@ use Rattle.base.proofs.Outcome.{guard-passes, guard-refuses}
 use Rattle.wire.specs.Card.{isCard}
 use Rattle.wire.specs.Message.{longest, READ-STAMP, READ}
 use Rattle.wire.specs.Writing.{unsigned}
-use Rattle.protocol.specs.Client.{send, Turn, turn, ClientCall, clientAnswers, Said, answerOutcome, stepOutcome, mayBegin, beginning, beginWrite, beginRead, clientStep, beginWriteCall, beginReadCall, clientCall}
+use Rattle.protocol.specs.Client.{send, Turn, turn, ClientCall, clientAnswers, Said, clientOutcome, stepOutcome, mayBegin, beginning, beginWrite, beginRead, clientStep, beginWriteCall, beginReadCall, clientCall}
 use Rattle.protocol.specs.Parts.{startCard}
 use Rattle.protocol.specs.Replica.{withOutput}
 use Rattle.protocol.specs.declared.client.Client.{Client}
 use Rattle.protocol.specs.declared.client.ClientAnswer.the-variants.{Refused}
 use Rattle.protocol.specs.declared.client.Phase.the-variants.{Stamps, Cards}
 use Rattle.protocol.proofs.Calls.{long-output, short-output}
-use Rattle.client.specs.Stepping.{callOf, Calls, plain}
+use Rattle.client.specs.Leaving.{callOf, plain}
+use Rattle.client.specs.Stepping.{Calls}
 use Rattle.client.specs.declared.Stepped.{Stepped}
 use Rattle.client.proofs.Answering.{plain-call}
 use Rattle.base.proofs.Filling.{filled-zeros}
-use Rattle.client.proofs.Shorts.{Short, refuses, sends, counts, finishes, ends, short-write, short-read, short-step}
+use Rattle.client.proofs.Shorts.{Short, refuses, sends, counted, finishes, ends, short-write, short-read, short-step}
 
 abbrev saysOf : ClientCall → Outcome Said
-saysOf made = answerOutcome (made .answer) (made .«card_length») (made .card) (made .output)
+saysOf made = clientOutcome (made .answer) (made .«card_length») (made .card) (made .output)
 
 call-says : (client : Client) (old : List ℕ) (step : Outcome Turn) → Short step → saysOf (clientAnswers client old step) ≡ stepOutcome step
 call-says client old (refused number) refuses = refl
 call-says client old (accepted turn) (sends {message = m}) = rw (take-append-seam (unsigned m) (drop (length (unsigned m)) old))
-call-says client old (accepted turn) counts = refl
+call-says client old (accepted turn) counted = refl
 call-says client old (accepted turn) (finishes {card = card} h) = rw (filled-zeros 17 card h, take-append-seam card)
 call-says client old (accepted turn) ends = refl
 

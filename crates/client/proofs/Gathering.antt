@@ -14,7 +14,7 @@ use Rattle.base.specs.declared.replica_set.ReplicaSet.{ReplicaSet}
 use Rattle.wire.specs.Proof.{Entry, entriesBytes, readEntries}
 use Rattle.protocol.specs.Client.{gathered, signatureAt}
 use Rattle.base.specs.Bytes.{filled}
-use Rattle.protocol.specs.Parts.{entriesIn}
+use Rattle.protocol.specs.Parts.{entriesKept}
 use Rattle.client.specs.Arrays.{Added, Keeps}
 use Rattle.base.proofs.Filling.{zeros, filled-zeros, filled-more}
 
@@ -61,37 +61,37 @@ added width count entries one old sized signed many room was =
     rw (behind, here, was) (filled-more width (entriesBytes entries) block (omega arith) ∙ ap (filled width) (sym (bytes-append entries (one ∷ []) ∙ ap (λ (l : List ℕ). entriesBytes entries ++ l) last)))
 
 -- Entries kept in an array, as a writer takes them.
-pub kept : (entries : List Entry) (count : ℕ) (array : List ℕ) → Sized entries → length entries ≤ 11 → Keeps entries count array → entriesIn array count ≡ entries
+pub kept : (entries : List Entry) (count : ℕ) (array : List ℕ) → Sized entries → length entries ≤ 11 → Keeps entries count array → entriesKept array count ≡ entries
 kept entries count array sized few k =
     let all : min (length entries) 11 ≡ length entries = omega arith in
     let bytes = sized-bytes entries sized in
     rw (k .many, k .holds, all, filled-zeros 715 (entriesBytes entries) (omega arith)) (read-back entries (zeros (715 - length (entriesBytes entries))) sized)
 
-pub nothing-gathered : (counts : ReplicaSet) (signatures : List ℕ) → Keeps (take 11 (gathered 0 counts signatures)) 0 (zeros 715)
+pub nothing-gathered : (counted : ReplicaSet) (signatures : List ℕ) → Keeps (take 11 (gathered 0 counted signatures)) 0 (zeros 715)
 unfolding gathered entriesBytes
-nothing-gathered counts signatures = record { many = refl; holds = refl }
+nothing-gathered counted signatures = record { many = refl; holds = refl }
 
-module _ (counts : ReplicaSet) (signatures : List ℕ) (long : length signatures ≡ 1_024) where
-  gathered-sized : (n : ℕ) → n ≤ 16 → Sized (gathered n counts signatures)
+module _ (counted : ReplicaSet) (signatures : List ℕ) (long : length signatures ≡ 1_024) where
+  gathered-sized : (n : ℕ) → n ≤ 16 → Sized (gathered n counted signatures)
   unfolding gathered
   gathered-sized zero h = tt
-  gathered-sized (suc n) h = sized-append (gathered n counts signatures) _ (gathered-sized n (omega arith)) (go (has counts (replica (suc n))))
+  gathered-sized (suc n) h = sized-append (gathered n counted signatures) _ (gathered-sized n (omega arith)) (go (has counted (replica (suc n))))
     where
       go : (b : Bool) → Sized (cond b (record { signer = replica (suc n); signature = signatureAt signatures (replica (suc n)) } ∷ []) [])
       go true = (simp (length-take, length-drop) (omega arith), tt)
       go false = tt
 
-  pub built-sized : (n : ℕ) → n ≤ 16 → Sized (take 11 (gathered n counts signatures))
-  built-sized n h = sized-take 11 (gathered n counts signatures) (gathered-sized n h)
+  pub built-sized : (n : ℕ) → n ≤ 16 → Sized (take 11 (gathered n counted signatures))
+  built-sized n h = sized-take 11 (gathered n counted signatures) (gathered-sized n h)
 
   -- One replica more.
-  pub gathered-more : (n count : ℕ) (old : List ℕ) (next : ℕ) (new : List ℕ) → suc n ≤ 16 → Keeps (take 11 (gathered n counts signatures)) count old
-      → Added counts (replica (suc n)) signatures count old next new → Keeps (take 11 (gathered (suc n) counts signatures)) next new
+  pub gathered-more : (n count : ℕ) (old : List ℕ) (next : ℕ) (new : List ℕ) → suc n ≤ 16 → Keeps (take 11 (gathered n counted signatures)) count old
+      → Added counted (replica (suc n)) signatures count old next new → Keeps (take 11 (gathered (suc n) counted signatures)) next new
   unfolding gathered
-  gathered-more n count old next new small k a = go (has counts (replica (suc n))) refl (ltb count 11) refl
+  gathered-more n count old next new small k a = go (has counted (replica (suc n))) refl (ltb count 11) refl
     where
       before : List Entry
-      before = gathered n counts signatures
+      before = gathered n counted signatures
 
       one : Entry
       one = record { signer = replica (suc n); signature = signatureAt signatures (replica (suc n)) }
@@ -99,7 +99,7 @@ module _ (counts : ReplicaSet) (signatures : List ℕ) (long : length signatures
       same-entries : (after : List Entry) → after ≡ take 11 before → next ≡ count → new ≡ old → Keeps after next new
       same-entries after e i j = rw (e, i, j) k
 
-      go : (b : Bool) → has counts (replica (suc n)) ≡ b → (r : Bool) → ltb count 11 ≡ r → Keeps (take 11 (before ++ cond (has counts (replica (suc n))) (one ∷ []) [])) next new
+      go : (b : Bool) → has counted (replica (suc n)) ≡ b → (r : Bool) → ltb count 11 ≡ r → Keeps (take 11 (before ++ cond (has counted (replica (suc n))) (one ∷ []) [])) next new
       go false e r f = same-entries _ (rw (e, append-nil)) (a .next-is ∙ rw e) (a .holds ∙ rw e)
       go true e false f =
           let full = ltb-false count 11 f in

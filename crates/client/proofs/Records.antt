@@ -9,9 +9,9 @@ use lib.ListN.{length, take, length-map, length-take}
 use lib.Seq.{length-take-le}
 use Rattle.base.specs.Party.{replicaCount}
 use Rattle.base.specs.declared.replica_set.ReplicaSet.{ReplicaSet}
-use Rattle.wire.specs.Sha256.{answer, digestOf, longestMessage}
+use Rattle.wire.specs.Sha256.{answer, digestOf, longestInput}
 use Rattle.protocol.specs.Client.{currentCard, built}
-use Rattle.protocol.specs.Parts.{entriesIn}
+use Rattle.protocol.specs.Parts.{entriesKept}
 use Rattle.protocol.specs.declared.client.Client.{Client}
 use Rattle.client.specs.Arrays.{Keeps}
 use Rattle.client.proofs.Gathering.{kept, built-sized}
@@ -36,11 +36,11 @@ module _ (client : Client) (long : length (client .card) ≡ 17) (kept : ℕ) (e
 
 pub short-digest : (message : List ℕ) → length message ≤ 17 → digestOf message ≡ answer true message
 unfolding digestOf
-short-digest message h = rw (le-leb (length message) longestMessage (omega arith))
+short-digest message h = rw (le-leb (length message) longestInput (omega arith))
 
 -- The proof that the client builds, as a writer takes it.
-pub kept-built : (client : Client) (counts : ReplicaSet) → length (client .signatures) ≡ 1_024 → (count : ℕ) (array : List ℕ)
-    → Keeps (built client counts (client .signatures)) count array → entriesIn array count ≡ built client counts (client .signatures)
-kept-built client counts long count array k =
+pub kept-built : (client : Client) (counted : ReplicaSet) → length (client .signatures) ≡ 1_024 → (count : ℕ) (array : List ℕ)
+    → Keeps (built client counted (client .signatures)) count array → entriesKept array count ≡ built client counted (client .signatures)
+kept-built client counted long count array k =
     let n = replicaCount (client .f) in
-    kept (built client counts (client .signatures)) count array (built-sized counts (client .signatures) long n (omega arith)) (rw length-take (omega arith)) k
+    kept (built client counted (client .signatures)) count array (built-sized counted (client .signatures) long n (omega arith)) (rw length-take (omega arith)) k

@@ -16,7 +16,7 @@ use Rattle.wire.specs.Layout.{signature}
 use Rattle.wire.specs.Message.{Message, READ-STAMP, PREPARE, WRITE, READ, STAMP, PREPARED, WRITTEN, CARD}
 use Rattle.wire.specs.Proof.{PreparedProof}
 use Rattle.wire.specs.declared.message.Party.the-variants.{Client as AtClient}
-use Rattle.protocol.specs.Client.{send, counted, done, ended, Turn, currentCard, bestOf, keepBetter, showedBy, keepBetterCard, beginWrite, beginRead, toPrepare, afterStamp, onStamp, afterPrepared, onPrepared, afterWritten, afterWriteBack, onWritten, afterCard, onCard, onReply, clientStep}
+use Rattle.protocol.specs.Client.{send, waits, done, ended, Turn, currentCard, bestOf, keepBetter, showedBy, keepBetterCard, beginWrite, beginRead, toPrepare, afterStamp, onStamp, afterPrepared, onPrepared, afterWritten, afterWriteBack, onWritten, afterCard, onCard, onReply, clientStep}
 use Rattle.protocol.specs.Replica.{withOutput}
 use Rattle.protocol.specs.declared.client.Client.{Client}
 use Rattle.protocol.specs.declared.client.Phase.{Phase}
@@ -26,7 +26,7 @@ use Rattle.protocol.proofs.ArrayLaws.{card-in-short}
 pub data Short : Outcome Turn → Type 0 where
   refuses : {number : ℕ} → Short (refused number)
   sends : {message : Message} {next : Client} → Short (accepted (record { answer = send message; next = next }))
-  counts : {next : Client} → Short (accepted (record { answer = counted; next = next }))
+  waiting : {next : Client} → Short (accepted (record { answer = waits; next = next }))
   finishes : {timestamp : Timestamp} {card : List ℕ} {next : Client} → length card ≤ 17 → Short (accepted (record { answer = done timestamp card; next = next }))
   ends : {next : Client} → Short (accepted (record { answer = ended; next = next }))
 
@@ -44,7 +44,7 @@ short-card client = card-in-short (client .card) (client .«card_length»)
 
 short-stamps : (nonce : ℕ) (best : Timestamp) (held : ReplicaSet) (client : Client) → Short (afterStamp nonce best held client)
 unfolding afterStamp
-short-stamps nonce best held client = short-cond (isQuorum (client .f) held) _ _ (go (successor best (client .id))) counts
+short-stamps nonce best held client = short-cond (isQuorum (client .f) held) _ _ (go (successor best (client .id))) waiting
   where
     go : (next : Option Timestamp) → Short (toPrepare client best next)
     go none = ends
@@ -63,7 +63,7 @@ short-prepared : (client : Client) (sender : ReplicaId) (timestamp : ℕ) (diges
 unfolding onPrepared afterPrepared
 short-prepared client sender timestamp digest signature Idle = refuses
 short-prepared client sender timestamp digest signature (Stamps asked best held) = refuses
-short-prepared client sender timestamp digest signature (Prepareds asked held) = short-guard 18 _ _ (short-cond (isQuorum (client .f) (with held sender)) _ _ sends counts)
+short-prepared client sender timestamp digest signature (Prepareds asked held) = short-guard 18 _ _ (short-cond (isQuorum (client .f) (with held sender)) _ _ sends waiting)
 short-prepared client sender timestamp digest signature (Writtens asked held) = refuses
 short-prepared client sender timestamp digest signature (Cards asked best held showed) = refuses
 short-prepared client sender timestamp digest signature (WriteBack asked held) = refuses
@@ -73,14 +73,14 @@ unfolding onWritten afterWritten afterWriteBack
 short-written client sender timestamp signature Idle = refuses
 short-written client sender timestamp signature (Stamps asked best held) = refuses
 short-written client sender timestamp signature (Prepareds asked held) = refuses
-short-written client sender timestamp signature (Writtens asked held) = short-guard 18 _ _ (short-cond (isQuorum (client .f) (with held sender)) _ _ (finishes (short-card client)) counts)
+short-written client sender timestamp signature (Writtens asked held) = short-guard 18 _ _ (short-cond (isQuorum (client .f) (with held sender)) _ _ (finishes (short-card client)) waiting)
 short-written client sender timestamp signature (Cards asked best held showed) = refuses
-short-written client sender timestamp signature (WriteBack asked held) = short-guard 18 _ _ (short-cond (isQuorum (client .f) (with held sender)) _ _ (finishes (short-card client)) counts)
+short-written client sender timestamp signature (WriteBack asked held) = short-guard 18 _ _ (short-cond (isQuorum (client .f) (with held sender)) _ _ (finishes (short-card client)) waiting)
 
 short-cards : (nonce : ℕ) (best : Timestamp) (held showed : ReplicaSet) (client : Client) → Short (afterCard nonce best held showed client)
 unfolding afterCard
 short-cards nonce best held showed client =
-    short-cond (isQuorum (client .f) held) _ _ (short-cond (isQuorum (client .f) showed) _ _ (finishes (short-card client)) sends) counts
+    short-cond (isQuorum (client .f) held) _ _ (short-cond (isQuorum (client .f) showed) _ _ (finishes (short-card client)) sends) waiting
 
 short-on-card : (client : Client) (sender : ReplicaId) (nonce : ℕ) (card : List ℕ) (proof : Option PreparedProof) (addressed : ClientId) (phase : Phase)
     → Short (onCard client sender nonce card proof addressed phase)

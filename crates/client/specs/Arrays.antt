@@ -17,12 +17,12 @@ abbrev pub entryOf : ReplicaId → List ℕ → List ℕ
 entryOf id signatures = id .0 ∷ signatureAt signatures id
 
 abbrev pub taken : ReplicaSet → ReplicaId → ℕ → Bool
-taken counts id count = has counts id && ltb count 11
+taken counted id count = has counted id && ltb count 11
 
 -- The entries so far are so many; what an id more makes of them.
-pub record Added (counts : ReplicaSet) (id : ReplicaId) (signatures : List ℕ) (count : ℕ) (old : List ℕ) (next : ℕ) (new : List ℕ) : Type 0 where
-  pub next-is : next ≡ cond (taken counts id count) (count + 1) count
-  pub holds : new ≡ cond (taken counts id count) (take (65 * count) old ++ (entryOf id signatures ++ drop (65 * count + 65) old)) old
+pub record Added (counted : ReplicaSet) (id : ReplicaId) (signatures : List ℕ) (count : ℕ) (old : List ℕ) (next : ℕ) (new : List ℕ) : Type 0 where
+  pub next-is : next ≡ cond (taken counted id count) (count + 1) count
+  pub holds : new ≡ cond (taken counted id count) (take (65 * count) old ++ (entryOf id signatures ++ drop (65 * count + 65) old)) old
 
 -- Entries in an array, and how many they are.
 pub record Keeps (entries : List Entry) (count : ℕ) (array : List ℕ) : Type 0 where

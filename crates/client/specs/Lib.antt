@@ -1,3 +1,4 @@
 pub mod Arrays
+pub mod Leaving
 pub mod Messages
 pub mod Stepping

@@ -1,19 +1,11 @@
--- What the client's functions leave, as a call of document 01.
+-- The contracts of the client's calls.
 use mathlib.Core.Path.{_≡_}
 use mathlib.Core.List.{List}
 use Prim.Native.Nat.{ℕ}
-use lib.ListN.{length, replicate}
-use Rattle.base.specs.Bytes.{filled}
 use Rattle.base.specs.Outcome.{Outcome}
 use Rattle.base.specs.Party.{clientSetup, setupOutcome}
 use Rattle.base.specs.declared.party.ClientId.{ClientId}
-use Rattle.base.specs.declared.timestamp.Timestamp.{Timestamp}
-use Rattle.wire.specs.declared.writer.Encoded.{Encoded}
-use Rattle.wire.specs.declared.writer.Encoded.the-variants.{Length as Wrote, Refused as Unwritten}
-use Rattle.protocol.specs.Client.{Turn, ClientCall, clientAnswers, madeClient, answerOutcome, stepOutcome}
-use Rattle.protocol.specs.declared.client.Client.{Client}
-use Rattle.protocol.specs.declared.client.ClientAnswer.{ClientAnswer}
-use Rattle.protocol.specs.declared.client.ClientAnswer.the-variants.{Send, Done, Refused}
+use Rattle.protocol.specs.Client.{Turn, ClientCall, madeClient, clientOutcome, stepOutcome}
 use Rattle.client.specs.declared.NewClient.{NewClient}
 use Rattle.client.specs.declared.Stepped.{Stepped}
 
@@ -21,11 +13,6 @@ use Rattle.client.specs.declared.Stepped.{Stepped}
 pub record Made (f : ℕ) (id : ClientId) (firstNonce : ℕ) (fresh : NewClient) : Type 0 where
   pub setup : setupOutcome (fresh .setup) ≡ clientSetup f id firstNonce
   pub client : fresh .client ≡ madeClient f id firstNonce
-
--- What a function returns and the output that it leaves are a call.
-abbrev pub callOf : Stepped → List ℕ → ClientCall
-callOf stepped output =
-    record { answer = stepped .answer; «card_length» = stepped .«card_length»; card = stepped .card; client = stepped .client; output = output }
 
 -- The contract of the three calls: `made` is what document 01 says of the call, `step` what it says of the step behind test 1.
 pub record Calls (made : ClientCall) (step : Outcome Turn) (stepped : Stepped) (new : List ℕ) : Type 0 where
@@ -35,23 +22,4 @@ pub record Calls (made : ClientCall) (step : Outcome Turn) (stepped : Stepped) (
   pub client : stepped .client ≡ made .client
   pub output : new ≡ made .output
   -- What the answer stands for, with the card beside it and the message in the output.
-  pub says : answerOutcome (stepped .answer) (stepped .«card_length») (stepped .card) new ≡ stepOutcome step
-
--- An answer with no card beside it.
-abbrev pub plain : ClientAnswer → Client → Stepped
-plain answer client = record { answer = answer; «card_length» = 0; card = replicate 17 0; client = client }
-
-abbrev pub doneWith : Timestamp → List ℕ → Client → Stepped
-doneWith timestamp card client = record { answer = Done timestamp; «card_length» = length card; card = filled 17 card; client = client }
-
-abbrev pub sentAs : Encoded → Client → Stepped
-sentAs (Wrote n) client = plain (Send n) client
-sentAs (Unwritten number) client = plain (Refused number) client
-
--- A step that refuses nothing, so that it does not matter which record it would leave then.
-abbrev pub Takes : List ℕ → Outcome Turn → Stepped → List ℕ → Type 0
-Takes old step stepped new = (before : Client) → callOf stepped new ≡ clientAnswers before old step
-
--- The same of a function that is lent no output, for any.
-abbrev pub TakesAny : Outcome Turn → Stepped → Type 0
-TakesAny step stepped = (old : List ℕ) → Takes old step stepped old
+  pub says : clientOutcome (stepped .answer) (stepped .«card_length») (stepped .card) new ≡ stepOutcome step

@@ -6,13 +6,15 @@ use protocol::client::Client;
 use protocol::client::ClientAnswer;
 use protocol::client::Phase;
 use wire::arrays::card_array;
+use wire::layout::CARD_ROOM;
+use wire::layout::DIGEST;
 use wire::layout::LONGEST_CARD;
 use wire::writer::Encoded;
 ghost use mathlib.Core.Path.{_≡_};
 ghost use Prim.Native.Nat.{min};
 ghost use Rattle.wire.specs.Sha256.{sha256};
 ghost use Rattle.protocol.specs.Client.{currentCard, withPhase};
-ghost use Rattle.client.specs.Stepping.{plain, doneWith, sentAs};
+ghost use Rattle.client.specs.Leaving.{plain, doneWith, sentAs};
 
 // An answer with no card beside it.
 pub(super) fn plain(answer: ClientAnswer, client: Client) -> Stepped
@@ -21,7 +23,7 @@ pub(super) fn plain(answer: ClientAnswer, client: Client) -> Stepped
     Stepped {
         answer: answer,
         card_length: 0,
-        card: [0; 17],
+        card: [0; CARD_ROOM],
         client: client,
     }
 }
@@ -69,7 +71,7 @@ pub(super) fn done(timestamp: Timestamp, client: Client) -> Stepped
 }
 
 // The digest of the card that the record holds.
-pub(super) fn card_digest(client: Client) -> [u8; 32]
+pub(super) fn card_digest(client: Client) -> [u8; DIGEST]
     ensures { λ r. ⌜ r ≡ sha256 (currentCard client) ⌝ }
 {
     let card = client.card;

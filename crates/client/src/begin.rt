@@ -15,7 +15,7 @@ ghost use Rattle.base.specs.Timestamp.{start};
 ghost use Rattle.wire.specs.Message.{longest, READ-STAMP, READ};
 ghost use Rattle.protocol.specs.Client.{mayBegin, turn, send, beginning};
 ghost use Rattle.protocol.specs.Parts.{startCard};
-ghost use Rattle.client.specs.Stepping.{Takes};
+ghost use Rattle.client.specs.Leaving.{Takes};
 
 const LAST_NONCE: u64 = 18_446_744_073_709_551_615;
 

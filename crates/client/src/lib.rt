@@ -20,7 +20,11 @@ use protocol::client::Client;
 use protocol::client::ClientAnswer;
 use protocol::client::Phase;
 use wire::card::CardCheck;
+use wire::layout::CARD_ROOM;
+use wire::layout::DIGEST;
+use wire::layout::ENTRIES_ROOM;
 use wire::layout::LONGEST_MESSAGE;
+use wire::layout::SIGNATURES_ROOM;
 use wire::message::Party;
 use wire::message::Reading;
 ghost use mathlib.Core.Path.{_≡_};
@@ -38,7 +42,7 @@ pub struct NewClient {
 pub struct Stepped {
     pub answer: ClientAnswer,
     pub card_length: u8,
-    pub card: [u8; 17],
+    pub card: [u8; CARD_ROOM],
     pub client: Client,
 }
 
@@ -52,14 +56,14 @@ fn idle(f: u8, id: ClientId, last_nonce: u64) -> Client
         last_nonce: last_nonce,
         phase: Phase::Idle,
         card_length: 0,
-        card: [0; 17],
-        digest: [0; 32],
+        card: [0; CARD_ROOM],
+        digest: [0; DIGEST],
         entry_count: 0,
-        entries: [0; 715],
-        signatures: [0; 1024],
+        entries: [0; ENTRIES_ROOM],
+        signatures: [0; SIGNATURES_ROOM],
         written: Timestamp::start(),
         written_count: 0,
-        written_entries: [0; 715],
+        written_entries: [0; ENTRIES_ROOM],
     }
 }
 

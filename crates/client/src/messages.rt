@@ -19,7 +19,7 @@ ghost use lib.ListN.{length};
 ghost use Rattle.wire.specs.Message.{longest};
 ghost use Rattle.protocol.specs.Client.{clientAnswers};
 ghost use Rattle.client.specs.Messages.{Passing, afterTests};
-ghost use Rattle.client.specs.Stepping.{callOf};
+ghost use Rattle.client.specs.Leaving.{callOf};
 
 fn take_stamp(client: Client, message: &[u8], fields: Fields, out: &mut [u8]) -> Stepped
     requires { ⌜ (longest ≤ length (now out)) × Passing (client .f) (now message) fields × (fields .kind ≡ 5) ⌝ }

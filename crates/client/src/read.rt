@@ -23,7 +23,7 @@ ghost use lib.ListN.{length};
 ghost use Rattle.wire.specs.Message.{longest, WRITE};
 ghost use Rattle.wire.specs.Parts.{preparedPart, WholeIfThere};
 ghost use Rattle.protocol.specs.Client.{clientAnswers, currentCard, bestProof, withPhase, turn, send, afterCard, onCard, afterWriteBack};
-ghost use Rattle.client.specs.Stepping.{callOf, Takes, TakesAny};
+ghost use Rattle.client.specs.Leaving.{callOf, Takes, TakesAny};
 
 // WRITE the best card with its proof; the replicas that showed it count.
 fn write_back(client: Client, best: Timestamp, showed: ReplicaSet, out: &mut [u8]) -> Stepped
@@ -54,15 +54,15 @@ fn after_card(
     client: Client,
     nonce: u64,
     best: Timestamp,
-    counts: ReplicaSet,
+    counted: ReplicaSet,
     showed: ReplicaSet,
     out: &mut [u8],
 ) -> Stepped
     requires { ⌜ longest ≤ length (now out) ⌝ }
-    ensures { λ r. ⌜ Takes (now (out .entry)) (afterCard nonce best counts showed client) r (now (out .exit)) ⌝ }
+    ensures { λ r. ⌜ Takes (now (out .entry)) (afterCard nonce best counted showed client) r (now (out .exit)) ⌝ }
 {
-    if !counts.is_quorum(client.f) {
-        let waiting = Phase::Cards(nonce, best, counts, showed);
+    if !counted.is_quorum(client.f) {
+        let waiting = Phase::Cards(nonce, best, counted, showed);
         return plain(ClientAnswer::Counted, with_phase(client, waiting));
     }
     if showed.is_quorum(client.f) {
@@ -85,25 +85,25 @@ pub(super) fn on_card<'a>(
     ensures { λ r. ⌜ callOf r (now (out .exit)) ≡ clientAnswers client (now (out .entry)) (onCard client sender nonce (now (card .entry)) (preparedPart (now (proof .entry))) addressed (client .phase)) ⌝ }
 {
     let phase = client.phase;
-    let Phase::Cards(asked, best, counts, showed) = phase else {
+    let Phase::Cards(asked, best, counted, showed) = phase else {
         return refused(NOT_AWAITED, client);
     };
     let id = client.id;
-    if !is_awaited(nonce, asked, addressed, id, counts, sender) {
+    if !is_awaited(nonce, asked, addressed, id, counted, sender) {
         return refused(NOT_AWAITED, client);
     }
     let later = best_of(best, proof);
     let shown = showed_by(best, proof, sender, showed);
     let kept = keep_better_card(client, best, card, proof);
-    after_card(kept, asked, later, counts.with(sender), shown, out)
+    after_card(kept, asked, later, counted.with(sender), shown, out)
 }
 
 // A WRITTEN more was taken in a write-back: with those that showed the timestamp, q end the read.
-pub(super) fn after_write_back(client: Client, timestamp: Timestamp, counts: ReplicaSet) -> Stepped
-    ensures { λ r. ⌜ TakesAny (afterWriteBack timestamp counts client) r ⌝ }
+pub(super) fn after_write_back(client: Client, timestamp: Timestamp, counted: ReplicaSet) -> Stepped
+    ensures { λ r. ⌜ TakesAny (afterWriteBack timestamp counted client) r ⌝ }
 {
-    if !counts.is_quorum(client.f) {
-        let waiting = Phase::WriteBack(timestamp, counts);
+    if !counted.is_quorum(client.f) {
+        let waiting = Phase::WriteBack(timestamp, counted);
         return plain(ClientAnswer::Counted, with_phase(client, waiting));
     }
     done(timestamp, client)

@@ -7,6 +7,9 @@ use protocol::client::Phase;
 use wire::arrays::card_array;
 use wire::arrays::digest_array;
 use wire::arrays::entries_array;
+use wire::layout::DIGEST;
+use wire::layout::ENTRIES_ROOM;
+use wire::layout::SIGNATURES_ROOM;
 use wire::parts;
 ghost use mathlib.Core.Path.{_≡_};
 ghost use Prim.Native.Nat.{_≤_};
@@ -59,10 +62,10 @@ pub(super) fn beginning(client: Client, nonce: u64, phase: Phase, card: &[u8]) -
         phase: phase,
         card_length: card.len() as u8,
         card: card_array(card),
-        digest: [0; 32],
+        digest: [0; DIGEST],
         entry_count: 0,
-        entries: [0; 715],
-        signatures: [0; 1024],
+        entries: [0; ENTRIES_ROOM],
+        signatures: [0; SIGNATURES_ROOM],
         written: written,
         written_count: client.written_count,
         written_entries: written_entries,
@@ -95,17 +98,17 @@ pub(super) fn with_card(client: Client, card: &[u8]) -> Client
 }
 
 // The digest of the card that is written; the best reply's proof is no longer needed.
-pub(super) fn with_digest(client: Client, digest: [u8; 32]) -> Client
+pub(super) fn with_digest(client: Client, digest: [u8; DIGEST]) -> Client
     ensures { λ r. ⌜ r ≡ withDigest digest client ⌝ }
 {
     let mut next = client;
     next.digest = digest;
     next.entry_count = 0;
-    next.entries = [0; 715];
+    next.entries = [0; ENTRIES_ROOM];
     next
 }
 
-pub(super) fn with_signatures(client: Client, signatures: [u8; 1024]) -> Client
+pub(super) fn with_signatures(client: Client, signatures: [u8; SIGNATURES_ROOM]) -> Client
     ensures { λ r. ⌜ r ≡ withSignatures signatures client ⌝ }
 {
     let mut next = client;
@@ -114,18 +117,18 @@ pub(super) fn with_signatures(client: Client, signatures: [u8; 1024]) -> Client
 }
 
 // The counted replicas and their signatures as a proof's entries.
-pub(super) fn built(client: Client, counts: ReplicaSet) -> Built
-    ensures { λ r. ⌜ Keeps (built client counts (client .signatures)) (r .count) (r .entries) ⌝ }
+pub(super) fn built(client: Client, counted: ReplicaSet) -> Built
+    ensures { λ r. ⌜ Keeps (built client counted (client .signatures)) (r .count) (r .entries) ⌝ }
 {
     let signatures = client.signatures;
-    crate::signatures::gather(base::party::replica_count(client.f), counts, &signatures)
+    crate::signatures::gather(base::party::replica_count(client.f), counted, &signatures)
 }
 
 // The client's own write is finished: its WRITTENs are the last written proof.
-pub(super) fn with_last_written(client: Client, timestamp: Timestamp, counts: ReplicaSet) -> Client
-    ensures { λ r. ⌜ r ≡ withLastWritten timestamp (built client counts (client .signatures)) client ⌝ }
+pub(super) fn with_last_written(client: Client, timestamp: Timestamp, counted: ReplicaSet) -> Client
+    ensures { λ r. ⌜ r ≡ withLastWritten timestamp (built client counted (client .signatures)) client ⌝ }
 {
-    let proof = built(client, counts);
+    let proof = built(client, counted);
     let entries = proof.entries;
     let mut next = client;
     next.written = timestamp;

@@ -9,6 +9,7 @@ use base::replica_set::ReplicaSet;
 use base::timestamp::Timestamp;
 use protocol::client::Client;
 use wire::card::CardCheck;
+use wire::layout::DIGEST;
 use wire::parts;
 ghost use mathlib.Core.Path.{_≡_};
 ghost use mathlib.Core.Bool.{_&&_};
@@ -22,10 +23,10 @@ ghost use Rattle.protocol.specs.Parts.{cardStands, startCard};
 ghost use Rattle.wire.specs.Parts.{preparedPart, WholeIfThere};
 
 // Whether no reply of this replica was taken yet.
-fn is_new(counts: ReplicaSet, sender: ReplicaId) -> bool
-    ensures { λ r. ⌜ r ≡ isNew counts sender ⌝ }
+fn is_new(counted: ReplicaSet, sender: ReplicaId) -> bool
+    ensures { λ r. ⌜ r ≡ isNew counted sender ⌝ }
 {
-    !counts.has(sender)
+    !counted.has(sender)
 }
 
 // Whether a reply has the nonce and the client awaited, and its replica's was not taken yet.
@@ -34,10 +35,10 @@ pub(super) fn is_awaited(
     asked: u64,
     addressed: ClientId,
     id: ClientId,
-    counts: ReplicaSet,
+    counted: ReplicaSet,
     sender: ReplicaId,
 ) -> bool
-    ensures { λ r. ⌜ r ≡ (eqb nonce asked && (eqb (addressed .0) (id .0) && isNew counts sender)) ⌝ }
+    ensures { λ r. ⌜ r ≡ (eqb nonce asked && (eqb (addressed .0) (id .0) && isNew counted sender)) ⌝ }
 {
     if nonce != asked {
         return false;
@@ -45,7 +46,7 @@ pub(super) fn is_awaited(
     if addressed.0 != id.0 {
         return false;
     }
-    is_new(counts, sender)
+    is_new(counted, sender)
 }
 
 // Whether a reply's timestamp is larger than the largest so far: on a tie the first reply's proof and card are kept.
@@ -138,15 +139,15 @@ pub(super) fn card_stands<'a>(card: &'a [u8], proof: &'a [u8]) -> bool
 pub(super) fn is_awaited_written(
     timestamp: Timestamp,
     asked: Timestamp,
-    counts: ReplicaSet,
+    counted: ReplicaSet,
     sender: ReplicaId,
 ) -> bool
-    ensures { λ r. ⌜ r ≡ (eqb (number timestamp) (number asked) && isNew counts sender) ⌝ }
+    ensures { λ r. ⌜ r ≡ (eqb (number timestamp) (number asked) && isNew counted sender) ⌝ }
 {
     if !timestamp.is(asked) {
         return false;
     }
-    is_new(counts, sender)
+    is_new(counted, sender)
 }
 
 // The same of a PREPARED, which has the digest too.
@@ -154,11 +155,11 @@ pub(super) fn is_awaited_prepared<'a>(
     timestamp: Timestamp,
     asked: Timestamp,
     digest: &'a [u8],
-    kept: &'a [u8; 32],
-    counts: ReplicaSet,
+    kept: &'a [u8; DIGEST],
+    counted: ReplicaSet,
     sender: ReplicaId,
 ) -> bool
-    ensures { λ r. ⌜ r ≡ (eqb (number timestamp) (number asked) && (same (now (digest .entry)) (now (kept .entry)) && isNew counts sender)) ⌝ }
+    ensures { λ r. ⌜ r ≡ (eqb (number timestamp) (number asked) && (same (now (digest .entry)) (now (kept .entry)) && isNew counted sender)) ⌝ }
 {
     if !timestamp.is(asked) {
         return false;
@@ -166,5 +167,5 @@ pub(super) fn is_awaited_prepared<'a>(
     if !same(digest, kept) {
         return false;
     }
-    is_new(counts, sender)
+    is_new(counted, sender)
 }

@@ -2,9 +2,11 @@
 use base::bytes::put;
 use base::party::ReplicaId;
 use base::replica_set::ReplicaSet;
+use wire::layout::ENTRIES_ROOM;
 use wire::layout::ENTRY;
 use wire::layout::MOST_ENTRIES;
 use wire::layout::SIGNATURE;
+use wire::layout::SIGNATURES_ROOM;
 ghost use mathlib.Core.Path.{_≡_};
 ghost use Prim.Native.Nat.{_≤_};
 ghost use lib.ListN.{length, take};
@@ -14,11 +16,15 @@ ghost use Rattle.client.specs.Arrays.{Added, Keeps};
 // Entries in an array, and how many they are.
 pub struct Built {
     pub count: u8,
-    pub entries: [u8; 715],
+    pub entries: [u8; ENTRIES_ROOM],
 }
 
 // A replica's signature in its place.
-pub(super) fn with_signature(signatures: [u8; 1024], id: ReplicaId, signature: &[u8]) -> [u8; 1024]
+pub(super) fn with_signature(
+    signatures: [u8; SIGNATURES_ROOM],
+    id: ReplicaId,
+    signature: &[u8],
+) -> [u8; SIGNATURES_ROOM]
     requires { ⌜ (1 ≤ id .0) × (id .0 ≤ 16) × (length (now signature) ≡ 64) ⌝ }
     ensures { λ r. ⌜ r ≡ withSignature signatures id (now (signature .entry)) ⌝ }
 {
@@ -32,14 +38,14 @@ pub(super) fn with_signature(signatures: [u8; 1024], id: ReplicaId, signature: &
 fn add_entry(
     entries: &mut [u8],
     count: u8,
-    counts: ReplicaSet,
+    counted: ReplicaSet,
     id: ReplicaId,
     signatures: &[u8],
 ) -> u8
     requires { ⌜ (1 ≤ id .0) × (id .0 ≤ 16) × (length (now entries) ≡ 715) × (length (now signatures) ≡ 1024) ⌝ }
-    ensures { λ r. ⌜ Added counts id (now (signatures .entry)) count (now (entries .entry)) r (now (entries .exit)) ⌝ }
+    ensures { λ r. ⌜ Added counted id (now (signatures .entry)) count (now (entries .entry)) r (now (entries .exit)) ⌝ }
 {
-    if !counts.has(id) {
+    if !counted.has(id) {
         return count;
     }
     if MOST_ENTRIES <= count {
@@ -54,16 +60,16 @@ fn add_entry(
 }
 
 // The counted replicas among 1 to n, in rising order.
-pub(super) fn gather(n: u8, counts: ReplicaSet, signatures: &[u8; 1024]) -> Built
+pub(super) fn gather(n: u8, counted: ReplicaSet, signatures: &[u8; SIGNATURES_ROOM]) -> Built
     requires { ⌜ n ≤ 16 ⌝ }
-    ensures { λ r. ⌜ Keeps (take 11 (gathered n counts (now (signatures .entry)))) (r .count) (r .entries) ⌝ }
+    ensures { λ r. ⌜ Keeps (take 11 (gathered n counted (now (signatures .entry)))) (r .count) (r .entries) ⌝ }
 {
-    let mut entries = [0u8; 715];
+    let mut entries = [0u8; ENTRIES_ROOM];
     let mut count: u8 = 0;
     let mut id: u8 = 0;
     while id < n {
         id += 1;
-        count = add_entry(&mut entries, count, counts, ReplicaId(id), signatures);
+        count = add_entry(&mut entries, count, counted, ReplicaId(id), signatures);
     }
     Built {
         count: count,

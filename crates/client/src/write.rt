@@ -24,6 +24,7 @@ use base::timestamp::Timestamp;
 use protocol::client::Client;
 use protocol::client::ClientAnswer;
 use protocol::client::Phase;
+use wire::layout::SIGNATURES_ROOM;
 ghost use mathlib.Core.Path.{_≡_};
 ghost use Prim.Native.Nat.{_≤_};
 ghost use lib.ListN.{length};
@@ -32,7 +33,7 @@ ghost use Rattle.base.specs.Timestamp.{number, successor};
 ghost use Rattle.wire.specs.Message.{longest};
 ghost use Rattle.wire.specs.Parts.{preparedPart, WholeIfThere};
 ghost use Rattle.protocol.specs.Client.{clientAnswers, toPrepare, afterStamp, onStamp, afterPrepared, onPrepared, afterWritten, withSignature, withSignatures};
-ghost use Rattle.client.specs.Stepping.{callOf, Takes, TakesAny};
+ghost use Rattle.client.specs.Leaving.{callOf, Takes, TakesAny};
 
 // PREPARE the successor of the largest timestamp. The last count has none: the write ends.
 fn to_prepare(client: Client, best: Timestamp, out: &mut [u8]) -> Stepped
@@ -70,18 +71,18 @@ fn after_stamp(
     client: Client,
     nonce: u64,
     best: Timestamp,
-    counts: ReplicaSet,
+    counted: ReplicaSet,
     out: &mut [u8],
 ) -> Stepped
     requires { ⌜ longest ≤ length (now out) ⌝ }
-    ensures { λ r. ⌜ Takes (now (out .entry)) (afterStamp nonce best counts client) r (now (out .exit)) ⌝ }
+    ensures { λ r. ⌜ Takes (now (out .entry)) (afterStamp nonce best counted client) r (now (out .exit)) ⌝ }
 {
-    if counts.is_quorum(client.f) {
+    if counted.is_quorum(client.f) {
         return to_prepare(client, best, out);
     }
     plain(
         ClientAnswer::Counted,
-        with_phase(client, Phase::Stamps(nonce, best, counts)),
+        with_phase(client, Phase::Stamps(nonce, best, counted)),
     )
 }
 
@@ -97,11 +98,11 @@ pub(super) fn on_stamp(
     ensures { λ r. ⌜ callOf r (now (out .exit)) ≡ clientAnswers client (now (out .entry)) (onStamp client sender nonce (preparedPart (now (proof .entry))) addressed (client .phase)) ⌝ }
 {
     let phase = client.phase;
-    let Phase::Stamps(asked, best, counts) = phase else {
+    let Phase::Stamps(asked, best, counted) = phase else {
         return refused(NOT_AWAITED, client);
     };
     let id = client.id;
-    if !is_awaited(nonce, asked, addressed, id, counts, sender) {
+    if !is_awaited(nonce, asked, addressed, id, counted, sender) {
         return refused(NOT_AWAITED, client);
     }
     let later = best_of(best, proof);
@@ -109,7 +110,7 @@ pub(super) fn on_stamp(
         keep_better(client, best, proof),
         asked,
         later,
-        counts.with(sender),
+        counted.with(sender),
         out,
     )
 }
@@ -118,17 +119,17 @@ pub(super) fn on_stamp(
 fn after_prepared(
     client: Client,
     timestamp: Timestamp,
-    counts: ReplicaSet,
+    counted: ReplicaSet,
     out: &mut [u8],
 ) -> Stepped
     requires { ⌜ longest ≤ length (now out) ⌝ }
-    ensures { λ r. ⌜ Takes (now (out .entry)) (afterPrepared timestamp counts client) r (now (out .exit)) ⌝ }
+    ensures { λ r. ⌜ Takes (now (out .entry)) (afterPrepared timestamp counted client) r (now (out .exit)) ⌝ }
 {
-    if !counts.is_quorum(client.f) {
-        let waiting = Phase::Prepareds(timestamp, counts);
+    if !counted.is_quorum(client.f) {
+        let waiting = Phase::Prepareds(timestamp, counted);
         return plain(ClientAnswer::Counted, with_phase(client, waiting));
     }
-    let proof = built(client, counts);
+    let proof = built(client, counted);
     let id = client.id;
     let card = client.card;
     let digest = client.digest;
@@ -146,7 +147,7 @@ fn after_prepared(
     let waiting = Phase::Writtens(timestamp, ReplicaSet::empty());
     sent(
         encoded,
-        with_phase(with_signatures(client, [0; 1024]), waiting),
+        with_phase(with_signatures(client, [0; SIGNATURES_ROOM]), waiting),
     )
 }
 
@@ -162,42 +163,42 @@ pub(super) fn on_prepared<'a>(
     ensures { λ r. ⌜ callOf r (now (out .exit)) ≡ clientAnswers client (now (out .entry)) (onPrepared client sender (number timestamp) (now (digest .entry)) (now (signature .entry)) (client .phase)) ⌝ }
 {
     let phase = client.phase;
-    let Phase::Prepareds(asked, counts) = phase else {
+    let Phase::Prepareds(asked, counted) = phase else {
         return refused(NOT_AWAITED, client);
     };
     let kept = client.digest;
-    if !is_awaited_prepared(timestamp, asked, digest, &kept, counts, sender) {
+    if !is_awaited_prepared(timestamp, asked, digest, &kept, counted, sender) {
         return refused(NOT_AWAITED, client);
     }
     let signatures = client.signatures;
     let signed = with_signatures(client, with_signature(signatures, sender, signature));
-    after_prepared(signed, asked, counts.with(sender), out)
+    after_prepared(signed, asked, counted.with(sender), out)
 }
 
 // A WRITTEN more was taken: q of them end the write, and are the next written proof.
-fn after_written(client: Client, timestamp: Timestamp, counts: ReplicaSet) -> Stepped
-    ensures { λ r. ⌜ TakesAny (afterWritten timestamp counts client) r ⌝ }
+fn after_written(client: Client, timestamp: Timestamp, counted: ReplicaSet) -> Stepped
+    ensures { λ r. ⌜ TakesAny (afterWritten timestamp counted client) r ⌝ }
 {
     let f = client.f;
-    if !counts.is_quorum(f) {
-        let waiting = Phase::Writtens(timestamp, counts);
+    if !counted.is_quorum(f) {
+        let waiting = Phase::Writtens(timestamp, counted);
         return plain(ClientAnswer::Counted, with_phase(client, waiting));
     }
-    done(timestamp, with_last_written(client, timestamp, counts))
+    done(timestamp, with_last_written(client, timestamp, counted))
 }
 
 // A WRITTEN to a client that waits for them to end its write.
 pub(super) fn count_written(
     client: Client,
     asked: Timestamp,
-    counts: ReplicaSet,
+    counted: ReplicaSet,
     sender: ReplicaId,
     signature: &[u8],
 ) -> Stepped
     requires { ⌜ (1 ≤ sender .0) × (sender .0 ≤ 16) × (length (now signature) ≡ 64) ⌝ }
-    ensures { λ r. ⌜ TakesAny (afterWritten asked (with counts sender) (withSignatures (withSignature (client .signatures) sender (now (signature .entry))) client)) r ⌝ }
+    ensures { λ r. ⌜ TakesAny (afterWritten asked (with counted sender) (withSignatures (withSignature (client .signatures) sender (now (signature .entry))) client)) r ⌝ }
 {
     let signatures = client.signatures;
     let signed = with_signatures(client, with_signature(signatures, sender, signature));
-    after_written(signed, asked, counts.with(sender))
+    after_written(signed, asked, counted.with(sender))
 }

@@ -15,7 +15,7 @@ ghost use Prim.Native.Nat.{ℕ, _≤_};
 ghost use lib.ListN.{length};
 ghost use Rattle.base.specs.Timestamp.{number};
 ghost use Rattle.protocol.specs.Client.{clientAnswers, onWritten};
-ghost use Rattle.client.specs.Stepping.{callOf};
+ghost use Rattle.client.specs.Leaving.{callOf};
 
 pub(super) fn on_written(
     client: Client,
@@ -28,17 +28,17 @@ pub(super) fn on_written(
 {
     let phase = client.phase;
     match phase {
-        Phase::Writtens(asked, counts) => {
-            if !is_awaited_written(timestamp, asked, counts, sender) {
+        Phase::Writtens(asked, counted) => {
+            if !is_awaited_written(timestamp, asked, counted, sender) {
                 return refused(NOT_AWAITED, client);
             }
-            count_written(client, asked, counts, sender, signature)
+            count_written(client, asked, counted, sender, signature)
         }
-        Phase::WriteBack(asked, counts) => {
-            if !is_awaited_written(timestamp, asked, counts, sender) {
+        Phase::WriteBack(asked, counted) => {
+            if !is_awaited_written(timestamp, asked, counted, sender) {
                 return refused(NOT_AWAITED, client);
             }
-            after_write_back(client, asked, counts.with(sender))
+            after_write_back(client, asked, counted.with(sender))
         }
         _ => refused(NOT_AWAITED, client),
     }

@@ -8,6 +8,8 @@ use lib.ListN.{length, take, drop, replicate, length-drop}
 use lib.Seq.{take-all, take-at, drop-length}
 use Rattle.base.specs.Outcome.{Outcome}
 use Rattle.text.specs.Hex.{hexPairs, HexRead}
+use Rattle.text.specs.Put.{Puts}
+use Rattle.text.proofs.Putting.{put-front}
 use Rattle.protocol.specs.Client.{Turn, ClientCall}
 use Rattle.protocol.specs.Replica.{ReplicaCall, replicaCall}
 use Rattle.protocol.specs.declared.replica.Replica.{Replica}
@@ -18,9 +20,9 @@ use Rattle.replica.specs.declared.Stepped.{Stepped as ReplicaStepped}
 use Rattle.wire.specs.declared.message.Party.{Party}
 use Rattle.wire.specs.Signatures.{signaturesTo}
 use Rattle.play.specs.Calls.{verdicts, sentBefore, free, messageAt, ClientLeaves, ReplicaLeaves}
-use Rattle.play.specs.Log.{start, message, Copied}
+use Rattle.play.specs.Log.{start, message}
 use Rattle.play.specs.declared.log.Log.{Log}
-use Rattle.play.proofs.Lists.{take-ones, copied-front}
+use Rattle.play.proofs.Lists.{take-ones}
 
 pub client-leaves : (call : ClientCall) (step : Outcome Turn) (stepped : ClientStepped) (new : List ℕ) → Calls call step stepped new → ClientLeaves call [] stepped new
 client-leaves call step stepped new e =
@@ -64,10 +66,10 @@ card-read digits old new n h whole =
     rw (h .is) (take-at (hexPairs (length old) digits) (drop n old) n (sym (h .counted)) ∙ ap (λ (k : ℕ). hexPairs k digits) whole)
 
 pub message-copied : (log : Log) (store : List ℕ) (m before : ℕ) (old : List ℕ) (n : ℕ) (new l : List ℕ) → before ≡ m - 1 → length old ≡ 1_579
-    → Copied (message log store before) old n new → l ≡ take n new → l ≡ messageAt log store m
+    → Puts old 0 (message log store before) n new → l ≡ take n new → l ≡ messageAt log store m
 unfolding messageAt
 message-copied log store m before old n new l b whole c e =
-    e ∙ (copied-front (message log store before) old n new c ∙ (ap (λ (k : ℕ). take k (message log store before)) whole ∙ ap (λ (k : ℕ). take 1_579 (message log store k)) b))
+    e ∙ (put-front (message log store before) old n new c ∙ (ap (λ (k : ℕ). take k (message log store before)) whole ∙ ap (λ (k : ℕ). take 1_579 (message log store k)) b))
 
 module _ (log : Log) (store : List ℕ) (at : ℕ) (h : at ≡ start (log .count) (length store)) where
   inside : at ≤ length store

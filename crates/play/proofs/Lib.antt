@@ -1,4 +1,9 @@
-pub mod Adding
+pub mod Cutting
+pub mod Keeping
 pub mod Leaving
 pub mod Lists
+pub mod LongLines
+pub mod Pieces
+pub mod Printing
+pub mod Room
 pub mod Turning

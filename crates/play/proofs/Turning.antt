@@ -1,14 +1,14 @@
 -- A turn from what its call left. Assumes nothing.
 use mathlib.Core.Path.{_≡_, refl, sym, ap, ap₂, subst, _∙_}
 use mathlib.Core.List.{List, [], _∷_}
-use Prim.Native.Nat.{ℕ, zero, suc, _≤_, _<_, min}
+use Prim.Native.Nat.{ℕ, zero, suc, _<_}
 use native.Mathlib.Omega.{arith}
-use lib.ListN.{length, getD, take, set, length-take}
+use lib.ListN.{length, getD, set}
 use Rattle.base.specs.declared.party.ClientId.{ClientId}
 use Rattle.base.specs.declared.party.ReplicaId.{ReplicaId}
-use Rattle.protocol.specs.Parts.{cardIn}
+use Rattle.protocol.specs.Parts.{cardKept}
 use Rattle.protocol.specs.Replica.{noReplica}
-use Rattle.protocol.specs.Client.{noClient, ClientCall}
+use Rattle.protocol.specs.Client.{noClient}
 use Rattle.protocol.specs.declared.replica.Replica.{Replica}
 use Rattle.protocol.specs.declared.client.Client.{Client}
 use Rattle.protocol.specs.declared.client.ClientAnswer.{ClientAnswer}
@@ -16,57 +16,59 @@ use Rattle.client.specs.declared.Stepped.{Stepped as ClientStepped}
 use Rattle.replica.specs.declared.Stepped.{Stepped as ReplicaStepped}
 use Rattle.play.specs.Calls.{sentBefore, clientDoes, replicaDoes, ClientLeaves, ReplicaLeaves}
 use Rattle.play.specs.Grammar.{command}
-use Rattle.play.specs.Output.{line, textIn}
-use Rattle.play.specs.Player.{saidOf, loggedBy, reply, clientsTurn, replicasTurn, addressee, does, turn, ClientsFollow, ReplicasFollow, Plays}
-use Rattle.play.specs.Worlds.{seat}
+use Rattle.play.specs.Player.{saidOf, loggedBy, reply, clientTurn, replicaTurn, addressee, does, turn, Says, Plays}
+use Rattle.play.specs.Worlds.{clientSeat, replicaSeat}
 use Rattle.play.specs.declared.calls.Call.{Call}
 use Rattle.play.specs.declared.log.Log.{Log}
 use Rattle.play.specs.declared.output.Said.{Said}
 use Rattle.play.specs.declared.output.Said.the-variants.{Unread as NotRead}
-use Rattle.play.specs.declared.output.Text.{Text}
+use Rattle.play.specs.declared.output.Saying.{Saying}
 use Rattle.play.specs.declared.grammar.Command.{Command}
 use Rattle.play.specs.declared.turn.Addressee.{Addressee}
-use Rattle.play.specs.declared.turn.Addressee.the-variants.{Client as ToTheClient, Replica as ToTheReplica, Nobody}
-use Rattle.play.specs.declared.turn.ClientsTurned.{ClientsTurned}
-use Rattle.play.specs.declared.turn.ReplicasTurned.{ReplicasTurned}
+use Rattle.play.specs.declared.turn.Addressee.the-variants.{Nobody}
+use Rattle.play.specs.declared.turn.Turned.{Turned}
 use Rattle.play.specs.declared.world.World.{World}
 
--- A card that is cut to 17 bytes has no more.
-pub card-fits : (shown card : List ℕ) (n size : ℕ) → shown ≡ take n card → n ≡ min size 17 → length shown ≤ 17
-card-fits shown card n size e m = let long = ap length e ∙ length-take n card in omega arith
-
-module _ (log : Log) (store : List ℕ) (number : ℕ) (answer : ClientAnswer) (next : Log) (what : Said) (text : Text) (old : List ℕ)
-    (kept : next ≡ loggedBy answer log) (says : what ≡ saidOf (log .count) answer) where
-  module _ (replicas : List Replica) (id : ReplicaId) (m i : ℕ) (one : Replica) (stepped : ReplicaStepped) (at : i ≡ seat (id .0))
-      (first : one ≡ getD replicas i noReplica) (given : answer ≡ reply (stepped .answer)) (writes : textIn text ≡ line number what [])
-      (does : ReplicaLeaves (replicaDoes one log store m) (sentBefore log store) stepped old) where
-    pub replicas-follow : ReplicasFollow (replicasTurn replicas log store number id m) (record { replicas = set replicas i (stepped .replica); log = next; text = text }) old
-    unfolding replicasTurn
-    replicas-follow =
-        let party : one ≡ getD replicas (seat (id .0)) noReplica = first ∙ ap (λ (k : ℕ). getD replicas k noReplica) at in
-        let d = subst (λ (r : Replica). ReplicaLeaves (replicaDoes r log store m) (sentBefore log store) stepped old) party does in
+module _ (world : World) (store : List ℕ) (answer : ClientAnswer) (next : Log) (what : Said) (old : List ℕ) (kept : next ≡ loggedBy answer (world .log))
+    (says : what ≡ saidOf (world .log .count) answer) where
+  module _ (id : ReplicaId) (m i : ℕ) (one : Replica) (stepped : ReplicaStepped) (saying : Saying) (at : i ≡ replicaSeat id) (first : one ≡ getD (world .replicas) i noReplica)
+      (given : answer ≡ reply (stepped .answer)) (does : ReplicaLeaves (replicaDoes one (world .log) store m) (sentBefore (world .log) store) stepped old)
+      (shown : Says what [] saying) where
+    pub replica-plays : Plays (replicaTurn world store id m)
+        (record { world = record { replicas = set (world .replicas) i (stepped .replica); clients = world .clients; log = next }; saying = saying }) old
+    unfolding replicaTurn
+    replica-plays =
+        let party : one ≡ getD (world .replicas) (replicaSeat id) noReplica = first ∙ ap (λ (k : ℕ). getD (world .replicas) k noReplica) at in
+        let d = subst (λ (r : Replica). ReplicaLeaves (replicaDoes r (world .log) store m) (sentBefore (world .log) store) stepped old) party does in
         let said = given ∙ ap reply (d .answer) in
+        let log = kept ∙ ap (λ (a : ClientAnswer). loggedBy a (world .log)) said in
+        let replicas = ap₂ (λ (k : ℕ) (r : Replica). set (world .replicas) k r) at (d .replica) in
         record {
-          replicas-are = ap₂ (λ (k : ℕ) (r : Replica). set replicas k r) at (d .replica);
-          log-is = kept ∙ ap (λ (a : ClientAnswer). loggedBy a log) said;
-          text-is = writes ∙ ap (λ (w : Said). line number w []) (says ∙ ap (saidOf (log .count)) said);
+          world-is = ap₂ (λ (rs : List Replica) (l : Log). record { replicas = rs; clients = world .clients; log = l }) replicas log;
+          says = record { what-is = shown .what-is ∙ (says ∙ ap (saidOf (world .log .count)) said); card-is = shown .card-is };
           store-is = d .store-is;
         }
 
-  module _ (clients : List Client) (id : ClientId) (call : Call) (asked : List ℕ) (i n : ℕ) (one : Client) (stepped : ClientStepped) (shown : List ℕ) (at : i ≡ seat (id .0))
-      (first : one ≡ getD clients i noClient) (given : answer ≡ stepped .answer) (long : n ≡ min (stepped .«card_length») 17) (card : shown ≡ take n (stepped .card))
-      (writes : textIn text ≡ line number what shown) (does : ClientLeaves (clientDoes one log store asked call) (sentBefore log store) stepped old) where
-    pub clients-follow : ClientsFollow (clientsTurn clients log store number id call asked) (record { clients = set clients i (stepped .client); log = next; text = text }) old
-    unfolding clientsTurn
-    clients-follow =
-        let party : one ≡ getD clients (seat (id .0)) noClient = first ∙ ap (λ (k : ℕ). getD clients k noClient) at in
-        let d = subst (λ (r : Client). ClientLeaves (clientDoes r log store asked call) (sentBefore log store) stepped old) party does in
-        let said = given ∙ d .answer in
-        let kept-card = card ∙ (ap (λ (k : ℕ). take k (stepped .card)) long ∙ ap₂ (λ (k : ℕ) (l : List ℕ). cardIn l k) (d .«card_length») (d .card)) in
+  module _ (id : ClientId) (call : Call) (asked : List ℕ) (i : ℕ) (one : Client) (stepped : ClientStepped) (at : i ≡ clientSeat id) (first : one ≡ getD (world .clients) i noClient)
+      (given : answer ≡ stepped .answer) (does : ClientLeaves (clientDoes one (world .log) store asked call) (sentBefore (world .log) store) stepped old) where
+    abbrev turned : Turned
+    turned =
         record {
-          clients-are = ap₂ (λ (k : ℕ) (r : Client). set clients k r) at (d .client);
-          log-is = kept ∙ ap (λ (a : ClientAnswer). loggedBy a log) said;
-          text-is = writes ∙ ap₂ (λ (w : Said) (l : List ℕ). line number w l) (says ∙ ap (saidOf (log .count)) said) kept-card;
+          world = record { replicas = world .replicas; clients = set (world .clients) i (stepped .client); log = next };
+          saying = record { what = what; card = stepped .card; «card_length» = stepped .«card_length» };
+        }
+
+    pub client-plays : Plays (clientTurn world store id call asked) turned old
+    unfolding clientTurn
+    client-plays =
+        let party : one ≡ getD (world .clients) (clientSeat id) noClient = first ∙ ap (λ (k : ℕ). getD (world .clients) k noClient) at in
+        let d = subst (λ (r : Client). ClientLeaves (clientDoes r (world .log) store asked call) (sentBefore (world .log) store) stepped old) party does in
+        let said = given ∙ d .answer in
+        let log = kept ∙ ap (λ (a : ClientAnswer). loggedBy a (world .log)) said in
+        let clients = ap₂ (λ (k : ℕ) (r : Client). set (world .clients) k r) at (d .client) in
+        record {
+          world-is = ap₂ (λ (cs : List Client) (l : Log). record { replicas = world .replicas; clients = cs; log = l }) clients log;
+          says = record { what-is = says ∙ ap (saidOf (world .log .count)) said; card-is = ap₂ (λ (k : ℕ) (l : List ℕ). cardKept l k) (d .«card_length») (d .card) };
           store-is = d .store-is;
         }
 
@@ -76,33 +78,15 @@ default-free [] i d e h = absurd (omega arith)
 default-free (x ∷ l) zero d e h = refl
 default-free (x ∷ l) (suc i) d e h = default-free l i d e (omega arith)
 
-module _ (world : World) (store : List ℕ) (number : ℕ) (text : List ℕ) (asked : Command) (party : Addressee) (old : List ℕ)
+module _ (world : World) (store text : List ℕ) (asked : Command) (party : Addressee) (old : List ℕ)
     (reads : asked ≡ command text) (finds : party ≡ addressee (world .log .count) asked) where
   found : addressee (world .log .count) (command text) ≡ party
   found = ap (addressee (world .log .count)) (sym reads) ∙ sym finds
 
-  pub client-plays : (id : ClientId) (call : Call) (turned : ClientsTurned) → party ≡ ToTheClient id call → ClientsFollow (clientsTurn (world .clients) (world .log) store number id call text) turned old
-      → Plays (turn world store number text) (record { world = record { replicas = world .replicas; clients = turned .clients; log = turned .log }; text = turned .text }) old
-  unfolding turn does
-  client-plays id call turned known f =
-      rw (found, known)
-      (record {
-        world-is = ap₂ (λ (cs : List Client) (l : Log). record { replicas = world .replicas; clients = cs; log = l }) (f .clients-are) (f .log-is);
-        text-is = f .text-is;
-        store-is = f .store-is;
-      })
+  pub turn-plays : (turned : Turned) (known : Addressee) → party ≡ known → Plays (does world store text known) turned old → Plays (turn world store text) turned old
+  unfolding turn
+  turn-plays turned known e p = rw (found, e) p
 
-  pub replica-plays : (id : ReplicaId) (m : ℕ) (turned : ReplicasTurned) → party ≡ ToTheReplica id m → ReplicasFollow (replicasTurn (world .replicas) (world .log) store number id m) turned old
-      → Plays (turn world store number text) (record { world = record { replicas = turned .replicas; clients = world .clients; log = turned .log }; text = turned .text }) old
-  unfolding turn does
-  replica-plays id m turned known f =
-      rw (found, known)
-      (record {
-        world-is = ap₂ (λ (rs : List Replica) (l : Log). record { replicas = rs; clients = world .clients; log = l }) (f .replicas-are) (f .log-is);
-        text-is = f .text-is;
-        store-is = f .store-is;
-      })
-
-  pub nobody-plays : (printed : Text) → party ≡ Nobody → textIn printed ≡ line number NotRead [] → old ≡ store → Plays (turn world store number text) (record { world = world; text = printed }) old
-  unfolding turn does
-  nobody-plays printed known writes same = rw (found, known) (record { world-is = refl; text-is = writes; store-is = same })
+  pub nobody-plays : (saying : Saying) → Says NotRead [] saying → old ≡ store → Plays (does world store text Nobody) (record { world = world; saying = saying }) old
+  unfolding does
+  nobody-plays saying s same = record { world-is = refl; says = s; store-is = same }

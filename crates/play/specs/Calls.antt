@@ -3,10 +3,8 @@ use mathlib.Core.Path.{_≡_}
 use mathlib.Core.List.{List, _++_}
 use Prim.Native.Nat.{ℕ, _-_}
 use lib.ListN.{length, take, drop, replicate}
-use Rattle.base.specs.Outcome.{Outcome, accepted, refused}
 use Rattle.wire.specs.Message.{longest}
 use Rattle.wire.specs.Signatures.{signaturesTo}
-use Rattle.wire.specs.declared.message.Fields.{Fields}
 use Rattle.wire.specs.declared.message.Party.{Party}
 use Rattle.wire.specs.declared.message.Party.the-variants.{Replica as AtReplica, Client as AtClient}
 use Rattle.text.specs.Hex.{hexPairs}

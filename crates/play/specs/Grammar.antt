@@ -5,8 +5,6 @@ use Prim.Native.Nat.{ℕ, _+_, _-_, _*_, _%_}
 use lib.Dec.{eqb, ltb}
 use lib.ListN.{length, getD, drop}
 use Rattle.base.specs.Range.{within}
-use Rattle.base.specs.declared.party.ClientId.{ClientId}
-use Rattle.base.specs.declared.party.ReplicaId.{ReplicaId}
 use Rattle.wire.specs.Checks.{all}
 use Rattle.play.specs.declared.grammar.Command.{Command}
 use Rattle.play.specs.declared.grammar.Command.the-variants.{Write, Read, ToReplica, ToClient, Unread}
@@ -16,8 +14,8 @@ unfoldable pub isHexDigit : ℕ → Bool
 isHexDigit byte = within 48 57 byte || within 65 70 byte
 
 -- "HEX is 1 to 17 pairs of capital hex digits"
-unfoldable pub isCard : List ℕ → Bool
-isCard digits = within 2 34 (length digits) && (eqb (length digits % 2) 0 && all isHexDigit digits)
+unfoldable pub isHexCard : List ℕ → Bool
+isHexCard digits = within 2 34 (length digits) && (eqb (length digits % 2) 0 && all isHexDigit digits)
 
 -- The number n with decimal digits behind it; 0 if one of them is no digit, or if the number has four digits: at most 100
 -- messages are sent.
@@ -34,7 +32,7 @@ unfoldable pub asked : ℕ → ℕ → List ℕ → Command
 asked letter party rest =
     cond (eqb letter 104) (ToReplica (record { 0 = party }) (messageNumber rest))
     (cond (eqb letter 100) (ToClient (record { 0 = party }) (messageNumber rest))
-    (cond (eqb letter 119 && isCard rest) (Write (record { 0 = party })) Unread))
+    (cond (eqb letter 119 && isHexCard rest) (Write (record { 0 = party })) Unread))
 
 -- "`r D` a read"
 unfoldable pub short : ℕ → ℕ → List ℕ → Command

@@ -1,7 +1,6 @@
 -- The messages that were sent, as the player keeps them: a store of bytes, 1,579 for each message, and how long each is.
-use mathlib.Core.Path.{_≡_}
 use mathlib.Core.Bool.{cond}
-use mathlib.Core.List.{List, _++_}
+use mathlib.Core.List.{List}
 use Prim.Native.Nat.{ℕ, _+_, _*_, min}
 use lib.Dec.{ltb}
 use lib.ListN.{length, getD, take, drop, set, replicate}
@@ -25,8 +24,3 @@ message log store before = take (sentLength log before) (drop (start before (len
 -- A message of so many bytes more. "It reads the first 100 lines", so there are never more than 100.
 unfoldable pub logged : ℕ → Log → Log
 logged size log = cond (ltb (log .count) 100) (record { count = log .count + 1; lengths = set (log .lengths) (log .count) size }) log
-
--- Bytes copied to the front of a buffer, as many as there is room for.
-pub record Copied (bytes old : List ℕ) (count : ℕ) (new : List ℕ) : Type 0 where
-  pub many : count ≡ min (length bytes) (length old)
-  pub holds : new ≡ take count bytes ++ drop count old

@@ -3,36 +3,31 @@ use mathlib.Core.Path.{_≡_}
 use mathlib.Core.Bool.{cond}
 use mathlib.Core.List.{List, [], _++_}
 use Prim.Native.Nat.{ℕ, _+_}
-use lib.Dec.{leb}
 use lib.ListN.{getD, set}
 use Rattle.base.specs.Range.{within}
 use Rattle.base.specs.declared.party.ClientId.{ClientId}
 use Rattle.base.specs.declared.party.ReplicaId.{ReplicaId}
-use Rattle.protocol.specs.Parts.{cardIn}
+use Rattle.protocol.specs.Parts.{cardKept}
 use Rattle.protocol.specs.Replica.{noReplica, ReplicaCall}
 use Rattle.protocol.specs.Client.{noClient, ClientCall}
-use Rattle.protocol.specs.declared.replica.Replica.{Replica}
 use Rattle.protocol.specs.declared.replica.ReplicaAnswer.{ReplicaAnswer}
 use Rattle.protocol.specs.declared.replica.ReplicaAnswer.the-variants.{Send as Sends, Refused as Refuses}
-use Rattle.protocol.specs.declared.client.Client.{Client}
 use Rattle.protocol.specs.declared.client.ClientAnswer.{ClientAnswer}
 use Rattle.protocol.specs.declared.client.ClientAnswer.the-variants.{Send, Counted, Done, Ended, Refused}
 use Rattle.play.specs.Calls.{sentBefore, clientDoes, replicaDoes}
 use Rattle.play.specs.Grammar.{command}
 use Rattle.play.specs.Log.{logged}
-use Rattle.play.specs.Output.{line, textIn}
-use Rattle.play.specs.Worlds.{seat}
+use Rattle.play.specs.Worlds.{clientSeat, replicaSeat}
 use Rattle.play.specs.declared.calls.Call.{Call}
 use Rattle.play.specs.declared.calls.Call.the-variants.{Write as BeginWrite, Read as BeginRead, Deliver}
 use Rattle.play.specs.declared.grammar.Command.{Command}
 use Rattle.play.specs.declared.grammar.Command.the-variants.{Write, Read, ToReplica, ToClient, Unread}
 use Rattle.play.specs.declared.log.Log.{Log}
 use Rattle.play.specs.declared.output.Said.{Said}
+use Rattle.play.specs.declared.output.Saying.{Saying}
 use Rattle.play.specs.declared.output.Said.the-variants.{Sent, Taken, Done as Finished, Ended as NoSuccessor, Refused as TurnedDown, Unread as NotRead}
 use Rattle.play.specs.declared.turn.Addressee.{Addressee}
 use Rattle.play.specs.declared.turn.Addressee.the-variants.{Client as ToTheClient, Replica as ToTheReplica, Nobody}
-use Rattle.play.specs.declared.turn.ClientsTurned.{ClientsTurned}
-use Rattle.play.specs.declared.turn.ReplicasTurned.{ReplicasTurned}
 use Rattle.play.specs.declared.turn.Turned.{Turned}
 use Rattle.play.specs.declared.world.World.{World}
 
@@ -57,49 +52,46 @@ unfoldable pub reply : ReplicaAnswer → ClientAnswer
 reply (Sends size) = Send size
 reply (Refuses number) = Refused number
 
--- What a line leaves: the parties, the messages sent and the store that holds them, and the line that is printed.
-pub record ClientsTurn : Type 0 where
-  pub clients : List Client
-  pub log : Log
-  pub store : List ℕ
-  pub line : List ℕ
-
-pub record ReplicasTurn : Type 0 where
-  pub replicas : List Replica
-  pub log : Log
-  pub store : List ℕ
-  pub line : List ℕ
-
+-- What a line leaves: the parties, the messages sent and the store that holds them; and what is said of it, with the card that `done` shows.
 pub record Turn : Type 0 where
   pub world : World
   pub store : List ℕ
-  pub line : List ℕ
+  pub said : Said
+  pub card : List ℕ
 
-abbrev pub afterClient : List Client → Log → List ℕ → ℕ → ClientId → ClientCall → ClientsTurn
-afterClient clients log store number id call =
+abbrev pub afterClient : World → List ℕ → ClientId → ClientCall → Turn
+afterClient world store id call =
     record {
-      clients = set clients (seat (id .0)) (call .client);
-      log = loggedBy (call .answer) log;
-      store = sentBefore log store ++ call .output;
-      line = line number (saidOf (log .count) (call .answer)) (cardIn (call .card) (call .«card_length»));
+      world =
+          record {
+            replicas = world .replicas;
+            clients = set (world .clients) (clientSeat id) (call .client);
+            log = loggedBy (call .answer) (world .log);
+          };
+      store = sentBefore (world .log) store ++ call .output;
+      said = saidOf (world .log .count) (call .answer);
+      card = cardKept (call .card) (call .«card_length»);
     }
 
-abbrev pub afterReplica : List Replica → Log → List ℕ → ℕ → ReplicaId → ReplicaCall → ReplicasTurn
-afterReplica replicas log store number id call =
+abbrev pub afterReplica : World → List ℕ → ReplicaId → ReplicaCall → Turn
+afterReplica world store id call =
     record {
-      replicas = set replicas (seat (id .0)) (call .replica);
-      log = loggedBy (reply (call .answer)) log;
-      store = sentBefore log store ++ call .output;
-      line = line number (saidOf (log .count) (reply (call .answer))) [];
+      world =
+          record {
+            replicas = set (world .replicas) (replicaSeat id) (call .replica);
+            clients = world .clients;
+            log = loggedBy (reply (call .answer)) (world .log);
+          };
+      store = sentBefore (world .log) store ++ call .output;
+      said = saidOf (world .log .count) (reply (call .answer));
+      card = [];
     }
 
-unfoldable pub clientsTurn : List Client → Log → List ℕ → ℕ → ClientId → Call → List ℕ → ClientsTurn
-clientsTurn clients log store number id call text =
-    afterClient clients log store number id (clientDoes (getD clients (seat (id .0)) noClient) log store text call)
+unfoldable pub clientTurn : World → List ℕ → ClientId → Call → List ℕ → Turn
+clientTurn world store id call text = afterClient world store id (clientDoes (getD (world .clients) (clientSeat id) noClient) (world .log) store text call)
 
-unfoldable pub replicasTurn : List Replica → Log → List ℕ → ℕ → ReplicaId → ℕ → ReplicasTurn
-replicasTurn replicas log store number id m =
-    afterReplica replicas log store number id (replicaDoes (getD replicas (seat (id .0)) noReplica) log store m)
+unfoldable pub replicaTurn : World → List ℕ → ReplicaId → ℕ → Turn
+replicaTurn world store id m = afterReplica world store id (replicaDoes (getD (world .replicas) (replicaSeat id) noReplica) (world .log) store m)
 
 abbrev pub ifSent : ℕ → ℕ → Addressee → Addressee
 ifSent count m party = cond (within 1 count m) party Nobody
@@ -112,42 +104,23 @@ addressee count (ToReplica id m) = ifSent count m (ToTheReplica id m)
 addressee count (ToClient id m) = ifSent count m (ToTheClient id (Deliver m))
 addressee count Unread = Nobody
 
-abbrev pub withClients : World → ClientsTurn → Turn
-withClients world turned =
-    record { world = record { replicas = world .replicas; clients = turned .clients; log = turned .log }; store = turned .store; line = turned .line }
+unfoldable pub does : World → List ℕ → List ℕ → Addressee → Turn
+does world store text (ToTheClient id call) = clientTurn world store id call text
+does world store text (ToTheReplica id m) = replicaTurn world store id m
+does world store text Nobody = record { world = world; store = store; said = NotRead; card = [] }
 
-abbrev pub withReplicas : World → ReplicasTurn → Turn
-withReplicas world turned =
-    record { world = record { replicas = turned .replicas; clients = world .clients; log = turned .log }; store = turned .store; line = turned .line }
-
-unfoldable pub does : World → List ℕ → ℕ → List ℕ → Addressee → Turn
-does world store number text (ToTheClient id call) = withClients world (clientsTurn (world .clients) (world .log) store number id call text)
-does world store number text (ToTheReplica id m) = withReplicas world (replicasTurn (world .replicas) (world .log) store number id m)
-does world store number text Nobody = record { world = world; store = store; line = line number NotRead [] }
-
--- One line of the input, of this number.
-unfoldable pub turn : World → List ℕ → ℕ → List ℕ → Turn
-turn world store number text = does world store number text (addressee (world .log .count) (command text))
-
--- "It reads the first 100 lines": a line behind them does nothing, and nothing is printed for it.
-unfoldable pub played : World → List ℕ → ℕ → List ℕ → Turn
-played world store number text = cond (leb number 100) (turn world store number text) (record { world = world; store = store; line = [] })
+-- One line of the input.
+unfoldable pub turn : World → List ℕ → List ℕ → Turn
+turn world store text = does world store text (addressee (world .log .count) (command text))
 
 -- ---- What the code keeps to
 
-pub record ClientsFollow (turn : ClientsTurn) (turned : ClientsTurned) (store : List ℕ) : Type 0 where
-  pub clients-are : turned .clients ≡ turn .clients
-  pub log-is : turned .log ≡ turn .log
-  pub text-is : textIn (turned .text) ≡ turn .line
-  pub store-is : store ≡ turn .store
-
-pub record ReplicasFollow (turn : ReplicasTurn) (turned : ReplicasTurned) (store : List ℕ) : Type 0 where
-  pub replicas-are : turned .replicas ≡ turn .replicas
-  pub log-is : turned .log ≡ turn .log
-  pub text-is : textIn (turned .text) ≡ turn .line
-  pub store-is : store ≡ turn .store
+-- The code has the card in an array, with its length.
+pub record Says (said : Said) (card : List ℕ) (saying : Saying) : Type 0 where
+  pub what-is : saying .what ≡ said
+  pub card-is : cardKept (saying .card) (saying .«card_length») ≡ card
 
 pub record Plays (turn : Turn) (turned : Turned) (store : List ℕ) : Type 0 where
   pub world-is : turned .world ≡ turn .world
-  pub text-is : textIn (turned .text) ≡ turn .line
+  pub says : Says (turn .said) (turn .card) (turned .saying)
   pub store-is : store ≡ turn .store

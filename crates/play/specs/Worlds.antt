@@ -1,8 +1,10 @@
 -- What the player starts with: four replicas and four clients.
-use mathlib.Core.List.{[], _∷_}
+use mathlib.Core.List.{List, [], _∷_}
 use Prim.Native.Nat.{ℕ, _+_, _%_}
+use lib.ListN.{replicate}
 use Rattle.base.specs.Counting.{replica}
 use Rattle.base.specs.declared.party.ClientId.{ClientId}
+use Rattle.base.specs.declared.party.ReplicaId.{ReplicaId}
 use Rattle.protocol.specs.Replica.{madeReplica}
 use Rattle.protocol.specs.Client.{madeClient}
 use Rattle.play.specs.Log.{emptyLog}
@@ -20,6 +22,13 @@ freshWorld =
       log = emptyLog;
     }
 
--- A party's place among the four: 1 to 4 stand at 0 to 3, and the grammar lets no other number through.
-unfoldable pub seat : ℕ → ℕ
-seat id = (id + 3) % 4
+-- A party's place among the four of its kind: 1 to 4 stand at 0 to 3, and the grammar lets no other number through.
+unfoldable pub replicaSeat : ReplicaId → ℕ
+replicaSeat id = (id .0 + 3) % 4
+
+unfoldable pub clientSeat : ClientId → ℕ
+clientSeat id = (id .0 + 3) % 4
+
+-- The store before the first line: room for 100 messages.
+unfoldable pub emptyStore : List ℕ
+emptyStore = replicate 157_900 0

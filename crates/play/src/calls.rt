@@ -1,7 +1,7 @@
 // The calls that a line asks for, each with the store behind the messages sent as its output.
-use crate::grammar::behind;
 use crate::log::Log;
-use crate::log::front;
+use base::slices::behind;
+use base::slices::front;
 use client::Stepped;
 use protocol::client::Client;
 use protocol::replica::Replica;

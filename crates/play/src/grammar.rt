@@ -2,10 +2,11 @@
 use base::party::ClientId;
 use base::party::ReplicaId;
 use base::party::within;
+use base::slices::behind;
 ghost use mathlib.Core.Path.{_≡_};
-ghost use lib.ListN.{getD, drop};
+ghost use lib.ListN.{getD};
 ghost use Rattle.wire.specs.Checks.{all};
-ghost use Rattle.play.specs.Grammar.{isHexDigit, isCard, numeral, messageNumber, asked, command};
+ghost use Rattle.play.specs.Grammar.{isHexDigit, isHexCard, numeral, messageNumber, asked, command};
 
 // What a line asks for. A number that writes no message's number is 0.
 pub enum Command {
@@ -29,17 +30,6 @@ fn byte_at(line: &[u8], at: usize) -> u8
         return line[at];
     }
     0
-}
-
-// What stands from a place on.
-pub(super) fn behind(line: &[u8], at: usize) -> &[u8]
-    ensures { λ r. ⌜ now r ≡ drop at (now (line .entry)) ⌝ }
-{
-    if at < line.len() {
-        return &line[at..];
-    }
-    let end = line.len();
-    &line[end..]
 }
 
 fn is_hex_digit(byte: u8) -> bool
@@ -66,7 +56,7 @@ fn all_hex(digits: &[u8]) -> bool
 
 // 1 to 17 pairs of capital hex digits.
 fn is_card(digits: &[u8]) -> bool
-    ensures { λ r. ⌜ r ≡ isCard (now (digits .entry)) ⌝ }
+    ensures { λ r. ⌜ r ≡ isHexCard (now (digits .entry)) ⌝ }
 {
     if digits.len() < 2 {
         return false;

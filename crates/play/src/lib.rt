@@ -1,7 +1,10 @@
-// The run player but for reading and printing: its grammar, what it keeps, one turn, and the line that a turn prints.
+// The run player but for reading and writing: what it keeps of its input, its grammar, one turn, what a turn prints, and all of
+// it together.
 mod calls;
-pub mod grammar;
-pub mod log;
-pub mod output;
-pub mod turn;
-pub mod world;
+mod grammar;
+mod log;
+mod output;
+pub mod script;
+pub mod session;
+mod turn;
+mod world;

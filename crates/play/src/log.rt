@@ -1,10 +1,12 @@
 // The messages sent: how many, and how long each is. Their bytes stand in a borrowed store, 1,579 for each.
-use crate::grammar::behind;
+use base::slices::behind;
+use base::slices::front;
 use wire::layout::LONGEST_MESSAGE;
 ghost use mathlib.Core.Path.{_≡_};
 ghost use Prim.Native.Nat.{_≤_};
-ghost use lib.ListN.{length, take, drop};
-ghost use Rattle.play.specs.Log.{emptyLog, start, logged, sentLength, message, Copied};
+ghost use lib.ListN.{length};
+ghost use Rattle.text.specs.Put.{Puts};
+ghost use Rattle.play.specs.Log.{emptyLog, start, logged, sentLength, message};
 
 pub struct Log {
     pub count: u8,
@@ -58,34 +60,10 @@ pub fn start(before: usize, size: usize) -> usize
     LONGEST_MESSAGE * before
 }
 
-// As many bytes as there is room for; answers how many.
-fn copy<'a>(from: &'a [u8], to: &mut [u8]) -> usize
-    ensures { λ r. ⌜ Copied (now (from .entry)) (now (to .entry)) r (now (to .exit)) ⌝ }
-{
-    let mut i = 0;
-    while i < from.len() {
-        if to.len() <= i {
-            return i;
-        }
-        to[i] = from[i];
-        i += 1;
-    }
-    i
-}
-
-pub(super) fn front(bytes: &[u8], n: usize) -> &[u8]
-    ensures { λ r. ⌜ now r ≡ take n (now (bytes .entry)) ⌝ }
-{
-    if n < bytes.len() {
-        return &bytes[0..n];
-    }
-    bytes
-}
-
 // Copies the message behind so many others out of the store; answers how many bytes that were.
 pub fn copy_message(log: Log, before: usize, store: &[u8], to: &mut [u8]) -> usize
-    ensures { λ r. ⌜ Copied (message log (now (store .entry)) before) (now (to .entry)) r (now (to .exit)) ⌝ }
+    ensures { λ r. ⌜ Puts (now (to .entry)) 0 (message log (now (store .entry)) before) r (now (to .exit)) ⌝ }
 {
     let at = start(before, store.len());
-    copy(front(behind(store, at), length_of(log, before)), to)
+    text::put(to, 0, front(behind(store, at), length_of(log, before)))
 }

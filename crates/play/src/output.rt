@@ -1,16 +1,17 @@
 // The lines that the player prints.
+use base::slices::front;
 use base::timestamp::Timestamp;
+use text::put;
+use text::put_hex;
+use text::put_number;
 ghost use mathlib.Core.Path.{_≡_};
-ghost use mathlib.Core.List.{_∷_, []};
-ghost use Prim.Native.Nat.{_+_, _*_, _≤_, _<_};
-ghost use lib.ListN.{length};
-ghost use Rattle.play.specs.Output.{Adds, hexDigit, digitAt, decimal, hex, stamp, said, line, textIn, emptyText};
-
-// A line in the making. No line is longer than its room.
-pub struct Text {
-    pub length: usize,
-    pub bytes: [u8; 80],
-}
+ghost use mathlib.Core.List.{[], _++_};
+ghost use Prim.Native.Nat.{min};
+ghost use Rattle.protocol.specs.Parts.{cardKept};
+ghost use Rattle.text.specs.Decimal.{decimal};
+ghost use Rattle.text.specs.Put.{Puts};
+ghost use Rattle.play.specs.Output.{stamp, said, line};
+ghost use Rattle.play.specs.Player.{Says};
 
 // What a line says of its call.
 pub enum Said {
@@ -22,137 +23,78 @@ pub enum Said {
     Unread,
 }
 
-const UNITS: [u32; 10] = [
-    1,
-    10,
-    100,
-    1_000,
-    10_000,
-    100_000,
-    1_000_000,
-    10_000_000,
-    100_000_000,
-    1_000_000_000,
-];
+// The same with the card that `done` shows; no other answer shows one.
+pub struct Saying {
+    pub what: Said,
+    pub card: [u8; 17],
+    pub card_length: u8,
+}
 
-pub fn empty() -> Text
-    ensures { λ r. ⌜ r ≡ emptyText ⌝ }
+// What shows no card.
+pub(super) fn without_card(what: Said) -> Saying
+    ensures { λ r. ⌜ Says what [] r ⌝ }
 {
-    Text {
-        length: 0,
-        bytes: [0; 80],
+    Saying {
+        what: what,
+        card: [0; 17],
+        card_length: 0,
     }
 }
 
-fn push(text: Text, byte: u8) -> Text
-    requires { ⌜ text .length < 80 ⌝ }
-    ensures { λ r. ⌜ Adds text (byte ∷ []) 1 r ⌝ }
+fn put_timestamp(out: &mut [u8], at: usize, timestamp: Timestamp) -> usize
+    ensures { λ r. ⌜ Puts (now (out .entry)) at (stamp timestamp) r (now (out .exit)) ⌝ }
 {
-    let at = text.length;
-    let mut next = text;
-    next.bytes[at] = byte;
-    next.length = at + 1;
-    next
+    let count = put_number(out, at, timestamp.count as u64);
+    let dot = put(out, count, b".");
+    put_number(out, dot, timestamp.client.0 as u64)
 }
 
-fn push_all(text: Text, word: &[u8]) -> Text
-    requires { ⌜ text .length + length (now word) ≤ 80 ⌝ }
-    ensures { λ r. ⌜ Adds text (now (word .entry)) (length (now (word .entry))) r ⌝ }
+fn put_done(out: &mut [u8], at: usize, timestamp: Timestamp, card: &[u8]) -> usize
+    ensures { λ r. ⌜ Puts (now (out .entry)) at (said (Said.Done timestamp) (now (card .entry))) r (now (out .exit)) ⌝ }
 {
-    let mut next = text;
-    let mut i = 0;
-    while i < word.len() {
-        next = push(next, word[i]);
-        i += 1;
-    }
-    next
+    let word = put(out, at, b"done ");
+    let when = put_timestamp(out, word, timestamp);
+    let space = put(out, when, b" ");
+    put_hex(out, space, card)
 }
 
-// The digit at a place, unless it is a zero in front; the last place has one always.
-fn push_digit(text: Text, n: u32, unit: u32) -> Text
-    requires { ⌜ (text .length < 80) × (0 < unit) ⌝ }
-    ensures { λ r. ⌜ Adds text (digitAt n unit) 1 r ⌝ }
+// A word, and a number behind it.
+fn put_numbered(out: &mut [u8], at: usize, word: &[u8], n: u64) -> usize
+    ensures { λ r. ⌜ Puts (now (out .entry)) at (now (word .entry) ++ decimal n) r (now (out .exit)) ⌝ }
 {
-    if unit == 1 {
-        return push(text, 48 + (n % 10) as u8);
-    }
-    if n < unit {
-        return text;
-    }
-    push(text, 48 + (n / unit % 10) as u8)
+    let next = put(out, at, word);
+    put_number(out, next, n)
 }
 
-fn push_decimal(text: Text, n: u32) -> Text
-    requires { ⌜ text .length + 10 ≤ 80 ⌝ }
-    ensures { λ r. ⌜ Adds text (decimal n) 10 r ⌝ }
-{
-    let units = UNITS;
-    let mut next = text;
-    let mut place = 10;
-    while place > 0 {
-        place -= 1;
-        next = push_digit(next, n, units[place]);
-    }
-    next
-}
-
-fn hex_digit(n: u8) -> u8
-    requires { ⌜ n < 16 ⌝ }
-    ensures { λ r. ⌜ r ≡ hexDigit n ⌝ }
-{
-    if n < 10 { 48 + n } else { 55 + n }
-}
-
-fn push_hex(text: Text, bytes: &[u8]) -> Text
-    requires { ⌜ text .length + 2 * length (now bytes) ≤ 80 ⌝ }
-    ensures { λ r. ⌜ Adds text (hex (now (bytes .entry))) (2 * length (now (bytes .entry))) r ⌝ }
-{
-    let mut next = text;
-    let mut i = 0;
-    while i < bytes.len() {
-        let byte = bytes[i];
-        let high = push(next, hex_digit(byte / 16));
-        next = push(high, hex_digit(byte % 16));
-        i += 1;
-    }
-    next
-}
-
-fn push_timestamp(text: Text, timestamp: Timestamp) -> Text
-    requires { ⌜ text .length + 21 ≤ 80 ⌝ }
-    ensures { λ r. ⌜ Adds text (stamp timestamp) 21 r ⌝ }
-{
-    let count = push_decimal(text, timestamp.count);
-    push_decimal(push(count, b'.'), timestamp.client.0 as u32)
-}
-
-fn push_done(text: Text, timestamp: Timestamp, card: &[u8]) -> Text
-    requires { ⌜ (text .length ≤ 11) × (length (now card) ≤ 17) ⌝ }
-    ensures { λ r. ⌜ Adds text (said (Said.Done timestamp) (now (card .entry))) 61 r ⌝ }
-{
-    let when = push_timestamp(push_all(text, b"done "), timestamp);
-    push_hex(push(when, b' '), card)
-}
-
-fn push_said(text: Text, what: Said, card: &[u8]) -> Text
-    requires { ⌜ (text .length ≤ 11) × (length (now card) ≤ 17) ⌝ }
-    ensures { λ r. ⌜ Adds text (said what (now (card .entry))) 61 r ⌝ }
+fn put_said(out: &mut [u8], at: usize, what: Said, card: &[u8]) -> usize
+    ensures { λ r. ⌜ Puts (now (out .entry)) at (said what (now (card .entry))) r (now (out .exit)) ⌝ }
 {
     match what {
-        Said::Sent(m) => push_decimal(push_all(text, b"sent "), m),
-        Said::Taken => push_all(text, b"taken"),
-        Said::Done(timestamp) => push_done(text, timestamp, card),
-        Said::Ended => push_all(text, b"ended"),
-        Said::Refused(number) => push_decimal(push_all(text, b"refused "), number as u32),
-        Said::Unread => push_all(text, b"unread"),
+        Said::Sent(m) => put_numbered(out, at, b"sent ", m as u64),
+        Said::Taken => put(out, at, b"taken"),
+        Said::Done(timestamp) => put_done(out, at, timestamp, card),
+        Said::Ended => put(out, at, b"ended"),
+        Said::Refused(number) => put_numbered(out, at, b"refused ", number as u64),
+        Said::Unread => put(out, at, b"unread"),
     }
+}
+
+// A card has at most 17 bytes.
+fn card_length(length: u8) -> usize
+    ensures { λ r. ⌜ r ≡ min length 17 ⌝ }
+{
+    if length < 17 { length as usize } else { 17 }
 }
 
 // A line of the output: the number of the input's line, and what is said of it.
-pub(super) fn line(number: u8, what: Said, card: &[u8]) -> Text
-    requires { ⌜ length (now card) ≤ 17 ⌝ }
-    ensures { λ r. ⌜ textIn r ≡ line number what (now (card .entry)) ⌝ }
+pub(super) fn put_line(out: &mut [u8], at: usize, number: u8, saying: Saying) -> usize
+    ensures { λ r. ⌜ Puts (now (out .entry)) at (line number (saying .what) (cardKept (saying .card) (saying .«card_length»))) r (now (out .exit)) ⌝ }
 {
-    let numbered = push(push_decimal(empty(), number as u32), b' ');
-    push(push_said(numbered, what, card), b'\n')
+    let what = saying.what;
+    let card = saying.card;
+    let length = card_length(saying.card_length);
+    let numbered = put_number(out, at, number as u64);
+    let space = put(out, numbered, b" ");
+    let words = put_said(out, space, what, front(&card, length));
+    put(out, words, b"\n")
 }

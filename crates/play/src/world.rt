@@ -8,7 +8,7 @@ ghost use mathlib.Core.Path.{_≡_};
 ghost use Prim.Native.Nat.{_<_};
 ghost use Rattle.protocol.specs.Replica.{madeReplica};
 ghost use Rattle.protocol.specs.Client.{madeClient};
-ghost use Rattle.play.specs.Worlds.{freshWorld, seat};
+ghost use Rattle.play.specs.Worlds.{freshWorld, replicaSeat, clientSeat};
 
 pub struct World {
     pub replicas: [Replica; 4],
@@ -20,16 +20,38 @@ const FAULT_BOUND: u8 = 1;
 
 const FIRST_NONCE: u64 = 1;
 
-fn replica(id: u8) -> Replica
-    ensures { λ r. ⌜ r ≡ madeReplica 1 (record { 0 = id }) ⌝ }
+fn replica(id: ReplicaId) -> Replica
+    ensures { λ r. ⌜ r ≡ madeReplica 1 id ⌝ }
 {
-    replica::fresh(FAULT_BOUND, ReplicaId(id)).replica
+    replica::fresh(FAULT_BOUND, id).replica
 }
 
-fn client(id: u8) -> Client
-    ensures { λ r. ⌜ r ≡ madeClient 1 (record { 0 = id }) 1 ⌝ }
+fn client(id: ClientId) -> Client
+    ensures { λ r. ⌜ r ≡ madeClient 1 id 1 ⌝ }
 {
-    client::fresh(FAULT_BOUND, ClientId(id), FIRST_NONCE).client
+    client::fresh(FAULT_BOUND, id, FIRST_NONCE).client
+}
+
+fn replicas() -> [Replica; 4]
+    ensures { λ r. ⌜ r ≡ freshWorld .replicas ⌝ }
+{
+    [
+        replica(ReplicaId(1)),
+        replica(ReplicaId(2)),
+        replica(ReplicaId(3)),
+        replica(ReplicaId(4)),
+    ]
+}
+
+fn clients() -> [Client; 4]
+    ensures { λ r. ⌜ r ≡ freshWorld .clients ⌝ }
+{
+    [
+        client(ClientId(1)),
+        client(ClientId(2)),
+        client(ClientId(3)),
+        client(ClientId(4)),
+    ]
 }
 
 // The world before the first line.
@@ -37,15 +59,22 @@ pub fn fresh() -> World
     ensures { λ r. ⌜ r ≡ freshWorld ⌝ }
 {
     World {
-        replicas: [replica(1), replica(2), replica(3), replica(4)],
-        clients: [client(1), client(2), client(3), client(4)],
+        replicas: replicas(),
+        clients: clients(),
         log: crate::log::empty(),
     }
 }
 
-// A party's place among the four.
-pub fn seat(id: u8) -> usize
-    ensures { λ r. ⌜ (r ≡ seat id) × (r < 4) ⌝ }
+// A replica's place among the four.
+pub fn replica_seat(id: ReplicaId) -> usize
+    ensures { λ r. ⌜ (r ≡ replicaSeat id) × (r < 4) ⌝ }
 {
-    (id as usize + 3) % 4
+    (id.0 as usize + 3) % 4
+}
+
+// A client's place among the four.
+pub fn client_seat(id: ClientId) -> usize
+    ensures { λ r. ⌜ (r ≡ clientSeat id) × (r < 4) ⌝ }
+{
+    (id.0 as usize + 3) % 4
 }

@@ -5,10 +5,10 @@ use mathlib.Core.List.{List, [], _∷_, _++_, append-assoc}
 use mathlib.Core.Option.{none, some}
 use Prim.Native.Nat.{ℕ, zero, suc, _+_, _-_, _*_, _≤_, _<_, min}
 use native.Mathlib.Omega.{arith}
-use borrow.Author.Tests.{eqb-true, eq-eqb, ne-eqb}
+use borrow.Author.Tests.{eqb-true}
 use lib.Dec.{eqb}
 use lib.ListN.{length, take, drop, replicate, length-append, length-take, length-drop, length-replicate}
-use lib.Seq.{length-take-le, take-append-le, drop-append-le, take-append-add, drop-append-add, take-append-seam, take-at, drop-at, take-take, drop-drop}
+use lib.Seq.{length-take-le, take-append-le, drop-append-le, drop-append-add, take-append-seam, take-at, drop-at, take-take, drop-drop}
 use Rattle.base.specs.BigEndian.{Bytes}
 use Rattle.base.specs.Bytes.{filled}
 use Rattle.base.proofs.BigEndian.{bytes-append, bytes-take, bytes-drop}
@@ -16,7 +16,7 @@ use Rattle.base.proofs.Filling.{zeros, filled-length, filled-zeros}
 use Rattle.wire.specs.Message.{EachFits, EntriesFit, IfThere, preparedSize}
 use Rattle.wire.specs.Proof.{Entry, PreparedProof, entriesBytes, readEntries}
 use Rattle.wire.proofs.ProofBytes.{length-read}
-use Rattle.protocol.specs.Parts.{cardIn, entriesIn, ifIssued}
+use Rattle.protocol.specs.Parts.{cardKept, entriesKept, ifIssued}
 use Rattle.protocol.proofs.Fit.{Array}
 use Rattle.wire.specs.Parts.{preparedTimestamp}
 
@@ -53,13 +53,13 @@ module _ (width : ℕ) (bytes : List ℕ) where
 
 -- ---- Cards
 
-pub card-kept : (card : List ℕ) → length card ≤ 17 → cardIn (filled 17 card) (length card) ≡ card
+pub card-kept : (card : List ℕ) → length card ≤ 17 → cardKept (filled 17 card) (length card) ≡ card
 card-kept card h = front-kept 17 card h
 
-pub card-in-bytes : (array : List ℕ) (kept : ℕ) → Bytes array → Bytes (cardIn array kept)
+pub card-in-bytes : (array : List ℕ) (kept : ℕ) → Bytes array → Bytes (cardKept array kept)
 card-in-bytes array kept h = bytes-take (min kept 17) array h
 
-pub card-in-short : (array : List ℕ) (kept : ℕ) → length (cardIn array kept) ≤ 17
+pub card-in-short : (array : List ℕ) (kept : ℕ) → length (cardKept array kept) ≤ 17
 card-in-short array kept = rw length-take (omega arith)
 
 -- ---- Entries
@@ -74,10 +74,10 @@ entries-read-fit (suc n) bytes l h = (
 )
 
 module _ (array : List ℕ) (kept : ℕ) where
-  pub entries-in-length : length (entriesIn array kept) ≤ 11
+  pub entries-in-length : length (entriesKept array kept) ≤ 11
   entries-in-length = rw length-read (omega arith)
 
-  pub entries-in-fit : Array 715 array → EntriesFit (entriesIn array kept)
+  pub entries-in-fit : Array 715 array → EntriesFit (entriesKept array kept)
   entries-in-fit h = (rw length-read (omega arith), entries-read-fit (min kept 11) array (omega arith) (h .1))
 
 pub entries-bytes-length : (entries : List Entry) → EachFits entries → length (entriesBytes entries) ≡ 65 * length entries
@@ -105,7 +105,7 @@ entries-kept-in width entries h l =
     ap (readEntries (length entries)) (filled-zeros width (entriesBytes entries) (rw (entries-bytes-length entries h) l))
     ∙ entries-read-back entries (zeros (width - length (entriesBytes entries))) h
 
-pub entries-kept : (entries : List Entry) → EachFits entries → length entries ≤ 11 → entriesIn (filled 715 (entriesBytes entries)) (length entries) ≡ entries
+pub entries-kept : (entries : List Entry) → EachFits entries → length entries ≤ 11 → entriesKept (filled 715 (entriesBytes entries)) (length entries) ≡ entries
 entries-kept entries h l =
     let all : min (length entries) 11 ≡ length entries = omega arith in
     ap (λ (n : ℕ). readEntries n (filled 715 (entriesBytes entries))) all ∙ entries-kept-in 715 entries h (omega arith)
@@ -161,12 +161,6 @@ module _ (from to : ℕ) (block table : List ℕ) (fills : from + length block �
 -- ---- Proofs that are there if their timestamp is issued
 
 module _ {A : Type 0} (timestamp : ℕ) (proof : A) where
-  pub not-issued : timestamp ≡ 0 → ifIssued timestamp proof ≡ none
-  not-issued e = rw (eq-eqb timestamp 0 e)
-
-  pub is-issued : (timestamp ≡ 0 → ⊥) → ifIssued timestamp proof ≡ some proof
-  is-issued h = rw (ne-eqb timestamp 0 h)
-
   pub issued-there : (P : A → Type 0) → P proof → IfThere P (ifIssued timestamp proof)
   issued-there P h = go (eqb timestamp 0)
     where

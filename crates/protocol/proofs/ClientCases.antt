@@ -14,7 +14,7 @@ use Rattle.base.specs.declared.timestamp.Timestamp.{Timestamp}
 use Rattle.wire.specs.Message.{Message, PREPARE, WRITE, STAMP, PREPARED, WRITTEN, CARD, Legal}
 use Rattle.wire.specs.Proof.{PreparedProof, WrittenProof}
 use Rattle.wire.specs.Sha256.{sha256}
-use Rattle.protocol.specs.Client.{Answer, send, counted, done, ended, Turn, currentCard, bestOf, showedBy}
+use Rattle.protocol.specs.Client.{Answer, send, waits, done, ended, Turn, currentCard, bestOf, showedBy}
 use Rattle.protocol.specs.Parts.{cardStands}
 use Rattle.protocol.specs.declared.client.Client.{Client}
 use Rattle.protocol.specs.declared.client.Phase.{Phase}
@@ -47,79 +47,79 @@ pub record SameCard (before after : Client) : Type 0 where
   pub digest-kept : after .digest ≡ before .digest
 
 abbrev pub NewFrom : Client → ReplicaId → ReplicaSet → Type 0
-NewFrom before sender counts = (isReplica (before .f) sender ≡ true) × (has counts sender ≡ false)
+NewFrom before sender counted = (isReplica (before .f) sender ≡ true) × (has counted sender ≡ false)
 
 -- The card of the better of the best reply so far and this one.
 abbrev pub betterCard : Timestamp → Option PreparedProof → List ℕ → Client → List ℕ
 betterCard best proof card before = cond (ltb (number best) (preparedTimestamp proof)) card (currentCard before)
 
 pub data ClientCase (before : Client) (message : Message) (turn : Turn) : Type 0 where
-  stamp-counted : (sender : ReplicaId) (nonce : ℕ) (proof : Option PreparedProof) (best : Timestamp) (counts : ReplicaSet)
-      → message ≡ STAMP sender nonce proof (before .id) → before .phase ≡ Stamps nonce best counts → NewFrom before sender counts
+  stamp-counted : (sender : ReplicaId) (nonce : ℕ) (proof : Option PreparedProof) (best : Timestamp) (counted : ReplicaSet)
+      → message ≡ STAMP sender nonce proof (before .id) → before .phase ≡ Stamps nonce best counted → NewFrom before sender counted
       → currentCard (turn .next) ≡ currentCard before
-      → Leaves turn counted (Stamps nonce (bestOf best proof) (with counts sender)) → ClientCase before message turn
-  stamps-enough : (sender : ReplicaId) (nonce : ℕ) (proof : Option PreparedProof) (best : Timestamp) (counts : ReplicaSet) (next : Timestamp)
+      → Leaves turn waits (Stamps nonce (bestOf best proof) (with counted sender)) → ClientCase before message turn
+  stamps-enough : (sender : ReplicaId) (nonce : ℕ) (proof : Option PreparedProof) (best : Timestamp) (counted : ReplicaSet) (next : Timestamp)
       (shown : Option PreparedProof) (last : Option WrittenProof)
-      → message ≡ STAMP sender nonce proof (before .id) → before .phase ≡ Stamps nonce best counts → NewFrom before sender counts
-      → isQuorum (before .f) (with counts sender) ≡ true → successor (bestOf best proof) (before .id) ≡ some next
+      → message ≡ STAMP sender nonce proof (before .id) → before .phase ≡ Stamps nonce best counted → NewFrom before sender counted
+      → isQuorum (before .f) (with counted sender) ≡ true → successor (bestOf best proof) (before .id) ≡ some next
       → currentCard (turn .next) ≡ currentCard before → turn .next .digest ≡ sha256 (currentCard before)
       → preparedTimestamp shown ≡ number (bestOf best proof)
       → Leaves turn (send (PREPARE (before .id) (number next) (sha256 (currentCard before)) shown last)) (Prepareds next empty) → ClientCase before message turn
-  stamps-ended : (sender : ReplicaId) (nonce : ℕ) (proof : Option PreparedProof) (best : Timestamp) (counts : ReplicaSet)
-      → message ≡ STAMP sender nonce proof (before .id) → before .phase ≡ Stamps nonce best counts
+  stamps-ended : (sender : ReplicaId) (nonce : ℕ) (proof : Option PreparedProof) (best : Timestamp) (counted : ReplicaSet)
+      → message ≡ STAMP sender nonce proof (before .id) → before .phase ≡ Stamps nonce best counted
       → Leaves turn ended Idle → ClientCase before message turn
-  prepared-counted : (sender : ReplicaId) (timestamp : Timestamp) (counts : ReplicaSet)
-      → message ≡ PREPARED sender (number timestamp) (before .digest) → before .phase ≡ Prepareds timestamp counts → NewFrom before sender counts
-      → SameCard before (turn .next) → Leaves turn counted (Prepareds timestamp (with counts sender)) → ClientCase before message turn
-  prepareds-enough : (sender : ReplicaId) (timestamp : Timestamp) (counts : ReplicaSet) (proof : PreparedProof)
-      → message ≡ PREPARED sender (number timestamp) (before .digest) → before .phase ≡ Prepareds timestamp counts → NewFrom before sender counts
-      → isQuorum (before .f) (with counts sender) ≡ true → SameCard before (turn .next)
+  prepared-counted : (sender : ReplicaId) (timestamp : Timestamp) (counted : ReplicaSet)
+      → message ≡ PREPARED sender (number timestamp) (before .digest) → before .phase ≡ Prepareds timestamp counted → NewFrom before sender counted
+      → SameCard before (turn .next) → Leaves turn waits (Prepareds timestamp (with counted sender)) → ClientCase before message turn
+  prepareds-enough : (sender : ReplicaId) (timestamp : Timestamp) (counted : ReplicaSet) (proof : PreparedProof)
+      → message ≡ PREPARED sender (number timestamp) (before .digest) → before .phase ≡ Prepareds timestamp counted → NewFrom before sender counted
+      → isQuorum (before .f) (with counted sender) ≡ true → SameCard before (turn .next)
       → proof .timestamp ≡ number timestamp → proof .digest ≡ before .digest
       → Leaves turn (send (WRITE (before .id) (currentCard before) proof)) (Writtens timestamp empty) → ClientCase before message turn
-  written-counted : (sender : ReplicaId) (timestamp : Timestamp) (counts : ReplicaSet)
-      → message ≡ WRITTEN sender (number timestamp) → before .phase ≡ Writtens timestamp counts → NewFrom before sender counts
-      → SameCard before (turn .next) → Leaves turn counted (Writtens timestamp (with counts sender)) → ClientCase before message turn
-  writtens-enough : (sender : ReplicaId) (timestamp : Timestamp) (counts : ReplicaSet)
-      → message ≡ WRITTEN sender (number timestamp) → before .phase ≡ Writtens timestamp counts → NewFrom before sender counts
-      → isQuorum (before .f) (with counts sender) ≡ true
+  written-counted : (sender : ReplicaId) (timestamp : Timestamp) (counted : ReplicaSet)
+      → message ≡ WRITTEN sender (number timestamp) → before .phase ≡ Writtens timestamp counted → NewFrom before sender counted
+      → SameCard before (turn .next) → Leaves turn waits (Writtens timestamp (with counted sender)) → ClientCase before message turn
+  writtens-enough : (sender : ReplicaId) (timestamp : Timestamp) (counted : ReplicaSet)
+      → message ≡ WRITTEN sender (number timestamp) → before .phase ≡ Writtens timestamp counted → NewFrom before sender counted
+      → isQuorum (before .f) (with counted sender) ≡ true
       → Leaves turn (done timestamp (currentCard before)) Idle → ClientCase before message turn
-  card-counted : (sender : ReplicaId) (nonce : ℕ) (card : List ℕ) (proof : Option PreparedProof) (best : Timestamp) (counts showed : ReplicaSet)
-      → message ≡ CARD sender nonce card proof (before .id) → before .phase ≡ Cards nonce best counts showed → NewFrom before sender counts
+  card-counted : (sender : ReplicaId) (nonce : ℕ) (card : List ℕ) (proof : Option PreparedProof) (best : Timestamp) (counted showed : ReplicaSet)
+      → message ≡ CARD sender nonce card proof (before .id) → before .phase ≡ Cards nonce best counted showed → NewFrom before sender counted
       → cardStands card proof ≡ true → currentCard (turn .next) ≡ betterCard best proof card before
-      → Leaves turn counted (Cards nonce (bestOf best proof) (with counts sender) (showedBy best proof sender showed)) → ClientCase before message turn
-  cards-agree : (sender : ReplicaId) (nonce : ℕ) (card : List ℕ) (proof : Option PreparedProof) (best : Timestamp) (counts showed : ReplicaSet)
-      → message ≡ CARD sender nonce card proof (before .id) → before .phase ≡ Cards nonce best counts showed → NewFrom before sender counts
-      → cardStands card proof ≡ true → isQuorum (before .f) (with counts sender) ≡ true → isQuorum (before .f) (showedBy best proof sender showed) ≡ true
+      → Leaves turn waits (Cards nonce (bestOf best proof) (with counted sender) (showedBy best proof sender showed)) → ClientCase before message turn
+  cards-agree : (sender : ReplicaId) (nonce : ℕ) (card : List ℕ) (proof : Option PreparedProof) (best : Timestamp) (counted showed : ReplicaSet)
+      → message ≡ CARD sender nonce card proof (before .id) → before .phase ≡ Cards nonce best counted showed → NewFrom before sender counted
+      → cardStands card proof ≡ true → isQuorum (before .f) (with counted sender) ≡ true → isQuorum (before .f) (showedBy best proof sender showed) ≡ true
       → Leaves turn (done (bestOf best proof) (betterCard best proof card before)) Idle → ClientCase before message turn
-  cards-differ : (sender : ReplicaId) (nonce : ℕ) (card : List ℕ) (proof : Option PreparedProof) (best : Timestamp) (counts showed : ReplicaSet) (shown : PreparedProof)
-      → message ≡ CARD sender nonce card proof (before .id) → before .phase ≡ Cards nonce best counts showed → NewFrom before sender counts
-      → cardStands card proof ≡ true → isQuorum (before .f) (with counts sender) ≡ true
+  cards-differ : (sender : ReplicaId) (nonce : ℕ) (card : List ℕ) (proof : Option PreparedProof) (best : Timestamp) (counted showed : ReplicaSet) (shown : PreparedProof)
+      → message ≡ CARD sender nonce card proof (before .id) → before .phase ≡ Cards nonce best counted showed → NewFrom before sender counted
+      → cardStands card proof ≡ true → isQuorum (before .f) (with counted sender) ≡ true
       → currentCard (turn .next) ≡ betterCard best proof card before
       → Leaves turn (send (WRITE (before .id) (betterCard best proof card before) shown)) (WriteBack (bestOf best proof) (showedBy best proof sender showed))
       → ClientCase before message turn
-  back-counted : (sender : ReplicaId) (timestamp : Timestamp) (counts : ReplicaSet)
-      → message ≡ WRITTEN sender (number timestamp) → before .phase ≡ WriteBack timestamp counts → NewFrom before sender counts
-      → SameCard before (turn .next) → Leaves turn counted (WriteBack timestamp (with counts sender)) → ClientCase before message turn
-  back-enough : (sender : ReplicaId) (timestamp : Timestamp) (counts : ReplicaSet)
-      → message ≡ WRITTEN sender (number timestamp) → before .phase ≡ WriteBack timestamp counts → NewFrom before sender counts
-      → isQuorum (before .f) (with counts sender) ≡ true
+  back-counted : (sender : ReplicaId) (timestamp : Timestamp) (counted : ReplicaSet)
+      → message ≡ WRITTEN sender (number timestamp) → before .phase ≡ WriteBack timestamp counted → NewFrom before sender counted
+      → SameCard before (turn .next) → Leaves turn waits (WriteBack timestamp (with counted sender)) → ClientCase before message turn
+  back-enough : (sender : ReplicaId) (timestamp : Timestamp) (counted : ReplicaSet)
+      → message ≡ WRITTEN sender (number timestamp) → before .phase ≡ WriteBack timestamp counted → NewFrom before sender counted
+      → isQuorum (before .f) (with counted sender) ≡ true
       → Leaves turn (done timestamp (currentCard before)) Idle → ClientCase before message turn
 
 -- A message that a client sends is legal; what else it answers has no bytes.
 abbrev pub LegalAnswer : Answer → Type 0
 LegalAnswer (send message) = Legal message
-LegalAnswer counted = Unit {0}
+LegalAnswer waits = Unit {0}
 LegalAnswer (done timestamp card) = Unit {0}
 LegalAnswer ended = Unit {0}
 
 -- The timestamps that a phase carries fit their five bytes.
 abbrev pub PhaseFits : Phase → Type 0
 PhaseFits Idle = Unit {0}
-PhaseFits (Stamps nonce best counts) = TimestampFits best
-PhaseFits (Prepareds timestamp counts) = TimestampFits timestamp
-PhaseFits (Writtens timestamp counts) = TimestampFits timestamp
-PhaseFits (Cards nonce best counts showed) = TimestampFits best
-PhaseFits (WriteBack timestamp counts) = TimestampFits timestamp
+PhaseFits (Stamps nonce best counted) = TimestampFits best
+PhaseFits (Prepareds timestamp counted) = TimestampFits timestamp
+PhaseFits (Writtens timestamp counted) = TimestampFits timestamp
+PhaseFits (Cards nonce best counted showed) = TimestampFits best
+PhaseFits (WriteBack timestamp counted) = TimestampFits timestamp
 
 pub record ClientFacts (before : Client) (verdicts : List ℕ) (message : Message) (turn : Turn) : Type 0 where
   pub same-f : turn .next .f ≡ before .f

@@ -30,11 +30,11 @@ use Rattle.protocol.proofs.ClientCases.{Begun, PhaseFits, ClientFacts}
 
 idle-phase : (phase : Phase) → isIdle phase ≡ true → phase ≡ Idle
 idle-phase Idle e = refl
-idle-phase (Stamps nonce best counts) e = let z : _≡_ {A = ℕ} 0 1 = cc in absurd (omega arith)
-idle-phase (Prepareds timestamp counts) e = let z : _≡_ {A = ℕ} 0 1 = cc in absurd (omega arith)
-idle-phase (Writtens timestamp counts) e = let z : _≡_ {A = ℕ} 0 1 = cc in absurd (omega arith)
-idle-phase (Cards nonce best counts showed) e = let z : _≡_ {A = ℕ} 0 1 = cc in absurd (omega arith)
-idle-phase (WriteBack timestamp counts) e = let z : _≡_ {A = ℕ} 0 1 = cc in absurd (omega arith)
+idle-phase (Stamps nonce best counted) e = let z : _≡_ {A = ℕ} 0 1 = cc in absurd (omega arith)
+idle-phase (Prepareds timestamp counted) e = let z : _≡_ {A = ℕ} 0 1 = cc in absurd (omega arith)
+idle-phase (Writtens timestamp counted) e = let z : _≡_ {A = ℕ} 0 1 = cc in absurd (omega arith)
+idle-phase (Cards nonce best counted showed) e = let z : _≡_ {A = ℕ} 0 1 = cc in absurd (omega arith)
+idle-phase (WriteBack timestamp counted) e = let z : _≡_ {A = ℕ} 0 1 = cc in absurd (omega arith)
 
 begun : (before : Client) (question : Message) (phase : Phase) (card : List ℕ) → ClientFits before → mayBegin before ≡ true → Bytes card → length card ≤ 17
     → (before .«last_nonce» + 1 < 2 ^ 64 → Legal question)

@@ -25,7 +25,7 @@ use Rattle.wire.specs.Message.{Message, PREPARE, WRITE, STAMP, PREPARED, WRITTE
 use Rattle.wire.specs.Proof.{PreparedProof}
 use Rattle.wire.specs.Sha256.{sha256}
 use Rattle.protocol.specs.Client.{done, Turn, currentCard, bestProof, lastWritten, built, withSignature, withSignatures, withDigest, withLastWritten, enough, isNew, bestOf, showedBy, toPrepare, afterStamp, onStamp, afterPrepared, onPrepared, afterWritten, afterWriteBack, onWritten, afterCard, onCard}
-use Rattle.protocol.specs.Parts.{startCard, entriesIn, ifIssued, cardStands}
+use Rattle.protocol.specs.Parts.{startCard, entriesKept, ifIssued, cardStands}
 use Rattle.protocol.specs.declared.client.Client.{Client}
 use Rattle.protocol.specs.declared.client.Phase.{Phase}
 use Rattle.protocol.specs.declared.client.Phase.the-variants.{Idle, Stamps, Prepareds, Writtens, Cards, WriteBack}
@@ -49,7 +49,7 @@ module _ (client : Client) (fits : ClientFits client) where
   last-short : writtenSize (lastWritten client) ≤ 721
   last-short = go (eqb (number (client .written)) 0)
     where
-      go : (b : Bool) → writtenSize (cond b none (some (record { timestamp = number (client .written); entries = entriesIn (client .«written_entries») (client .«written_count») }))) ≤ 721
+      go : (b : Bool) → writtenSize (cond b none (some (record { timestamp = number (client .written); entries = entriesKept (client .«written_entries») (client .«written_count») }))) ≤ 721
       go true = omega arith
       go false = omega (arith, entries-in-length (client .«written_entries») (client .«written_count»))
 
@@ -111,13 +111,13 @@ module _ (before : Client) (verdicts : List ℕ) (message : Message) (passed : P
   quorum-before client kept set h = subst (λ (f : ℕ). isQuorum f set ≡ true) (kept .same-f) h
 
   -- STAMPs
-  module _ (sender : ReplicaId) (nonce : ℕ) (proof : Option PreparedProof) (best : Timestamp) (counts : ReplicaSet) (best-fit : TimestampFits (bestOf best proof))
-      (is-message : message ≡ STAMP sender nonce proof (before .id)) (at : before .phase ≡ Stamps nonce best counts) (new : NewFrom before sender counts)
+  module _ (sender : ReplicaId) (nonce : ℕ) (proof : Option PreparedProof) (best : Timestamp) (counted : ReplicaSet) (best-fit : TimestampFits (bestOf best proof))
+      (is-message : message ≡ STAMP sender nonce proof (before .id)) (at : before .phase ≡ Stamps nonce best counted) (new : NewFrom before sender counted)
       (client : Client) (kept : Kept before client) (same-card : currentCard client ≡ currentCard before) where
-    to-prepare : isQuorum (before .f) (with counts sender) ≡ true → (next : Option Timestamp) → successor (bestOf best proof) (client .id) ≡ next
+    to-prepare : isQuorum (before .f) (with counted sender) ≡ true → (next : Option Timestamp) → successor (bestOf best proof) (client .id) ≡ next
         → Accepts (ClientFacts before verdicts message) (toPrepare client (bestOf best proof) next)
     to-prepare quorum none e =
-        by-value (took _ (phase-kept before client kept Idle) tt tt (stamps-ended sender nonce proof best counts is-message at leaves))
+        by-value (took _ (phase-kept before client kept Idle) tt tt (stamps-ended sender nonce proof best counted is-message at leaves))
     to-prepare quorum (some next) e =
         let next-fit = successor-fits (bestOf best proof) next (client .id) best-fit (kept .fits .id-fits) e in
         let digest = sha256 (currentCard client) in
@@ -125,29 +125,29 @@ module _ (before : Client) (verdicts : List ℕ) (message : Message) (passed : P
         (phase-kept before (withDigest digest client) (digest-changed before client kept digest (digest-fits (currentCard client))) (Prepareds next empty))
         next-fit
         (prepare-legal client (kept .fits) (bestOf best proof) best-fit next next-fit)
-        (stamps-enough sender nonce proof best counts next (ifIssued (number (bestOf best proof)) (bestProof client (bestOf best proof))) (lastWritten client)
+        (stamps-enough sender nonce proof best counted next (ifIssued (number (bestOf best proof)) (bestProof client (bestOf best proof))) (lastWritten client)
         is-message at new quorum (rw (← kept .same-id) e) same-card (ap sha256 same-card)
         (issued-timestamp (number (bestOf best proof)) (bestProof client (bestOf best proof)) refl)
         (record { answer-is = cc; phase-is = refl })))
 
-    after-stamp : Accepts (ClientFacts before verdicts message) (afterStamp nonce (bestOf best proof) (with counts sender) client)
+    after-stamp : Accepts (ClientFacts before verdicts message) (afterStamp nonce (bestOf best proof) (with counted sender) client)
     unfolding afterStamp
     after-stamp =
-        by-cases (enough client (with counts sender)) (λ quorum. to-prepare (quorum-before client kept (with counts sender) quorum) (successor (bestOf best proof) (client .id)) refl)
-        (λ few. by-value (took _ (phase-kept before client kept (Stamps nonce (bestOf best proof) (with counts sender))) best-fit tt
-        (stamp-counted sender nonce proof best counts is-message at new same-card leaves)))
+        by-cases (enough client (with counted sender)) (λ quorum. to-prepare (quorum-before client kept (with counted sender) quorum) (successor (bestOf best proof) (client .id)) refl)
+        (λ few. by-value (took _ (phase-kept before client kept (Stamps nonce (bestOf best proof) (with counted sender))) best-fit tt
+        (stamp-counted sender nonce proof best counted is-message at new same-card leaves)))
 
   -- PREPAREDs, the sender's signature among the signatures
-  module _ (sender : ReplicaId) (timestamp : Timestamp) (counts : ReplicaSet) (timestamp-fits : TimestampFits timestamp) (new : NewFrom before sender counts)
+  module _ (sender : ReplicaId) (timestamp : Timestamp) (counted : ReplicaSet) (timestamp-fits : TimestampFits timestamp) (new : NewFrom before sender counted)
       (signatures : List ℕ) (signatures-fit : Array 1_024 signatures) where
     signed-kept : Kept before (withSignatures signatures before)
     signed-kept = signatures-changed before before (itself-kept before fits) signatures signatures-fit
 
-    after-prepared : message ≡ PREPARED sender (number timestamp) (before .digest) → before .phase ≡ Prepareds timestamp counts
-        → Accepts (ClientFacts before verdicts message) (afterPrepared timestamp (with counts sender) (withSignatures signatures before))
+    after-prepared : message ≡ PREPARED sender (number timestamp) (before .digest) → before .phase ≡ Prepareds timestamp counted
+        → Accepts (ClientFacts before verdicts message) (afterPrepared timestamp (with counted sender) (withSignatures signatures before))
     unfolding afterPrepared
     after-prepared is-message at =
-        let replicas = with counts sender in
+        let replicas = with counted sender in
         let entries-fit = built-fit (replicaCount (before .f)) replicas signatures (omega arith) signatures-fit in
         let few = built-few (replicaCount (before .f)) replicas signatures in
         let proof : PreparedProof = record { timestamp = number timestamp; digest = before .digest; entries = built before replicas signatures } in
@@ -156,43 +156,43 @@ module _ (before : Client) (verdicts : List ℕ) (message : Message) (passed : P
         (phase-kept before (withSignatures (replicate 1_024 0) before) (signatures-changed before before (itself-kept before fits) (replicate 1_024 0) (zeros-fit 1_024)) (Writtens timestamp empty))
         timestamp-fits
         (write-legal before fits proof (number-fits timestamp timestamp-fits, fits .digest-fits, (omega arith, entries-fit)) few)
-        (prepareds-enough sender timestamp counts proof is-message at new quorum (record { card-kept = refl; digest-kept = refl }) refl refl leaves)))
+        (prepareds-enough sender timestamp counted proof is-message at new quorum (record { card-kept = refl; digest-kept = refl }) refl refl leaves)))
         (λ less. by-value (took _ (phase-kept before (withSignatures signatures before) signed-kept (Prepareds timestamp replicas)) timestamp-fits tt
-        (prepared-counted sender timestamp counts is-message at new (record { card-kept = refl; digest-kept = refl }) leaves)))
+        (prepared-counted sender timestamp counted is-message at new (record { card-kept = refl; digest-kept = refl }) leaves)))
 
     -- WRITTENs that end a write, likewise
-    after-written : message ≡ WRITTEN sender (number timestamp) → before .phase ≡ Writtens timestamp counts
-        → Accepts (ClientFacts before verdicts message) (afterWritten timestamp (with counts sender) (withSignatures signatures before))
+    after-written : message ≡ WRITTEN sender (number timestamp) → before .phase ≡ Writtens timestamp counted
+        → Accepts (ClientFacts before verdicts message) (afterWritten timestamp (with counted sender) (withSignatures signatures before))
     unfolding afterWritten
     after-written is-message at =
-        let replicas = with counts sender in
+        let replicas = with counted sender in
         let entries-fit = built-fit (replicaCount (before .f)) replicas signatures (omega arith) signatures-fit in
         by-cases (enough before replicas)
         (λ quorum. by-value (took _
         (phase-kept before (withLastWritten timestamp (built before replicas signatures) (withSignatures signatures before))
         (written-changed before (withSignatures signatures before) signed-kept timestamp (built before replicas signatures) timestamp-fits entries-fit) Idle)
-        tt tt (writtens-enough sender timestamp counts is-message at new quorum leaves)))
+        tt tt (writtens-enough sender timestamp counted is-message at new quorum leaves)))
         (λ less. by-value (took _ (phase-kept before (withSignatures signatures before) signed-kept (Writtens timestamp replicas)) timestamp-fits tt
-        (written-counted sender timestamp counts is-message at new (record { card-kept = refl; digest-kept = refl }) leaves)))
+        (written-counted sender timestamp counted is-message at new (record { card-kept = refl; digest-kept = refl }) leaves)))
 
   -- WRITTENs that end a write-back
-  after-write-back : (sender : ReplicaId) (timestamp : Timestamp) (counts : ReplicaSet) → TimestampFits timestamp → NewFrom before sender counts
-      → message ≡ WRITTEN sender (number timestamp) → before .phase ≡ WriteBack timestamp counts → Accepts (ClientFacts before verdicts message) (afterWriteBack timestamp (with counts sender) before)
+  after-write-back : (sender : ReplicaId) (timestamp : Timestamp) (counted : ReplicaSet) → TimestampFits timestamp → NewFrom before sender counted
+      → message ≡ WRITTEN sender (number timestamp) → before .phase ≡ WriteBack timestamp counted → Accepts (ClientFacts before verdicts message) (afterWriteBack timestamp (with counted sender) before)
   unfolding afterWriteBack
-  after-write-back sender timestamp counts timestamp-fits new is-message at =
-      by-cases (enough before (with counts sender))
+  after-write-back sender timestamp counted timestamp-fits new is-message at =
+      by-cases (enough before (with counted sender))
       (λ quorum. by-value (took _ (phase-kept before before (itself-kept before fits) Idle) tt tt
-      (back-enough sender timestamp counts is-message at new quorum leaves)))
-      (λ less. by-value (took _ (phase-kept before before (itself-kept before fits) (WriteBack timestamp (with counts sender))) timestamp-fits tt
-      (back-counted sender timestamp counts is-message at new (record { card-kept = refl; digest-kept = refl }) leaves)))
+      (back-enough sender timestamp counted is-message at new quorum leaves)))
+      (λ less. by-value (took _ (phase-kept before before (itself-kept before fits) (WriteBack timestamp (with counted sender))) timestamp-fits tt
+      (back-counted sender timestamp counted is-message at new (record { card-kept = refl; digest-kept = refl }) leaves)))
 
   -- CARDs
-  after-card : (sender : ReplicaId) (nonce : ℕ) (card : List ℕ) (proof : Option PreparedProof) (best : Timestamp) (counts showed : ReplicaSet) → TimestampFits (bestOf best proof)
-      → message ≡ CARD sender nonce card proof (before .id) → before .phase ≡ Cards nonce best counts showed → NewFrom before sender counts → cardStands card proof ≡ true
+  after-card : (sender : ReplicaId) (nonce : ℕ) (card : List ℕ) (proof : Option PreparedProof) (best : Timestamp) (counted showed : ReplicaSet) → TimestampFits (bestOf best proof)
+      → message ≡ CARD sender nonce card proof (before .id) → before .phase ≡ Cards nonce best counted showed → NewFrom before sender counted → cardStands card proof ≡ true
       → (client : Client) → Kept before client → currentCard client ≡ betterCard best proof card before
-      → Accepts (ClientFacts before verdicts message) (afterCard nonce (bestOf best proof) (with counts sender) (showedBy best proof sender showed) client)
+      → Accepts (ClientFacts before verdicts message) (afterCard nonce (bestOf best proof) (with counted sender) (showedBy best proof sender showed) client)
   unfolding afterCard
-  after-card sender nonce card proof best counts showed best-fit is-message at new stands client kept better = go (enough client (with counts sender)) (enough client showing) refl refl
+  after-card sender nonce card proof best counted showed best-fit is-message at new stands client kept better = go (enough client (with counted sender)) (enough client showing) refl refl
     where
       now : Timestamp
       now = bestOf best proof
@@ -200,65 +200,65 @@ module _ (before : Client) (verdicts : List ℕ) (message : Message) (passed : P
       showing : ReplicaSet
       showing = showedBy best proof sender showed
 
-      go : (full agree : Bool) → enough client (with counts sender) ≡ full → enough client showing ≡ agree
-          → Accepts (ClientFacts before verdicts message) (afterCard nonce now (with counts sender) showing client)
+      go : (full agree : Bool) → enough client (with counted sender) ≡ full → enough client showing ≡ agree
+          → Accepts (ClientFacts before verdicts message) (afterCard nonce now (with counted sender) showing client)
       go true true quorum agree =
           simp (quorum, agree)
           (by-value (took _ (phase-kept before client kept _) tt tt
-          (cards-agree sender nonce card proof best counts showed is-message at new stands (quorum-before client kept (with counts sender) quorum) (quorum-before client kept showing agree)
+          (cards-agree sender nonce card proof best counted showed is-message at new stands (quorum-before client kept (with counted sender) quorum) (quorum-before client kept showing agree)
           (record { answer-is = ap (done now) better; phase-is = refl }))))
       go true false quorum differ =
           simp (quorum, differ)
           (by-value (took _ (phase-kept before client kept _) best-fit
           (write-legal client (kept .fits) (bestProof client now) (proof-fits client (kept .fits) now best-fit) (entries-in-length (client .entries) (client .«entry_count»)))
-          (cards-differ sender nonce card proof best counts showed (bestProof client now) is-message at new stands (quorum-before client kept (with counts sender) quorum) better
+          (cards-differ sender nonce card proof best counted showed (bestProof client now) is-message at new stands (quorum-before client kept (with counted sender) quorum) better
           (record { answer-is = cc; phase-is = refl }))))
       go false agree less agrees =
           simp less
           (by-value (took _ (phase-kept before client kept _) best-fit tt
-          (card-counted sender nonce card proof best counts showed is-message at new stands better leaves)))
+          (card-counted sender nonce card proof best counted showed is-message at new stands better leaves)))
 
 -- ---- Phases: the others await another kind
 
 module _ (before : Client) (verdicts : List ℕ) (fits : ClientFits before) (sender : ReplicaId) (in-range : isReplica (before .f) sender ≡ true) where
   -- A reply to this nonce, to this client, of a replica not yet counted.
-  answers-nonce : (nonce asked : ℕ) (addressed : ClientId) (counts : ReplicaSet) → (eqb nonce asked && (eqb (addressed .0) (before .id .0) && isNew counts sender)) ≡ true
-      → (nonce ≡ asked) × (addressed ≡ before .id) × NewFrom before sender counts
-  answers-nonce nonce asked addressed counts e =
-      let first = and-true-both (eqb nonce asked) (eqb (addressed .0) (before .id .0) && isNew counts sender) e in
-      let rest = and-true-both (eqb (addressed .0) (before .id .0)) (isNew counts sender) (first .1) in
-      (eqb-true nonce asked (first .0), same-client addressed (before .id) (rest .0), (in-range, not-true (has counts sender) (rest .1)))
+  answers-nonce : (nonce asked : ℕ) (addressed : ClientId) (counted : ReplicaSet) → (eqb nonce asked && (eqb (addressed .0) (before .id .0) && isNew counted sender)) ≡ true
+      → (nonce ≡ asked) × (addressed ≡ before .id) × NewFrom before sender counted
+  answers-nonce nonce asked addressed counted e =
+      let first = and-true-both (eqb nonce asked) (eqb (addressed .0) (before .id .0) && isNew counted sender) e in
+      let rest = and-true-both (eqb (addressed .0) (before .id .0)) (isNew counted sender) (first .1) in
+      (eqb-true nonce asked (first .0), same-client addressed (before .id) (rest .0), (in-range, not-true (has counted sender) (rest .1)))
 
   pub stamp-facts : (nonce : ℕ) (proof : Option PreparedProof) (addressed : ClientId) → Passed (before .f) (STAMP sender nonce proof addressed) verdicts → IfThere PreparedFits proof
       → (phase : Phase) → before .phase ≡ phase → PhaseFits phase
       → Accepts (ClientFacts before verdicts (STAMP sender nonce proof addressed)) (onStamp before sender nonce proof addressed phase)
   unfolding onStamp
-  stamp-facts nonce proof addressed passed proof-fit (Stamps asked best counts) at best-fit =
+  stamp-facts nonce proof addressed passed proof-fit (Stamps asked best counted) at best-fit =
       by-guard 18 (λ e.
-      let (same-nonce, same-client, new) = answers-nonce nonce asked addressed counts e in
+      let (same-nonce, same-client, new) = answers-nonce nonce asked addressed counted e in
       let (kept, same-card) = better-kept before best fits proof proof-fit in
-      after-stamp before verdicts (STAMP sender nonce proof addressed) passed fits sender asked proof best counts (best-fits best proof best-fit proof-fit) (cc) at new _ kept same-card)
+      after-stamp before verdicts (STAMP sender nonce proof addressed) passed fits sender asked proof best counted (best-fits best proof best-fit proof-fit) (cc) at new _ kept same-card)
   stamp-facts nonce proof addressed passed proof-fit Idle at h = by-refusal
-  stamp-facts nonce proof addressed passed proof-fit (Prepareds timestamp counts) at h = by-refusal
-  stamp-facts nonce proof addressed passed proof-fit (Writtens timestamp counts) at h = by-refusal
-  stamp-facts nonce proof addressed passed proof-fit (Cards asked best counts showed) at h = by-refusal
-  stamp-facts nonce proof addressed passed proof-fit (WriteBack timestamp counts) at h = by-refusal
+  stamp-facts nonce proof addressed passed proof-fit (Prepareds timestamp counted) at h = by-refusal
+  stamp-facts nonce proof addressed passed proof-fit (Writtens timestamp counted) at h = by-refusal
+  stamp-facts nonce proof addressed passed proof-fit (Cards asked best counted showed) at h = by-refusal
+  stamp-facts nonce proof addressed passed proof-fit (WriteBack timestamp counted) at h = by-refusal
 
   pub card-facts : (nonce : ℕ) (card : List ℕ) (proof : Option PreparedProof) (addressed : ClientId) → Passed (before .f) (CARD sender nonce card proof addressed) verdicts
       → Bytes card → IfThere PreparedFits proof → cardStands card proof ≡ true → (phase : Phase) → before .phase ≡ phase → PhaseFits phase
       → Accepts (ClientFacts before verdicts (CARD sender nonce card proof addressed)) (onCard before sender nonce card proof addressed phase)
   unfolding onCard
-  card-facts nonce card proof addressed passed bytes proof-fit stands (Cards asked best counts showed) at best-fit =
+  card-facts nonce card proof addressed passed bytes proof-fit stands (Cards asked best counted showed) at best-fit =
       by-guard 18 (λ e.
-      let (same-nonce, same-client, new) = answers-nonce nonce asked addressed counts e in
+      let (same-nonce, same-client, new) = answers-nonce nonce asked addressed counted e in
       let (kept, better) = better-card-kept before best fits card proof (standing-short card proof stands) bytes proof-fit in
-      after-card before verdicts (CARD sender nonce card proof addressed) passed fits sender asked card proof best counts showed
+      after-card before verdicts (CARD sender nonce card proof addressed) passed fits sender asked card proof best counted showed
       (best-fits best proof best-fit proof-fit) (cc) at new stands _ kept better)
   card-facts nonce card proof addressed passed bytes proof-fit stands Idle at h = by-refusal
-  card-facts nonce card proof addressed passed bytes proof-fit stands (Stamps asked best counts) at h = by-refusal
-  card-facts nonce card proof addressed passed bytes proof-fit stands (Prepareds timestamp counts) at h = by-refusal
-  card-facts nonce card proof addressed passed bytes proof-fit stands (Writtens timestamp counts) at h = by-refusal
-  card-facts nonce card proof addressed passed bytes proof-fit stands (WriteBack timestamp counts) at h = by-refusal
+  card-facts nonce card proof addressed passed bytes proof-fit stands (Stamps asked best counted) at h = by-refusal
+  card-facts nonce card proof addressed passed bytes proof-fit stands (Prepareds timestamp counted) at h = by-refusal
+  card-facts nonce card proof addressed passed bytes proof-fit stands (Writtens timestamp counted) at h = by-refusal
+  card-facts nonce card proof addressed passed bytes proof-fit stands (WriteBack timestamp counted) at h = by-refusal
 
   module _ (signature : List ℕ) (signature-fits : IsSignature signature) where
     signatures-fit : Array 1_024 (withSignature (before .signatures) sender signature)
@@ -267,38 +267,38 @@ module _ (before : Client) (verdicts : List ℕ) (fits : ClientFits before) (sen
     pub prepared-facts : (timestamp : ℕ) (digest : List ℕ) → Passed (before .f) (PREPARED sender timestamp digest) verdicts → (phase : Phase) → before .phase ≡ phase → PhaseFits phase
         → Accepts (ClientFacts before verdicts (PREPARED sender timestamp digest)) (onPrepared before sender timestamp digest signature phase)
     unfolding onPrepared
-    prepared-facts timestamp digest passed (Prepareds asked counts) at asked-fits =
+    prepared-facts timestamp digest passed (Prepareds asked counted) at asked-fits =
         by-guard 18 (λ e.
-        let first = and-true-both (eqb timestamp (number asked)) (same digest (before .digest) && isNew counts sender) e in
-        let rest = and-true-both (same digest (before .digest)) (isNew counts sender) (first .1) in
+        let first = and-true-both (eqb timestamp (number asked)) (same digest (before .digest) && isNew counted sender) e in
+        let rest = and-true-both (same digest (before .digest)) (isNew counted sender) (first .1) in
         let same-timestamp = eqb-true timestamp (number asked) (first .0) in
         let same-digest = same-equal digest (before .digest) (rest .0) in
-        after-prepared before verdicts (PREPARED sender timestamp digest) passed fits sender asked counts asked-fits (in-range, not-true (has counts sender) (rest .1))
+        after-prepared before verdicts (PREPARED sender timestamp digest) passed fits sender asked counted asked-fits (in-range, not-true (has counted sender) (rest .1))
         (withSignature (before .signatures) sender signature) signatures-fit (cc) at)
     prepared-facts timestamp digest passed Idle at h = by-refusal
-    prepared-facts timestamp digest passed (Stamps nonce best counts) at h = by-refusal
-    prepared-facts timestamp digest passed (Writtens asked counts) at h = by-refusal
-    prepared-facts timestamp digest passed (Cards nonce best counts showed) at h = by-refusal
-    prepared-facts timestamp digest passed (WriteBack asked counts) at h = by-refusal
+    prepared-facts timestamp digest passed (Stamps nonce best counted) at h = by-refusal
+    prepared-facts timestamp digest passed (Writtens asked counted) at h = by-refusal
+    prepared-facts timestamp digest passed (Cards nonce best counted showed) at h = by-refusal
+    prepared-facts timestamp digest passed (WriteBack asked counted) at h = by-refusal
 
-    answers-timestamp : (timestamp : ℕ) (asked : Timestamp) (counts : ReplicaSet) → (eqb timestamp (number asked) && isNew counts sender) ≡ true
-        → (timestamp ≡ number asked) × NewFrom before sender counts
-    answers-timestamp timestamp asked counts e =
-        let both = and-true-both (eqb timestamp (number asked)) (isNew counts sender) e in
-        (eqb-true timestamp (number asked) (both .0), (in-range, not-true (has counts sender) (both .1)))
+    answers-timestamp : (timestamp : ℕ) (asked : Timestamp) (counted : ReplicaSet) → (eqb timestamp (number asked) && isNew counted sender) ≡ true
+        → (timestamp ≡ number asked) × NewFrom before sender counted
+    answers-timestamp timestamp asked counted e =
+        let both = and-true-both (eqb timestamp (number asked)) (isNew counted sender) e in
+        (eqb-true timestamp (number asked) (both .0), (in-range, not-true (has counted sender) (both .1)))
 
     pub written-facts : (timestamp : ℕ) → Passed (before .f) (WRITTEN sender timestamp) verdicts → (phase : Phase) → before .phase ≡ phase → PhaseFits phase
         → Accepts (ClientFacts before verdicts (WRITTEN sender timestamp)) (onWritten before sender timestamp signature phase)
     unfolding onWritten
-    written-facts timestamp passed (Writtens asked counts) at asked-fits =
+    written-facts timestamp passed (Writtens asked counted) at asked-fits =
         by-guard 18 (λ e.
-        let (same-timestamp, new) = answers-timestamp timestamp asked counts e in
-        after-written before verdicts (WRITTEN sender timestamp) passed fits sender asked counts asked-fits new (withSignature (before .signatures) sender signature) signatures-fit (cc) at)
-    written-facts timestamp passed (WriteBack asked counts) at asked-fits =
+        let (same-timestamp, new) = answers-timestamp timestamp asked counted e in
+        after-written before verdicts (WRITTEN sender timestamp) passed fits sender asked counted asked-fits new (withSignature (before .signatures) sender signature) signatures-fit (cc) at)
+    written-facts timestamp passed (WriteBack asked counted) at asked-fits =
         by-guard 18 (λ e.
-        let (same-timestamp, new) = answers-timestamp timestamp asked counts e in
-        after-write-back before verdicts (WRITTEN sender timestamp) passed fits sender asked counts asked-fits new (cc) at)
+        let (same-timestamp, new) = answers-timestamp timestamp asked counted e in
+        after-write-back before verdicts (WRITTEN sender timestamp) passed fits sender asked counted asked-fits new (cc) at)
     written-facts timestamp passed Idle at h = by-refusal
-    written-facts timestamp passed (Stamps nonce best counts) at h = by-refusal
-    written-facts timestamp passed (Prepareds asked counts) at h = by-refusal
-    written-facts timestamp passed (Cards nonce best counts showed) at h = by-refusal
+    written-facts timestamp passed (Stamps nonce best counted) at h = by-refusal
+    written-facts timestamp passed (Prepareds asked counted) at h = by-refusal
+    written-facts timestamp passed (Cards nonce best counted showed) at h = by-refusal

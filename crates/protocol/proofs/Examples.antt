@@ -14,7 +14,7 @@ use Rattle.base.specs.Timestamp.{number, ofNumber, successor}
 use Rattle.base.specs.declared.party.ClientId.{ClientId}
 use Rattle.base.specs.declared.timestamp.Timestamp.{Timestamp}
 use Rattle.base.proofs.Timestamps.{ofNumber-number}
-use Rattle.wire.specs.Card.{table, readFields, goodMap, readCard}
+use Rattle.wire.specs.Card.{table, readFields, goodCardMap, readCard}
 use Rattle.wire.specs.Checks.{entriesOf, all, oneEach}
 use Rattle.wire.specs.Message.{PREPARE, WRITE, PREPARED, WRITTEN}
 use Rattle.wire.specs.Proof.{PreparedProof, WrittenProof}
@@ -124,7 +124,7 @@ unfolding afterWrite
 held-kept card proof held e = rw (le-ltb (heldTimestamp held) (proof .timestamp) (omega arith)) refl
 
 pub examples : Examples
-unfolding readCard readFields table goodMap fromBytes within
+unfolding readCard readFields table goodCardMap fromBytes within
 examples =
     record {
       A = (refl, refl, refl, refl);

@@ -19,7 +19,7 @@ use Rattle.wire.specs.Proof.{PreparedProof}
 use Rattle.wire.specs.Writing.{roomy}
 use Rattle.wire.specs.declared.message.Party.the-variants.{Client as AtClient}
 use Rattle.wire.proofs.Admitted.{admitted-then}
-use Rattle.protocol.specs.Client.{Answer, send, counted, done, ended, Turn, answered, clientAnswers, beginWrite, beginRead, toPrepare, afterStamp, onStamp, afterPrepared, onPrepared, afterWritten, afterWriteBack, onWritten, afterCard, onCard, onReply, clientStep, beginWriteCall, beginReadCall, clientCall}
+use Rattle.protocol.specs.Client.{Answer, send, waits, done, ended, Turn, answered, clientAnswers, beginWrite, beginRead, toPrepare, afterStamp, onStamp, afterPrepared, onPrepared, afterWritten, afterWriteBack, onWritten, afterCard, onCard, onReply, clientStep, beginWriteCall, beginReadCall, clientCall}
 use Rattle.protocol.specs.OperationMessages.{Call, begins-write, begins-read, hears, sentBy, unlessBegun, sentAfter, sentIn, OperationMessages}
 use Rattle.protocol.specs.Replica.{withOutput}
 use Rattle.protocol.specs.declared.client.Client.{Client}
@@ -30,15 +30,15 @@ use Rattle.protocol.proofs.Accepts.{Accepts, by-value, by-refusal, by-g
 -- The messages that an operation may still send, by its phase.
 abbrev remaining : Phase → ℕ
 remaining Idle = 0
-remaining (Stamps nonce best counts) = 2
-remaining (Prepareds timestamp counts) = 1
-remaining (Writtens timestamp counts) = 0
-remaining (Cards nonce best counts showed) = 1
-remaining (WriteBack timestamp counts) = 0
+remaining (Stamps nonce best counted) = 2
+remaining (Prepareds timestamp counted) = 1
+remaining (Writtens timestamp counted) = 0
+remaining (Cards nonce best counted showed) = 1
+remaining (WriteBack timestamp counted) = 0
 
 abbrev sends : Answer → ℕ
 sends (send message) = 1
-sends counted = 0
+sends waits = 0
 sends (done timestamp card) = 0
 sends ended = 0
 
@@ -72,24 +72,24 @@ to-prepare : (client : Client) (best : Timestamp) (next : Option Timestamp) → 
 to-prepare client best none = refl
 to-prepare client best (some next) = refl
 
-module _ (counts : ReplicaSet) (client : Client) where
-  after-stamp : (nonce : ℕ) (best : Timestamp) → Accepts (AtMost 2) (afterStamp nonce best counts client)
+module _ (counted : ReplicaSet) (client : Client) where
+  after-stamp : (nonce : ℕ) (best : Timestamp) → Accepts (AtMost 2) (afterStamp nonce best counted client)
   unfolding afterStamp
   after-stamp nonce best = by-test _ (simp (at-most-cond, to-prepare, cond-same))
 
-  after-prepared : (timestamp : Timestamp) → Accepts (AtMost 1) (afterPrepared timestamp counts client)
+  after-prepared : (timestamp : Timestamp) → Accepts (AtMost 1) (afterPrepared timestamp counted client)
   unfolding afterPrepared
   after-prepared timestamp = by-test _ (simp (at-most-cond, cond-same))
 
-  after-written : (timestamp : Timestamp) → Accepts (AtMost 0) (afterWritten timestamp counts client)
+  after-written : (timestamp : Timestamp) → Accepts (AtMost 0) (afterWritten timestamp counted client)
   unfolding afterWritten
   after-written timestamp = by-test _ (simp (at-most-cond, cond-same))
 
-  after-write-back : (timestamp : Timestamp) → Accepts (AtMost 0) (afterWriteBack timestamp counts client)
+  after-write-back : (timestamp : Timestamp) → Accepts (AtMost 0) (afterWriteBack timestamp counted client)
   unfolding afterWriteBack
   after-write-back timestamp = by-test _ (simp (at-most-cond, cond-same))
 
-  after-card : (nonce : ℕ) (best : Timestamp) (showed : ReplicaSet) → Accepts (AtMost 1) (afterCard nonce best counts showed client)
+  after-card : (nonce : ℕ) (best : Timestamp) (showed : ReplicaSet) → Accepts (AtMost 1) (afterCard nonce best counted showed client)
   unfolding afterCard
   after-card nonce best showed = by-test _ (simp (at-most-cond, cond-same))
 
@@ -97,39 +97,39 @@ module _ (client : Client) (sender : ReplicaId) where
   on-stamp : (nonce : ℕ) (proof : Option PreparedProof) (addressed : ClientId) (phase : Phase) → Accepts (AtMost (remaining phase)) (onStamp client sender nonce proof addressed phase)
   unfolding onStamp
   on-stamp nonce proof addressed Idle = by-refusal
-  on-stamp nonce proof addressed (Stamps asked best counts) = by-guard 18 (λ is. after-stamp _ _ _ _)
-  on-stamp nonce proof addressed (Prepareds timestamp counts) = by-refusal
-  on-stamp nonce proof addressed (Writtens timestamp counts) = by-refusal
-  on-stamp nonce proof addressed (Cards asked best counts showed) = by-refusal
-  on-stamp nonce proof addressed (WriteBack timestamp counts) = by-refusal
+  on-stamp nonce proof addressed (Stamps asked best counted) = by-guard 18 (λ is. after-stamp _ _ _ _)
+  on-stamp nonce proof addressed (Prepareds timestamp counted) = by-refusal
+  on-stamp nonce proof addressed (Writtens timestamp counted) = by-refusal
+  on-stamp nonce proof addressed (Cards asked best counted showed) = by-refusal
+  on-stamp nonce proof addressed (WriteBack timestamp counted) = by-refusal
 
   on-prepared : (timestamp : ℕ) (digest own : List ℕ) (phase : Phase) → Accepts (AtMost (remaining phase)) (onPrepared client sender timestamp digest own phase)
   unfolding onPrepared
   on-prepared timestamp digest own Idle = by-refusal
-  on-prepared timestamp digest own (Stamps asked best counts) = by-refusal
-  on-prepared timestamp digest own (Prepareds asked counts) = by-guard 18 (λ is. after-prepared _ _ _)
-  on-prepared timestamp digest own (Writtens asked counts) = by-refusal
-  on-prepared timestamp digest own (Cards asked best counts showed) = by-refusal
-  on-prepared timestamp digest own (WriteBack asked counts) = by-refusal
+  on-prepared timestamp digest own (Stamps asked best counted) = by-refusal
+  on-prepared timestamp digest own (Prepareds asked counted) = by-guard 18 (λ is. after-prepared _ _ _)
+  on-prepared timestamp digest own (Writtens asked counted) = by-refusal
+  on-prepared timestamp digest own (Cards asked best counted showed) = by-refusal
+  on-prepared timestamp digest own (WriteBack asked counted) = by-refusal
 
   on-written : (timestamp : ℕ) (own : List ℕ) (phase : Phase) → Accepts (AtMost (remaining phase)) (onWritten client sender timestamp own phase)
   unfolding onWritten
   on-written timestamp own Idle = by-refusal
-  on-written timestamp own (Stamps asked best counts) = by-refusal
-  on-written timestamp own (Prepareds asked counts) = by-refusal
-  on-written timestamp own (Writtens asked counts) = by-guard 18 (λ is. after-written _ _ _)
-  on-written timestamp own (Cards asked best counts showed) = by-refusal
-  on-written timestamp own (WriteBack asked counts) = by-guard 18 (λ is. after-write-back _ _ _)
+  on-written timestamp own (Stamps asked best counted) = by-refusal
+  on-written timestamp own (Prepareds asked counted) = by-refusal
+  on-written timestamp own (Writtens asked counted) = by-guard 18 (λ is. after-written _ _ _)
+  on-written timestamp own (Cards asked best counted showed) = by-refusal
+  on-written timestamp own (WriteBack asked counted) = by-guard 18 (λ is. after-write-back _ _ _)
 
   on-card : (nonce : ℕ) (card : List ℕ) (proof : Option PreparedProof) (addressed : ClientId) (phase : Phase)
       → Accepts (AtMost (remaining phase)) (onCard client sender nonce card proof addressed phase)
   unfolding onCard
   on-card nonce card proof addressed Idle = by-refusal
-  on-card nonce card proof addressed (Stamps asked best counts) = by-refusal
-  on-card nonce card proof addressed (Prepareds timestamp counts) = by-refusal
-  on-card nonce card proof addressed (Writtens timestamp counts) = by-refusal
-  on-card nonce card proof addressed (Cards asked best counts showed) = by-guard 18 (λ is. after-card _ _ _ _ _)
-  on-card nonce card proof addressed (WriteBack timestamp counts) = by-refusal
+  on-card nonce card proof addressed (Stamps asked best counted) = by-refusal
+  on-card nonce card proof addressed (Prepareds timestamp counted) = by-refusal
+  on-card nonce card proof addressed (Writtens timestamp counted) = by-refusal
+  on-card nonce card proof addressed (Cards asked best counted showed) = by-guard 18 (λ is. after-card _ _ _ _ _)
+  on-card nonce card proof addressed (WriteBack timestamp counted) = by-refusal
 
 on-reply : (client : Client) (own : List ℕ) (message : Message) → Accepts (AtMost (remaining (client .phase))) (onReply client own message)
 unfolding onReply
@@ -164,11 +164,11 @@ read-begins client = by-guard 17 (λ may. at-most (omega arith))
 
 phase-low : (phase : Phase) → remaining phase ≤ 2
 phase-low Idle = omega arith
-phase-low (Stamps nonce best counts) = omega arith
-phase-low (Prepareds timestamp counts) = omega arith
-phase-low (Writtens timestamp counts) = omega arith
-phase-low (Cards nonce best counts showed) = omega arith
-phase-low (WriteBack timestamp counts) = omega arith
+phase-low (Stamps nonce best counted) = omega arith
+phase-low (Prepareds timestamp counted) = omega arith
+phase-low (Writtens timestamp counted) = omega arith
+phase-low (Cards nonce best counted showed) = omega arith
+phase-low (WriteBack timestamp counted) = omega arith
 
 module _ (client : Client) (old : List ℕ) (most : ℕ) where
   call-sends : (step : Outcome Turn) → remaining (client .phase) ≤ most → Accepts (AtMost most) step
@@ -178,7 +178,7 @@ module _ (client : Client) (old : List ℕ) (most : ℕ) where
       answers : (answer : Answer) (next : Client) → sends answer + remaining (next .phase) ≤ most
           → sentBy (answered old answer next .answer) + remaining (answered old answer next .client .phase) ≤ most
       answers (send message) next h = h
-      answers counted next h = h
+      answers waits next h = h
       answers (done timestamp card) next h = h
       answers ended next h = h
 
@@ -194,7 +194,7 @@ module _ (client : Client) (old : List ℕ) (most : ℕ) where
     where
       go : (answer : Answer) (next : Client) → unlessBegun (answered old answer next .answer) (sentAfter (answered old answer next .client) calls) ≤ most
       go (send message) next = omega arith
-      go counted next = omega arith
+      go waits next = omega arith
       go (done timestamp card) next = omega arith
       go ended next = omega arith
   begins-again (refused number) calls h = h

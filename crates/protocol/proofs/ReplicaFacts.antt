@@ -24,7 +24,7 @@ use Rattle.wire.specs.Message.{Message, READ-STAMP, PREPARE, WRITE, READ, STAMP
 use Rattle.wire.specs.Acceptance.{senderOf, inItsRange}
 use Rattle.wire.specs.Checks.{writtenOf}
 use Rattle.wire.specs.Proof.{PreparedProof, WrittenProof}
-use Rattle.protocol.specs.Parts.{entriesIn}
+use Rattle.protocol.specs.Parts.{entriesKept}
 use Rattle.protocol.specs.Replica.{Reply, heldTimestamp, heldProof, heldCard, slotCount, slotDigest, slotTimestamp, raised, withWritten, withSlot, holding, withSlots, withHeld, slotIs, slotTakes, isTimestamp, afterPrepare, afterWrite, onReadStamp, onPrepare, onWrite, onRead, onRequest}
 use Rattle.protocol.specs.declared.replica.Held.{Held}
 use Rattle.protocol.specs.declared.replica.Replica.{Replica}
@@ -79,7 +79,7 @@ pub record ReplicaFacts (before : Replica) (verdicts : List ℕ) (message : Mess
 -- ---- What a register shows
 
 heldRecord : Held → PreparedProof
-heldRecord held = record { timestamp = heldTimestamp held; digest = held .digest; entries = entriesIn (held .entries) (held .«entry_count») }
+heldRecord held = record { timestamp = heldTimestamp held; digest = held .digest; entries = entriesKept (held .entries) (held .«entry_count») }
 
 -- The timestamp that a register shows is the one it holds.
 pub held-shown : (held : Held) → preparedTimestamp (heldProof held) ≡ heldTimestamp held

@@ -24,7 +24,7 @@ use Rattle.wire.specs.Proof.{Entry, PreparedProof, WrittenProof, entriesBytes}
 use Rattle.wire.specs.Sha256.{sha256}
 use Rattle.wire.specs.Writing.{unsigned, inFront}
 use Rattle.wire.specs.declared.message.Party.the-variants.{Client as AtClient}
-use Rattle.protocol.specs.Parts.{startCard, cardIn, entriesIn, ifIssued, cardStands}
+use Rattle.protocol.specs.Parts.{startCard, cardKept, entriesKept, ifIssued, cardStands}
 use Rattle.protocol.specs.Replica.{withOutput}
 use Rattle.protocol.specs.declared.client.Client.{Client}
 use Rattle.protocol.specs.declared.client.ClientAnswer.{ClientAnswer}
@@ -36,16 +36,16 @@ use Rattle.wire.specs.Parts.{preparedTimestamp}
 -- ---- What a client's record holds
 
 abbrev pub currentCard : Client → List ℕ
-currentCard client = cardIn (client .card) (client .«card_length»)
+currentCard client = cardKept (client .card) (client .«card_length»)
 
 -- The prepared proof of the best reply, whose timestamp the phase has.
 abbrev pub bestProof : Client → Timestamp → PreparedProof
-bestProof client best = record { timestamp = number best; digest = client .digest; entries = entriesIn (client .entries) (client .«entry_count») }
+bestProof client best = record { timestamp = number best; digest = client .digest; entries = entriesKept (client .entries) (client .«entry_count») }
 
 -- "the desk's last written proof, if any"
 abbrev pub lastWritten : Client → Option WrittenProof
 lastWritten client =
-    ifIssued (number (client .written)) (record { timestamp = number (client .written); entries = entriesIn (client .«written_entries») (client .«written_count») })
+    ifIssued (number (client .written)) (record { timestamp = number (client .written); entries = entriesKept (client .«written_entries») (client .«written_count») })
 
 abbrev pub signatureAt : List ℕ → ReplicaId → List ℕ
 signatureAt signatures id = take 64 (drop (64 * (id .0 - 1)) signatures)
@@ -90,12 +90,12 @@ freshClient f id firstNonce = idleClient f id (firstNonce - 1)
 abbrev pub noClient : Client
 noClient = idleClient 0 (record { 0 = 0 }) 0
 
-abbrev pub ifSetUp : Outcome (Unit {0}) → Client → Client
-ifSetUp (accepted ready) client = client
-ifSetUp (refused number) client = noClient
+abbrev pub clientIfSetUp : Outcome (Unit {0}) → Client → Client
+clientIfSetUp (accepted ready) client = client
+clientIfSetUp (refused number) client = noClient
 
 abbrev pub madeClient : ℕ → ClientId → ℕ → Client
-madeClient f id firstNonce = ifSetUp (clientSetup f id firstNonce) (freshClient f id firstNonce)
+madeClient f id firstNonce = clientIfSetUp (clientSetup f id firstNonce) (freshClient f id firstNonce)
 
 -- ---- Changes of a record
 
@@ -232,7 +232,7 @@ withLastWritten timestamp entries client =
 -- "Each call's answer is one of"
 pub data Answer : Type 0 where
   send : Message → Answer  -- "a message to send"
-  counted : Answer  -- "counted, nothing to send"
+  waits : Answer  -- "counted, nothing to send"
   done : Timestamp → List ℕ → Answer  -- "done, with stamp and card"
   ended : Answer  -- "ended, where no successor exists (the desk is then idle)"
 
@@ -248,11 +248,11 @@ turn answer next = accepted (record { answer = answer; next = next })
 
 abbrev pub isIdle : Phase → Bool
 isIdle Idle = true
-isIdle (Stamps nonce best counts) = false
-isIdle (Prepareds timestamp counts) = false
-isIdle (Writtens timestamp counts) = false
-isIdle (Cards nonce best counts showed) = false
-isIdle (WriteBack timestamp counts) = false
+isIdle (Stamps nonce best counted) = false
+isIdle (Prepareds timestamp counted) = false
+isIdle (Writtens timestamp counted) = false
+isIdle (Cards nonce best counted showed) = false
+isIdle (WriteBack timestamp counted) = false
 
 -- 17: "An operation is begun on a busy desk, or after nonce 2^64 − 1 was used."
 abbrev pub mayBegin : Client → Bool
@@ -285,10 +285,10 @@ unawaited = refused 18
 
 -- "q": replies of a quorum were taken.
 abbrev pub enough : Client → ReplicaSet → Bool
-enough client counts = isQuorum (client .f) counts
+enough client counted = isQuorum (client .f) counted
 
 abbrev pub isNew : ReplicaSet → ReplicaId → Bool
-isNew counts sender = not (has counts sender)
+isNew counted sender = not (has counted sender)
 
 -- "Of replies with the same largest stamp the first one taken gives proof and card."
 abbrev pub isBetter : Timestamp → Option PreparedProof → Bool
@@ -313,59 +313,59 @@ toPrepare client best (some next) =
     (withPhase (Prepareds next empty) (withDigest digest client))
 
 unfoldable pub afterStamp : ℕ → Timestamp → ReplicaSet → Client → Outcome Turn
-afterStamp nonce best counts client =
-    cond (enough client counts) (toPrepare client best (successor best (client .id))) (turn counted (withPhase (Stamps nonce best counts) client))
+afterStamp nonce best counted client =
+    cond (enough client counted) (toPrepare client best (successor best (client .id))) (turn waits (withPhase (Stamps nonce best counted) client))
 
 unfoldable pub onStamp : Client → ReplicaId → ℕ → Option PreparedProof → ClientId → Phase → Outcome Turn
-onStamp client sender nonce proof addressed (Stamps asked best counts) =
-    awaited (eqb nonce asked && (eqb (addressed .0) (client .id .0) && isNew counts sender))
-    (afterStamp asked (bestOf best proof) (with counts sender) (keepBetter best proof client))
+onStamp client sender nonce proof addressed (Stamps asked best counted) =
+    awaited (eqb nonce asked && (eqb (addressed .0) (client .id .0) && isNew counted sender))
+    (afterStamp asked (bestOf best proof) (with counted sender) (keepBetter best proof client))
 onStamp client sender nonce proof addressed Idle = unawaited
-onStamp client sender nonce proof addressed (Prepareds timestamp counts) = unawaited
-onStamp client sender nonce proof addressed (Writtens timestamp counts) = unawaited
-onStamp client sender nonce proof addressed (Cards asked best counts showed) = unawaited
-onStamp client sender nonce proof addressed (WriteBack timestamp counts) = unawaited
+onStamp client sender nonce proof addressed (Prepareds timestamp counted) = unawaited
+onStamp client sender nonce proof addressed (Writtens timestamp counted) = unawaited
+onStamp client sender nonce proof addressed (Cards asked best counted showed) = unawaited
+onStamp client sender nonce proof addressed (WriteBack timestamp counted) = unawaited
 
 -- "from q PREPAREDs build the proof; WRITE"
 unfoldable pub afterPrepared : Timestamp → ReplicaSet → Client → Outcome Turn
-afterPrepared timestamp counts client =
-    cond (enough client counts)
-    (turn (send (WRITE (client .id) (currentCard client) (record { timestamp = number timestamp; digest = client .digest; entries = built client counts (client .signatures) })))
+afterPrepared timestamp counted client =
+    cond (enough client counted)
+    (turn (send (WRITE (client .id) (currentCard client) (record { timestamp = number timestamp; digest = client .digest; entries = built client counted (client .signatures) })))
     (withPhase (Writtens timestamp empty) (withSignatures (replicate 1024 0) client)))
-    (turn counted (withPhase (Prepareds timestamp counts) client))
+    (turn waits (withPhase (Prepareds timestamp counted) client))
 
 unfoldable pub onPrepared : Client → ReplicaId → ℕ → List ℕ → List ℕ → Phase → Outcome Turn
-onPrepared client sender timestamp digest signature (Prepareds asked counts) =
-    awaited (eqb timestamp (number asked) && (same digest (client .digest) && isNew counts sender))
-    (afterPrepared asked (with counts sender) (withSignatures (withSignature (client .signatures) sender signature) client))
+onPrepared client sender timestamp digest signature (Prepareds asked counted) =
+    awaited (eqb timestamp (number asked) && (same digest (client .digest) && isNew counted sender))
+    (afterPrepared asked (with counted sender) (withSignatures (withSignature (client .signatures) sender signature) client))
 onPrepared client sender timestamp digest signature Idle = unawaited
-onPrepared client sender timestamp digest signature (Stamps nonce best counts) = unawaited
-onPrepared client sender timestamp digest signature (Writtens asked counts) = unawaited
-onPrepared client sender timestamp digest signature (Cards nonce best counts showed) = unawaited
-onPrepared client sender timestamp digest signature (WriteBack asked counts) = unawaited
+onPrepared client sender timestamp digest signature (Stamps nonce best counted) = unawaited
+onPrepared client sender timestamp digest signature (Writtens asked counted) = unawaited
+onPrepared client sender timestamp digest signature (Cards nonce best counted showed) = unawaited
+onPrepared client sender timestamp digest signature (WriteBack asked counted) = unawaited
 
 -- "q WRITTENs end it and are the next written proof"
 unfoldable pub afterWritten : Timestamp → ReplicaSet → Client → Outcome Turn
-afterWritten timestamp counts client =
-    cond (enough client counts)
-    (turn (done timestamp (currentCard client)) (withPhase Idle (withLastWritten timestamp (built client counts (client .signatures)) client)))
-    (turn counted (withPhase (Writtens timestamp counts) client))
+afterWritten timestamp counted client =
+    cond (enough client counted)
+    (turn (done timestamp (currentCard client)) (withPhase Idle (withLastWritten timestamp (built client counted (client .signatures)) client)))
+    (turn waits (withPhase (Writtens timestamp counted) client))
 
 -- "each uncounted holder's WRITTEN counts, until q"
 unfoldable pub afterWriteBack : Timestamp → ReplicaSet → Client → Outcome Turn
-afterWriteBack timestamp counts client =
-    cond (enough client counts) (turn (done timestamp (currentCard client)) (withPhase Idle client)) (turn counted (withPhase (WriteBack timestamp counts) client))
+afterWriteBack timestamp counted client =
+    cond (enough client counted) (turn (done timestamp (currentCard client)) (withPhase Idle client)) (turn waits (withPhase (WriteBack timestamp counted) client))
 
 unfoldable pub onWritten : Client → ReplicaId → ℕ → List ℕ → Phase → Outcome Turn
-onWritten client sender timestamp signature (Writtens asked counts) =
-    awaited (eqb timestamp (number asked) && isNew counts sender)
-    (afterWritten asked (with counts sender) (withSignatures (withSignature (client .signatures) sender signature) client))
-onWritten client sender timestamp signature (WriteBack asked counts) =
-    awaited (eqb timestamp (number asked) && isNew counts sender) (afterWriteBack asked (with counts sender) client)
+onWritten client sender timestamp signature (Writtens asked counted) =
+    awaited (eqb timestamp (number asked) && isNew counted sender)
+    (afterWritten asked (with counted sender) (withSignatures (withSignature (client .signatures) sender signature) client))
+onWritten client sender timestamp signature (WriteBack asked counted) =
+    awaited (eqb timestamp (number asked) && isNew counted sender) (afterWriteBack asked (with counted sender) client)
 onWritten client sender timestamp signature Idle = unawaited
-onWritten client sender timestamp signature (Stamps nonce best counts) = unawaited
-onWritten client sender timestamp signature (Prepareds asked counts) = unawaited
-onWritten client sender timestamp signature (Cards nonce best counts showed) = unawaited
+onWritten client sender timestamp signature (Stamps nonce best counted) = unawaited
+onWritten client sender timestamp signature (Prepareds asked counted) = unawaited
+onWritten client sender timestamp signature (Cards nonce best counted showed) = unawaited
 
 -- "Holders that showed it count.": those of the largest timestamp so far.
 abbrev pub showedBy : Timestamp → Option PreparedProof → ReplicaId → ReplicaSet → ReplicaSet
@@ -377,21 +377,21 @@ keepBetterCard best card proof client = cond (isBetter best proof) (withCard car
 
 -- "If they are q it is done; else WRITE it back"
 unfoldable pub afterCard : ℕ → Timestamp → ReplicaSet → ReplicaSet → Client → Outcome Turn
-afterCard nonce best counts showed client =
-    cond (enough client counts)
+afterCard nonce best counted showed client =
+    cond (enough client counted)
     (cond (enough client showed) (turn (done best (currentCard client)) (withPhase Idle client))
     (turn (send (WRITE (client .id) (currentCard client) (bestProof client best))) (withPhase (WriteBack best showed) client)))
-    (turn counted (withPhase (Cards nonce best counts showed) client))
+    (turn waits (withPhase (Cards nonce best counted showed) client))
 
 unfoldable pub onCard : Client → ReplicaId → ℕ → List ℕ → Option PreparedProof → ClientId → Phase → Outcome Turn
-onCard client sender nonce card proof addressed (Cards asked best counts showed) =
-    awaited (eqb nonce asked && (eqb (addressed .0) (client .id .0) && isNew counts sender))
-    (afterCard asked (bestOf best proof) (with counts sender) (showedBy best proof sender showed) (keepBetterCard best card proof client))
+onCard client sender nonce card proof addressed (Cards asked best counted showed) =
+    awaited (eqb nonce asked && (eqb (addressed .0) (client .id .0) && isNew counted sender))
+    (afterCard asked (bestOf best proof) (with counted sender) (showedBy best proof sender showed) (keepBetterCard best card proof client))
 onCard client sender nonce card proof addressed Idle = unawaited
-onCard client sender nonce card proof addressed (Stamps asked best counts) = unawaited
-onCard client sender nonce card proof addressed (Prepareds timestamp counts) = unawaited
-onCard client sender nonce card proof addressed (Writtens timestamp counts) = unawaited
-onCard client sender nonce card proof addressed (WriteBack timestamp counts) = unawaited
+onCard client sender nonce card proof addressed (Stamps asked best counted) = unawaited
+onCard client sender nonce card proof addressed (Prepareds timestamp counted) = unawaited
+onCard client sender nonce card proof addressed (Writtens timestamp counted) = unawaited
+onCard client sender nonce card proof addressed (WriteBack timestamp counted) = unawaited
 
 -- The four replies, once 2 to 11 are passed, with the message's own signature. The other kinds do not get here: 5 refuses them.
 unfoldable pub onReply : Client → List ℕ → Message → Outcome Turn
@@ -426,7 +426,7 @@ call answer card client output = record { answer = answer; «card_length» = len
 
 abbrev pub answered : List ℕ → Answer → Client → ClientCall
 answered old (send message) next = call (Send (length (unsigned message))) [] next (inFront (unsigned message) old)
-answered old counted next = call Counted [] next old
+answered old waits next = call Counted [] next old
 answered old (done timestamp card) next = call (Done timestamp) card next old
 answered old ended next = call Ended [] next old
 
@@ -451,17 +451,17 @@ pub data Said : Type 0 where
   finished : Timestamp → List ℕ → Said
   noSuccessor : Said
 
-abbrev pub answerOutcome : ClientAnswer → ℕ → List ℕ → List ℕ → Outcome Said
-answerOutcome (Send n) size card output = accepted (message (take n output))
-answerOutcome Counted size card output = accepted nothing
-answerOutcome (Done timestamp) size card output = accepted (finished timestamp (take size card))
-answerOutcome Ended size card output = accepted noSuccessor
-answerOutcome (Refused number) size card output = refused number
+abbrev pub clientOutcome : ClientAnswer → ℕ → List ℕ → List ℕ → Outcome Said
+clientOutcome (Send n) size card output = accepted (message (take n output))
+clientOutcome Counted size card output = accepted nothing
+clientOutcome (Done timestamp) size card output = accepted (finished timestamp (take size card))
+clientOutcome Ended size card output = accepted noSuccessor
+clientOutcome (Refused number) size card output = refused number
 
 -- The same of a step.
 abbrev pub said : Answer → Said
 said (send m) = message (unsigned m)
-said counted = nothing
+said waits = nothing
 said (done timestamp card) = finished timestamp card
 said ended = noSuccessor
 

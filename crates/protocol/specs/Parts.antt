@@ -15,11 +15,11 @@ abbrev pub startCard : List ℕ
 startCard = 0 ∷ 0 ∷ []
 
 -- The card in an array, and the entries in an array; a record of any value has at most 17 bytes and 11 entries there.
-abbrev pub cardIn : List ℕ → ℕ → List ℕ
-cardIn array kept = keptCard kept array
+abbrev pub cardKept : List ℕ → ℕ → List ℕ
+cardKept array kept = keptCard kept array
 
-abbrev pub entriesIn : List ℕ → ℕ → List Entry
-entriesIn array kept = keptEntries kept array
+abbrev pub entriesKept : List ℕ → ℕ → List Entry
+entriesKept array kept = keptEntries kept array
 
 -- "A missing prepared proof means stamp 0.0."
 abbrev pub ifIssued : {A : Type 0} → ℕ → A → Option A

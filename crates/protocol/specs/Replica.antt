@@ -18,7 +18,7 @@ use Rattle.wire.specs.Message.{Message, READ-STAMP, PREPARE, WRITE, READ, STAMP
 use Rattle.wire.specs.Proof.{PreparedProof, WrittenProof, entriesBytes}
 use Rattle.wire.specs.Writing.{unsigned, roomy, inFront}
 use Rattle.wire.specs.declared.message.Party.the-variants.{Replica as AtReplica}
-use Rattle.protocol.specs.Parts.{cardIn, entriesIn, ifIssued, cardStands}
+use Rattle.protocol.specs.Parts.{cardKept, entriesKept, ifIssued, cardStands}
 use Rattle.protocol.specs.declared.replica.Held.{Held}
 use Rattle.protocol.specs.declared.replica.Register.{Register}
 use Rattle.protocol.specs.declared.replica.Replica.{Replica}
@@ -33,11 +33,11 @@ abbrev pub heldTimestamp : Held → ℕ
 heldTimestamp held = number (held .timestamp)
 
 abbrev pub heldCard : Held → List ℕ
-heldCard held = cardIn (held .card) (held .«card_length»)
+heldCard held = cardKept (held .card) (held .«card_length»)
 
 abbrev pub heldProof : Held → Option PreparedProof
 heldProof held =
-    ifIssued (heldTimestamp held) (record { timestamp = heldTimestamp held; digest = held .digest; entries = entriesIn (held .entries) (held .«entry_count») })
+    ifIssued (heldTimestamp held) (record { timestamp = heldTimestamp held; digest = held .digest; entries = entriesKept (held .entries) (held .«entry_count») })
 
 -- "64 lines, one per desk, each a count and a digest, count 0 for an unused line": the slot of a client.
 abbrev pub slotCount : Slots → ClientId → ℕ
@@ -73,13 +73,13 @@ freshReplica f id = record { f = f; id = id; register = freshRegister }
 abbrev pub noReplica : Replica
 noReplica = freshReplica 0 (record { 0 = 0 })
 
-abbrev pub ifSetUp : Outcome (Unit {0}) → Replica → Replica
-ifSetUp (accepted done) replica = replica
-ifSetUp (refused number) replica = noReplica
+abbrev pub replicaIfSetUp : Outcome (Unit {0}) → Replica → Replica
+replicaIfSetUp (accepted done) replica = replica
+replicaIfSetUp (refused number) replica = noReplica
 
 -- 16: "A party is set up with f, number or first nonce (0) out of range."
 unfoldable pub madeReplica : ℕ → ReplicaId → Replica
-madeReplica f id = ifSetUp (replicaSetup f id) (freshReplica f id)
+madeReplica f id = replicaIfSetUp (replicaSetup f id) (freshReplica f id)
 
 -- ---- What a register does
 

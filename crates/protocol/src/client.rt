@@ -2,6 +2,10 @@
 use base::party::ClientId;
 use base::replica_set::ReplicaSet;
 use base::timestamp::Timestamp;
+use wire::layout::CARD_ROOM;
+use wire::layout::DIGEST;
+use wire::layout::ENTRIES_ROOM;
+use wire::layout::SIGNATURES_ROOM;
 
 // What a client is waiting for, with the replicas counted so far.
 pub enum Phase {
@@ -26,17 +30,17 @@ pub struct Client {
     pub phase: Phase,
     // The card that is written, or the best card read.
     pub card_length: u8,
-    pub card: [u8; 17],
+    pub card: [u8; CARD_ROOM],
     // The best reply's prepared proof but for its timestamp; from PREPARE on the card's digest.
-    pub digest: [u8; 32],
+    pub digest: [u8; DIGEST],
     pub entry_count: u8,
-    pub entries: [u8; 715],
+    pub entries: [u8; ENTRIES_ROOM],
     // The signatures counted in this phase, replica r's at 64 (r - 1).
-    pub signatures: [u8; 1024],
+    pub signatures: [u8; SIGNATURES_ROOM],
     // The last written proof; 0.0 for none.
     pub written: Timestamp,
     pub written_count: u8,
-    pub written_entries: [u8; 715],
+    pub written_entries: [u8; ENTRIES_ROOM],
 }
 
 // The answer of a call of a client; the card of Done stands beside it.

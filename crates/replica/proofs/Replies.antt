@@ -19,9 +19,9 @@ use Rattle.base.specs.declared.timestamp.Timestamp.{Timestamp}
 use Rattle.base.proofs.Booleans.{and-true-both}
 use Rattle.base.proofs.Outcome.{guard-passes}
 use Rattle.base.proofs.Timestamps.{ofNumber-number, number-ofNumber}
+use Rattle.base.specs.Bytes.{between}
 use Rattle.wire.specs.Card.{isCard, cardDigest, digestAnswer}
 use Rattle.wire.specs.Message.{Message, PREPARED, WRITTEN, longest}
-use Rattle.wire.specs.Places.{between}
 use Rattle.wire.specs.Proof.{PreparedProof, preparedFrom}
 use Rattle.wire.specs.Sha256.{sha256}
 use Rattle.wire.specs.Writing.{Wrote, encodedOutcome, unsigned}

@@ -21,6 +21,7 @@ use protocol::replica::Replica;
 use protocol::replica::ReplicaAnswer;
 use protocol::replica::Slots;
 use wire::card::CardCheck;
+use wire::layout::DIGEST;
 use wire::parts;
 use wire::writer::Encoded;
 ghost use mathlib.Core.Path.{_≡_};
@@ -162,7 +163,7 @@ pub(super) fn prepare(
     replica: Replica,
     client: ClientId,
     timestamp: Timestamp,
-    digest: &[u8; 32],
+    digest: &[u8; DIGEST],
     shown: Timestamp,
     last: Timestamp,
     out: &mut [u8],

@@ -13,8 +13,13 @@ use protocol::replica::Held;
 use protocol::replica::Register;
 use protocol::replica::Replica;
 use protocol::replica::ReplicaAnswer;
+use protocol::replica::SLOT_DIGESTS;
+use protocol::replica::SLOTS;
 use protocol::replica::Slots;
 use wire::acceptance::accept;
+use wire::layout::CARD_ROOM;
+use wire::layout::DIGEST;
+use wire::layout::ENTRIES_ROOM;
 use wire::layout::LONGEST_MESSAGE;
 use wire::message::Party;
 use wire::message::Reading;
@@ -42,17 +47,17 @@ fn fresh_register() -> Register
 {
     Register {
         slots: Slots {
-            counts: [0; 64],
-            digests: [0; 2048],
+            counts: [0; SLOTS],
+            digests: [0; SLOT_DIGESTS],
             written: Timestamp::start(),
         },
         held: Held {
             timestamp: Timestamp::start(),
             card_length: 2,
-            card: [0; 17],
-            digest: [0; 32],
+            card: [0; CARD_ROOM],
+            digest: [0; DIGEST],
             entry_count: 0,
-            entries: [0; 715],
+            entries: [0; ENTRIES_ROOM],
         },
     }
 }

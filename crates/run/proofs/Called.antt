@@ -11,7 +11,7 @@ use Rattle.base.specs.Outcome.{Outcome, accepted, refused, guard}
 use Rattle.base.specs.declared.party.ClientId.{ClientId}
 use Rattle.base.specs.declared.party.ReplicaId.{ReplicaId}
 use Rattle.wire.specs.Message.{longest}
-use Rattle.protocol.specs.Client.{Answer, send, counted, done, ended, Turn, answered, clientAnswers, freshClient, madeClient, beginWrite, beginRead, clientStep, beginWriteCall, beginReadCall, clientCall, ClientCall}
+use Rattle.protocol.specs.Client.{Answer, send, waits, done, ended, Turn, answered, clientAnswers, freshClient, madeClient, beginWrite, beginRead, clientStep, beginWriteCall, beginReadCall, clientCall, ClientCall}
 use Rattle.protocol.specs.Replica.{Reply, replicaAnswers, freshReplica, madeReplica, replicaStep, replicaCall, ReplicaCall}
 use Rattle.protocol.specs.declared.client.Client.{Client}
 use Rattle.protocol.specs.declared.replica.Replica.{Replica}
@@ -35,7 +35,7 @@ replica-says before old (refused number) = record { leaves = refl; gives = refl 
 
 turn-says : (before : Client) (old : List ℕ) (answer : Answer) (next : Client) → ClientSays before old (accepted (record { answer = answer; next = next })) (answered old answer next)
 turn-says before old (send message) next = record { leaves = refl; gives = refl }
-turn-says before old counted next = record { leaves = refl; gives = refl }
+turn-says before old waits next = record { leaves = refl; gives = refl }
 turn-says before old (done timestamp card) next = record { leaves = refl; gives = refl }
 turn-says before old ended next = record { leaves = refl; gives = refl }
 

@@ -9,7 +9,7 @@ use native.Mathlib.Nat.{eq-or-lt-of-le, le-of-suc-le-suc}
 use Rattle.base.specs.Outcome.{accepted}
 use Rattle.base.specs.declared.party.ClientId.{ClientId}
 use Rattle.wire.specs.Message.{Message, READ-STAMP, PREPARE, WRITE, READ, STAMP, PREPARED, WRITTEN, CARD}
-use Rattle.protocol.specs.Client.{Answer, send, counted, done, ended, Turn}
+use Rattle.protocol.specs.Client.{Answer, send, waits, done, ended, Turn}
 use Rattle.protocol.specs.declared.client.Client.{Client}
 use Rattle.protocol.specs.declared.client.Phase.{Phase}
 use Rattle.protocol.proofs.ClientCases.{Begun, ClientCase, stamp-counted, stamps-enough, stamps-ended, prepared-counted, prepareds-enough, written-counted, writtens-enough, card-counted, cards-agree, cards-differ, back-counted, back-enough}
@@ -29,7 +29,7 @@ isQuestion (send (STAMP id nonce proof addressed)) = false
 isQuestion (send (PREPARED id timestamp digest)) = false
 isQuestion (send (WRITTEN id timestamp)) = false
 isQuestion (send (CARD id nonce card proof addressed)) = false
-isQuestion counted = false
+isQuestion waits = false
 isQuestion (done timestamp card) = false
 isQuestion ended = false
 

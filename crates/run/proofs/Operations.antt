@@ -30,7 +30,7 @@ use Rattle.wire.specs.Checks.{issued}
 use Rattle.wire.specs.Message.{Message, READ-STAMP, READ, STAMP, PREPARED, WRITTEN, CARD}
 use Rattle.wire.specs.Proof.{PreparedProof}
 use Rattle.wire.specs.Sha256.{sha256}
-use Rattle.protocol.specs.Client.{Answer, send, counted, done, ended, Turn, currentCard, bestOf, showedBy}
+use Rattle.protocol.specs.Client.{Answer, send, waits, done, ended, Turn, currentCard, bestOf, showedBy}
 use Rattle.protocol.specs.Parts.{startCard, cardStands}
 use Rattle.protocol.specs.declared.client.Client.{Client}
 use Rattle.protocol.specs.declared.client.Phase.{Phase}
@@ -67,7 +67,7 @@ best-fits best proof h = go (ltb (number best) (preparedTimestamp proof))
 
 abbrev isDone : Answer → Bool
 isDone (send message) = false
-isDone counted = false
+isDone waits = false
 isDone (done timestamp card) = true
 isDone ended = false
 
@@ -134,84 +134,84 @@ module _ (R : Run) where
     pub own : s % 256 ≡ id .0
     pub above : (s′ : ℕ) → Settled t₀ s′ → s′ < s
 
-  pub record Stamping (id : ClientId) (card : List ℕ) (t₀ : ℕ) (now : Client) (nonce best : ℕ) (counts : ReplicaSet) : Type 0 where
+  pub record Stamping (id : ClientId) (card : List ℕ) (t₀ : ℕ) (now : Client) (nonce best : ℕ) (counted : ReplicaSet) : Type 0 where
     pub card-is : currentCard now ≡ card
     pub new : clientAt R id t₀ .«last_nonce» < nonce
-    pub seen : Each counts (λ r. held R r t₀ ≤ best)
+    pub seen : Each counted (λ r. held R r t₀ ≤ best)
 
-  pub record Preparing (id : ClientId) (card : List ℕ) (t₀ t : ℕ) (now : Client) (s : ℕ) (counts : ReplicaSet) : Type 0 where
+  pub record Preparing (id : ClientId) (card : List ℕ) (t₀ t : ℕ) (now : Client) (s : ℕ) (counted : ReplicaSet) : Type 0 where
     pub card-is : currentCard now ≡ card
     pub digest-is : now .digest ≡ sha256 card
     pub chosen : Chosen id t₀ s
-    pub signed : Each counts (λ r. Said R (replica r) (PREPARED r s (sha256 card)) t)
+    pub signed : Each counted (λ r. Said R (replica r) (PREPARED r s (sha256 card)) t)
 
-  pub record Writing (id : ClientId) (card : List ℕ) (t₀ t : ℕ) (now : Client) (s : ℕ) (counts : ReplicaSet) : Type 0 where
+  pub record Writing (id : ClientId) (card : List ℕ) (t₀ t : ℕ) (now : Client) (s : ℕ) (counted : ReplicaSet) : Type 0 where
     pub card-is : currentCard now ≡ card
     pub chosen : Chosen id t₀ s
     pub backed : Backed R t s (sha256 card)
-    pub stored : Holds counts s t
+    pub stored : Holds counted s t
 
   abbrev pub WriteIn : ClientId → List ℕ → ℕ → ℕ → Client → Phase → Type 0
   WriteIn id card t₀ t now Idle = ⊥
-  WriteIn id card t₀ t now (Stamps nonce best counts) = Stamping id card t₀ now nonce (number best) counts
-  WriteIn id card t₀ t now (Prepareds timestamp counts) = Preparing id card t₀ t now (number timestamp) counts
-  WriteIn id card t₀ t now (Writtens timestamp counts) = Writing id card t₀ t now (number timestamp) counts
-  WriteIn id card t₀ t now (Cards nonce best counts showed) = ⊥
-  WriteIn id card t₀ t now (WriteBack timestamp counts) = ⊥
+  WriteIn id card t₀ t now (Stamps nonce best counted) = Stamping id card t₀ now nonce (number best) counted
+  WriteIn id card t₀ t now (Prepareds timestamp counted) = Preparing id card t₀ t now (number timestamp) counted
+  WriteIn id card t₀ t now (Writtens timestamp counted) = Writing id card t₀ t now (number timestamp) counted
+  WriteIn id card t₀ t now (Cards nonce best counted showed) = ⊥
+  WriteIn id card t₀ t now (WriteBack timestamp counted) = ⊥
 
   write-later : (id : ClientId) (card : List ℕ) (t₀ t : ℕ) (now : Client) (phase : Phase) → WriteIn id card t₀ t now phase → WriteIn id card t₀ (suc t) now phase
   write-later id card t₀ t now Idle x = x
-  write-later id card t₀ t now (Stamps nonce best counts) x = x
-  write-later id card t₀ t now (Prepareds timestamp counts) x = record {
+  write-later id card t₀ t now (Stamps nonce best counted) x = x
+  write-later id card t₀ t now (Prepareds timestamp counted) x = record {
     card-is = x .card-is;
     digest-is = x .digest-is;
     chosen = x .chosen;
     signed = λ r k c. said-later R (replica r) (PREPARED r (number timestamp) (sha256 card)) t (suc t) (omega arith) (x .signed r k c);
   }
-  write-later id card t₀ t now (Writtens timestamp counts) x = record {
+  write-later id card t₀ t now (Writtens timestamp counted) x = record {
     card-is = x .card-is;
     chosen = x .chosen;
     backed = backed-later R t (suc t) (number timestamp) (sha256 card) (omega arith) (x .backed);
-    stored = holds-later counts (number timestamp) t (x .stored);
+    stored = holds-later counted (number timestamp) t (x .stored);
   }
-  write-later id card t₀ t now (Cards nonce best counts showed) x = x
-  write-later id card t₀ t now (WriteBack timestamp counts) x = x
+  write-later id card t₀ t now (Cards nonce best counted showed) x = x
+  write-later id card t₀ t now (WriteBack timestamp counted) x = x
 
   -- ---- The phases of a read
 
-  pub record Reading (id : ClientId) (t₀ t : ℕ) (now : Client) (nonce best : ℕ) (counts showed : ReplicaSet) : Type 0 where
+  pub record Reading (id : ClientId) (t₀ t : ℕ) (now : Client) (nonce best : ℕ) (counted showed : ReplicaSet) : Type 0 where
     pub new : clientAt R id t₀ .«last_nonce» < nonce
-    pub seen : Each counts (λ r. held R r t₀ ≤ best)
+    pub seen : Each counted (λ r. held R r t₀ ≤ best)
     pub shown-by : Holds showed best t
     pub is-shown : Shown t best (currentCard now)
 
-  pub record WritingBack (t₀ t : ℕ) (now : Client) (s : ℕ) (counts : ReplicaSet) : Type 0 where
+  pub record WritingBack (t₀ t : ℕ) (now : Client) (s : ℕ) (counted : ReplicaSet) : Type 0 where
     pub above : (s′ : ℕ) → Settled t₀ s′ → s′ ≤ s
-    pub stored : Holds counts s t
+    pub stored : Holds counted s t
     pub is-shown : Shown t s (currentCard now)
 
   abbrev pub ReadIn : ClientId → ℕ → ℕ → Client → Phase → Type 0
   ReadIn id t₀ t now Idle = ⊥
-  ReadIn id t₀ t now (Stamps nonce best counts) = ⊥
-  ReadIn id t₀ t now (Prepareds timestamp counts) = ⊥
-  ReadIn id t₀ t now (Writtens timestamp counts) = ⊥
-  ReadIn id t₀ t now (Cards nonce best counts showed) = Reading id t₀ t now nonce (number best) counts showed
-  ReadIn id t₀ t now (WriteBack timestamp counts) = WritingBack t₀ t now (number timestamp) counts
+  ReadIn id t₀ t now (Stamps nonce best counted) = ⊥
+  ReadIn id t₀ t now (Prepareds timestamp counted) = ⊥
+  ReadIn id t₀ t now (Writtens timestamp counted) = ⊥
+  ReadIn id t₀ t now (Cards nonce best counted showed) = Reading id t₀ t now nonce (number best) counted showed
+  ReadIn id t₀ t now (WriteBack timestamp counted) = WritingBack t₀ t now (number timestamp) counted
 
   read-later : (id : ClientId) (t₀ t : ℕ) (now : Client) (phase : Phase) → ReadIn id t₀ t now phase → ReadIn id t₀ (suc t) now phase
   read-later id t₀ t now Idle x = x
-  read-later id t₀ t now (Stamps nonce best counts) x = x
-  read-later id t₀ t now (Prepareds timestamp counts) x = x
-  read-later id t₀ t now (Writtens timestamp counts) x = x
-  read-later id t₀ t now (Cards nonce best counts showed) x = record {
+  read-later id t₀ t now (Stamps nonce best counted) x = x
+  read-later id t₀ t now (Prepareds timestamp counted) x = x
+  read-later id t₀ t now (Writtens timestamp counted) x = x
+  read-later id t₀ t now (Cards nonce best counted showed) x = record {
     new = x .new;
     seen = x .seen;
     shown-by = holds-later showed (number best) t (x .shown-by);
     is-shown = shown-later t (suc t) (number best) (currentCard now) (omega arith) (x .is-shown);
   }
-  read-later id t₀ t now (WriteBack timestamp counts) x = record {
+  read-later id t₀ t now (WriteBack timestamp counted) x = record {
     above = x .above;
-    stored = holds-later counts (number timestamp) t (x .stored);
+    stored = holds-later counted (number timestamp) t (x .stored);
     is-shown = shown-later t (suc t) (number timestamp) (currentCard now) (omega arith) (x .is-shown);
   }
 
@@ -263,17 +263,17 @@ module _ (R : Run) where
     good = good-client R id correct t
 
     -- A quorum that answered since t₀, none with more than m: what was settled at t₀ is at most m.
-    below : (m : ℕ) (counts : ReplicaSet) → quorumSize (R .f) ≤ count (replicaCount (R .f)) (has counts) → Each counts (λ r. held R r t₀ ≤ m) → (s : ℕ) → Settled t₀ s → s ≤ m
-    below m counts enough seen s a =
-        let c = meet R (P .few-faulty) (has counts) (a .who) enough (a .enough) in
+    below : (m : ℕ) (counted : ReplicaSet) → quorumSize (R .f) ≤ count (replicaCount (R .f)) (has counted) → Each counted (λ r. held R r t₀ ≤ m) → (s : ℕ) → Settled t₀ s → s ≤ m
+    below m counted enough seen s a =
+        let c = meet R (P .few-faulty) (has counted) (a .who) enough (a .enough) in
         let low = seen (c .at) (c .in-p) (c .in-r) in
         let high = a .hold (c .at) (c .in-q) (c .in-r) in
         omega arith
 
-    quorum : (counts : ReplicaSet) → isQuorum (now .f) counts ≡ true → quorumSize (R .f) ≤ count (replicaCount (R .f)) (has counts)
-    quorum counts q =
-        let at-run : isQuorum (R .f) counts ≡ true = subst (λ (f : ℕ). isQuorum f counts ≡ true) (good .f-is) q in
-        leb-true (quorumSize (R .f)) (count (replicaCount (R .f)) (has counts)) at-run
+    quorum : (counted : ReplicaSet) → isQuorum (now .f) counted ≡ true → quorumSize (R .f) ≤ count (replicaCount (R .f)) (has counted)
+    quorum counted q =
+        let at-run : isQuorum (R .f) counted ≡ true = subst (λ (f : ℕ). isQuorum f counted ≡ true) (good .f-is) q in
+        leb-true (quorumSize (R .f)) (count (replicaCount (R .f)) (has counted)) at-run
 
     sender-range : (sender : ReplicaId) → isReplica (now .f) sender ≡ true → (1 ≤ sender .0) × (sender .0 ≤ 16)
     sender-range sender h = let range = bounds 1 (replicaCount (now .f)) (sender .0) h in (range .0, omega arith)
@@ -303,22 +303,22 @@ module _ (R : Run) where
           within-time sender c (READ id nonce) nonce (preparedTimestamp proof) (for-cards refl) new
           (card-showed R P sender c id correct nonce proof t card (heard-said R P id t h (CARD sender nonce card proof id) is c))
 
-    seen-more : (sender : ReplicaId) (counts : ReplicaSet) (best : Timestamp) (proof : Option PreparedProof) → isReplica (now .f) sender ≡ true
-        → (R .correct-replica sender ≡ true → held R sender t₀ ≤ preparedTimestamp proof) → Each counts (λ r. held R r t₀ ≤ number best)
-        → Each (with counts sender) (λ r. held R r t₀ ≤ number (bestOf best proof))
-    seen-more sender counts best proof inside new old =
+    seen-more : (sender : ReplicaId) (counted : ReplicaSet) (best : Timestamp) (proof : Option PreparedProof) → isReplica (now .f) sender ≡ true
+        → (R .correct-replica sender ≡ true → held R sender t₀ ≤ preparedTimestamp proof) → Each counted (λ r. held R r t₀ ≤ number best)
+        → Each (with counted sender) (λ r. held R r t₀ ≤ number (bestOf best proof))
+    seen-more sender counted best proof inside new old =
         let range = sender-range sender inside in
         let least = best-least best proof in
-        more (λ r. held R r t₀ ≤ number (bestOf best proof)) sender counts (range .0) (range .1)
+        more (λ r. held R r t₀ ≤ number (bestOf best proof)) sender counted (range .0) (range .1)
         (λ c. let l = new c in omega arith) (λ r k c. let l = old r k c in omega arith)
 
-    stored-more : (h : Heard R id t) (sender : ReplicaId) (counts : ReplicaSet) (s : ℕ) → isReplica (now .f) sender ≡ true → h .message ≡ WRITTEN sender s
-        → Holds counts s t → Holds (with counts sender) s (suc t)
-    stored-more h sender counts s inside e old =
+    stored-more : (h : Heard R id t) (sender : ReplicaId) (counted : ReplicaSet) (s : ℕ) → isReplica (now .f) sender ≡ true → h .message ≡ WRITTEN sender s
+        → Holds counted s t → Holds (with counted sender) s (suc t)
+    stored-more h sender counted s inside e old =
         let range = sender-range sender inside in
-        more (λ r. s ≤ held R r (suc t)) sender counts (range .0) (range .1)
+        more (λ r. s ≤ held R r (suc t)) sender counted (range .0) (range .1)
         (λ c. let then = written-held R sender c t s (heard-said R P id t h (WRITTEN sender s) e c) in let rose = held-rises R sender c t (suc t) (omega arith) in omega arith)
-        (holds-later counts s t old)
+        (holds-later counted s t old)
 
     goes-to : (w : Bool) (card : List ℕ) (turn : Turn) (answer : Answer) (phase : Phase) → ClientStep R id t turn → Leaves turn answer phase
         → ((timestamp : Timestamp) (shown : List ℕ) → answer ≡ done timestamp shown → ⊥) → During w id card t₀ (suc t) (turn .next) phase → Next w id card t₀ t
@@ -330,11 +330,11 @@ module _ (R : Run) where
 
     -- ---- A write takes a message
 
-    take-stamp : (card : List ℕ) (h : Heard R id t) (sender : ReplicaId) (nonce : ℕ) (proof : Option PreparedProof) (best : Timestamp) (counts : ReplicaSet)
-        → h .message ≡ STAMP sender nonce proof (now .id) → isReplica (now .f) sender ≡ true → Stamping id card t₀ now nonce (number best) counts
-        → Each (with counts sender) (λ r. held R r t₀ ≤ number (bestOf best proof))
-    take-stamp card h sender nonce proof best counts e inside x =
-        seen-more sender counts best proof inside (λ c. stamp-within h sender nonce proof (x .new) c e .0) (x .seen)
+    take-stamp : (card : List ℕ) (h : Heard R id t) (sender : ReplicaId) (nonce : ℕ) (proof : Option PreparedProof) (best : Timestamp) (counted : ReplicaSet)
+        → h .message ≡ STAMP sender nonce proof (now .id) → isReplica (now .f) sender ≡ true → Stamping id card t₀ now nonce (number best) counted
+        → Each (with counted sender) (λ r. held R r t₀ ≤ number (bestOf best proof))
+    take-stamp card h sender nonce proof best counted e inside x =
+        seen-more sender counted best proof inside (λ c. stamp-within h sender nonce proof (x .new) c e .0) (x .seen)
 
     -- The successor of the best timestamp, for this client.
     choose : (best next : Timestamp) → best .client .0 < 256 → successor best (now .id) ≡ some next → ((s : ℕ) → Settled t₀ s → s ≤ number best) → Chosen id t₀ (number next)
@@ -344,12 +344,12 @@ module _ (R : Run) where
         let range = correct-client-range R id correct in
         record { positive = omega arith; own = omega arith; above = λ s a. let l = least s a in omega arith }
 
-    take-prepared : (card : List ℕ) (h : Heard R id t) (sender : ReplicaId) (s : ℕ) (counts : ReplicaSet) → h .message ≡ PREPARED sender s (now .digest) → isReplica (now .f) sender ≡ true
-        → Preparing id card t₀ t now s counts → Each (with counts sender) (λ r. Said R (replica r) (PREPARED r s (sha256 card)) (suc t))
-    take-prepared card h sender s counts e inside x =
+    take-prepared : (card : List ℕ) (h : Heard R id t) (sender : ReplicaId) (s : ℕ) (counted : ReplicaSet) → h .message ≡ PREPARED sender s (now .digest) → isReplica (now .f) sender ≡ true
+        → Preparing id card t₀ t now s counted → Each (with counted sender) (λ r. Said R (replica r) (PREPARED r s (sha256 card)) (suc t))
+    take-prepared card h sender s counted e inside x =
         let range = sender-range sender inside in
         let is : h .message ≡ PREPARED sender s (sha256 card) = e ∙ ap (PREPARED sender s) (x .digest-is) in
-        more (λ r. Said R (replica r) (PREPARED r s (sha256 card)) (suc t)) sender counts (range .0) (range .1)
+        more (λ r. Said R (replica r) (PREPARED r s (sha256 card)) (suc t)) sender counted (range .0) (range .1)
         (λ c. said-later R (replica sender) (PREPARED sender s (sha256 card)) t (suc t) (omega arith) (heard-said R P id t h (PREPARED sender s (sha256 card)) is c))
         (λ r k c. said-later R (replica r) (PREPARED r s (sha256 card)) t (suc t) (omega arith) (x .signed r k c))
 
@@ -357,65 +357,65 @@ module _ (R : Run) where
     no-done answer e timestamp shown q = let p : isDone answer ≡ true = ap isDone q in apart (cc)
 
     write-heard : (card : List ℕ) → CardOfRun R card → (h : Heard R id t) → WriteIn id card t₀ t now (now .phase) → ClientCase now (h .message) (h .turn) → Next true id card t₀ t
-    write-heard card in-run h x (stamp-counted sender nonce proof best counts e phase new kept left) =
-        let y : Stamping id card t₀ now nonce (number best) counts = subst (WriteIn id card t₀ t now) phase x in
-        goes-to true card (h .turn) counted (Stamps nonce (bestOf best proof) (with counts sender)) (h .step) left (no-done counted refl)
-        (record { card-is = kept ∙ y .card-is; new = y .new; seen = take-stamp card h sender nonce proof best counts e (new .0) y })
-    write-heard card in-run h x (stamps-enough sender nonce proof best counts next shown last e phase new full succ kept digest of left) =
-        let y : Stamping id card t₀ now nonce (number best) counts = subst (WriteIn id card t₀ t now) phase x in
+    write-heard card in-run h x (stamp-counted sender nonce proof best counted e phase new kept left) =
+        let y : Stamping id card t₀ now nonce (number best) counted = subst (WriteIn id card t₀ t now) phase x in
+        goes-to true card (h .turn) waits (Stamps nonce (bestOf best proof) (with counted sender)) (h .step) left (no-done waits refl)
+        (record { card-is = kept ∙ y .card-is; new = y .new; seen = take-stamp card h sender nonce proof best counted e (new .0) y })
+    write-heard card in-run h x (stamps-enough sender nonce proof best counted next shown last e phase new full succ kept digest of left) =
+        let y : Stamping id card t₀ now nonce (number best) counted = subst (WriteIn id card t₀ t now) phase x in
         let fits : TimestampFits best = subst PhaseFits phase (good .phase-fits) in
         goes-to true card (h .turn) _ (Prepareds next empty) (h .step) left (no-done _ refl)
         (record {
           card-is = kept ∙ y .card-is;
           digest-is = digest ∙ ap sha256 (y .card-is);
           chosen = choose (bestOf best proof) next (best-fits best proof (fits .1)) succ
-              (below (number (bestOf best proof)) (with counts sender) (quorum (with counts sender) full) (take-stamp card h sender nonce proof best counts e (new .0) y));
+              (below (number (bestOf best proof)) (with counted sender) (quorum (with counted sender) full) (take-stamp card h sender nonce proof best counted e (new .0) y));
           signed = λ r k c. none-in r k;
         })
-    write-heard card in-run h x (stamps-ended sender nonce proof best counts e phase left) = stops (done-is (h .turn) ended Idle (h .step) left)
-    write-heard card in-run h x (prepared-counted sender timestamp counts e phase new same-card left) =
-        let y : Preparing id card t₀ t now (number timestamp) counts = subst (WriteIn id card t₀ t now) phase x in
-        goes-to true card (h .turn) counted (Prepareds timestamp (with counts sender)) (h .step) left (no-done counted refl)
+    write-heard card in-run h x (stamps-ended sender nonce proof best counted e phase left) = stops (done-is (h .turn) ended Idle (h .step) left)
+    write-heard card in-run h x (prepared-counted sender timestamp counted e phase new same-card left) =
+        let y : Preparing id card t₀ t now (number timestamp) counted = subst (WriteIn id card t₀ t now) phase x in
+        goes-to true card (h .turn) waits (Prepareds timestamp (with counted sender)) (h .step) left (no-done waits refl)
         (record {
           card-is = same-card .card-kept ∙ y .card-is;
           digest-is = same-card .digest-kept ∙ y .digest-is;
           chosen = y .chosen;
-          signed = take-prepared card h sender (number timestamp) counts e (new .0) y;
+          signed = take-prepared card h sender (number timestamp) counted e (new .0) y;
         })
-    write-heard card in-run h x (prepareds-enough sender timestamp counts proof e phase new full same-card of-timestamp of-digest left) =
-        let y : Preparing id card t₀ t now (number timestamp) counts = subst (WriteIn id card t₀ t now) phase x in
+    write-heard card in-run h x (prepareds-enough sender timestamp counted proof e phase new full same-card of-timestamp of-digest left) =
+        let y : Preparing id card t₀ t now (number timestamp) counted = subst (WriteIn id card t₀ t now) phase x in
         goes-to true card (h .turn) _ (Writtens timestamp empty) (h .step) left (no-done _ refl)
         (record {
           card-is = same-card .card-kept ∙ y .card-is;
           chosen = y .chosen;
-          backed = record { who = has (with counts sender); enough = quorum (with counts sender) full; signed = take-prepared card h sender (number timestamp) counts e (new .0) y };
+          backed = record { who = has (with counted sender); enough = quorum (with counted sender) full; signed = take-prepared card h sender (number timestamp) counted e (new .0) y };
           stored = λ r k c. none-in r k;
         })
-    write-heard card in-run h x (written-counted sender timestamp counts e phase new same-card left) =
-        let y : Writing id card t₀ t now (number timestamp) counts = subst (WriteIn id card t₀ t now) phase x in
-        goes-to true card (h .turn) counted (Writtens timestamp (with counts sender)) (h .step) left (no-done counted refl)
+    write-heard card in-run h x (written-counted sender timestamp counted e phase new same-card left) =
+        let y : Writing id card t₀ t now (number timestamp) counted = subst (WriteIn id card t₀ t now) phase x in
+        goes-to true card (h .turn) waits (Writtens timestamp (with counted sender)) (h .step) left (no-done waits refl)
         (record {
           card-is = same-card .card-kept ∙ y .card-is;
           chosen = y .chosen;
           backed = backed-later R t (suc t) (number timestamp) (sha256 card) (omega arith) (y .backed);
-          stored = stored-more h sender counts (number timestamp) (new .0) e (y .stored);
+          stored = stored-more h sender counted (number timestamp) (new .0) e (y .stored);
         })
-    write-heard card in-run h x (writtens-enough sender timestamp counts e phase new full left) =
-        let y : Writing id card t₀ t now (number timestamp) counts = subst (WriteIn id card t₀ t now) phase x in
+    write-heard card in-run h x (writtens-enough sender timestamp counted e phase new full left) =
+        let y : Writing id card t₀ t now (number timestamp) counted = subst (WriteIn id card t₀ t now) phase x in
         finishes timestamp (currentCard now) (done-is (h .turn) (done timestamp (currentCard now)) Idle (h .step) left)
         (record {
           fits = carried-fits (subst PhaseFits phase (good .phase-fits));
           own = λ w. (y .chosen .own, y .card-is);
-          settled = record { who = has (with counts sender); enough = quorum (with counts sender) full; hold = stored-more h sender counts (number timestamp) (new .0) e (y .stored) };
+          settled = record { who = has (with counted sender); enough = quorum (with counted sender) full; hold = stored-more h sender counted (number timestamp) (new .0) e (y .stored) };
           above = y .chosen .above;
           is-shown = subst (Shown (suc t) (number timestamp)) (sym (y .card-is))
               (inr (record { positive = y .chosen .positive; backed = backed-later R t (suc t) (number timestamp) (sha256 card) (omega arith) (y .backed); card-in = in-run }));
         })
-    write-heard card in-run h x (card-counted sender nonce card′ proof best counts showed e phase new stands better left) = absurd (subst (WriteIn id card t₀ t now) phase x)
-    write-heard card in-run h x (cards-agree sender nonce card′ proof best counts showed e phase new stands full full′ left) = absurd (subst (WriteIn id card t₀ t now) phase x)
-    write-heard card in-run h x (cards-differ sender nonce card′ proof best counts showed shown e phase new stands full better left) = absurd (subst (WriteIn id card t₀ t now) phase x)
-    write-heard card in-run h x (back-counted sender timestamp counts e phase new same-card left) = absurd (subst (WriteIn id card t₀ t now) phase x)
-    write-heard card in-run h x (back-enough sender timestamp counts e phase new full left) = absurd (subst (WriteIn id card t₀ t now) phase x)
+    write-heard card in-run h x (card-counted sender nonce card′ proof best counted showed e phase new stands better left) = absurd (subst (WriteIn id card t₀ t now) phase x)
+    write-heard card in-run h x (cards-agree sender nonce card′ proof best counted showed e phase new stands full full′ left) = absurd (subst (WriteIn id card t₀ t now) phase x)
+    write-heard card in-run h x (cards-differ sender nonce card′ proof best counted showed shown e phase new stands full better left) = absurd (subst (WriteIn id card t₀ t now) phase x)
+    write-heard card in-run h x (back-counted sender timestamp counted e phase new same-card left) = absurd (subst (WriteIn id card t₀ t now) phase x)
+    write-heard card in-run h x (back-enough sender timestamp counted e phase new full left) = absurd (subst (WriteIn id card t₀ t now) phase x)
 
     -- ---- A read takes a message
 
@@ -444,16 +444,16 @@ module _ (R : Run) where
         })
 
     -- The best timestamp and card after a CARD, and who showed it.
-    record Taken (sender : ReplicaId) (card : List ℕ) (proof : Option PreparedProof) (best : Timestamp) (counts showed : ReplicaSet) : Type 0 where
-      seen : Each (with counts sender) (λ r. held R r t₀ ≤ number (bestOf best proof))
+    record Taken (sender : ReplicaId) (card : List ℕ) (proof : Option PreparedProof) (best : Timestamp) (counted showed : ReplicaSet) : Type 0 where
+      seen : Each (with counted sender) (λ r. held R r t₀ ≤ number (bestOf best proof))
       shown-by : Holds (showedBy best proof sender showed) (number (bestOf best proof)) (suc t)
       is-shown : Shown (suc t) (number (bestOf best proof)) (betterCard best proof card now)
 
-    take-card : (h : Heard R id t) (sender : ReplicaId) (nonce : ℕ) (card : List ℕ) (proof : Option PreparedProof) (best : Timestamp) (counts showed : ReplicaSet)
-        → h .message ≡ CARD sender nonce card proof (now .id) → isReplica (now .f) sender ≡ true → cardStands card proof ≡ true → Reading id t₀ t now nonce (number best) counts showed
-        → Taken sender card proof best counts showed
-    take-card h sender nonce card proof best counts showed e inside stands x = record {
-      seen = seen-more sender counts best proof inside (λ c. fresh c .0) (x .seen);
+    take-card : (h : Heard R id t) (sender : ReplicaId) (nonce : ℕ) (card : List ℕ) (proof : Option PreparedProof) (best : Timestamp) (counted showed : ReplicaSet)
+        → h .message ≡ CARD sender nonce card proof (now .id) → isReplica (now .f) sender ≡ true → cardStands card proof ≡ true → Reading id t₀ t now nonce (number best) counted showed
+        → Taken sender card proof best counted showed
+    take-card h sender nonce card proof best counted showed e inside stands x = record {
+      seen = seen-more sender counted best proof inside (λ c. fresh c .0) (x .seen);
       shown-by = both .0;
       is-shown = both .1;
     }
@@ -495,53 +495,53 @@ module _ (R : Run) where
         both = go (ltb (number best) (preparedTimestamp proof)) (eqb (number best) (preparedTimestamp proof)) refl refl
 
     read-heard : (card : List ℕ) (h : Heard R id t) → ReadIn id t₀ t now (now .phase) → ClientCase now (h .message) (h .turn) → Next false id card t₀ t
-    read-heard card₀ h x (stamp-counted sender nonce proof best counts e phase new kept left) = absurd (subst (ReadIn id t₀ t now) phase x)
-    read-heard card₀ h x (stamps-enough sender nonce proof best counts next shown last e phase new full succ kept digest of left) = absurd (subst (ReadIn id t₀ t now) phase x)
-    read-heard card₀ h x (stamps-ended sender nonce proof best counts e phase left) = absurd (subst (ReadIn id t₀ t now) phase x)
-    read-heard card₀ h x (prepared-counted sender timestamp counts e phase new same-card left) = absurd (subst (ReadIn id t₀ t now) phase x)
-    read-heard card₀ h x (prepareds-enough sender timestamp counts proof e phase new full same-card of-timestamp of-digest left) = absurd (subst (ReadIn id t₀ t now) phase x)
-    read-heard card₀ h x (written-counted sender timestamp counts e phase new same-card left) = absurd (subst (ReadIn id t₀ t now) phase x)
-    read-heard card₀ h x (writtens-enough sender timestamp counts e phase new full left) = absurd (subst (ReadIn id t₀ t now) phase x)
-    read-heard card₀ h x (card-counted sender nonce card proof best counts showed e phase new stands better left) =
-        let y : Reading id t₀ t now nonce (number best) counts showed = subst (ReadIn id t₀ t now) phase x in
-        let q = take-card h sender nonce card proof best counts showed e (new .0) stands y in
-        goes-to false card₀ (h .turn) counted (Cards nonce (bestOf best proof) (with counts sender) (showedBy best proof sender showed)) (h .step) left (no-done counted refl)
+    read-heard card₀ h x (stamp-counted sender nonce proof best counted e phase new kept left) = absurd (subst (ReadIn id t₀ t now) phase x)
+    read-heard card₀ h x (stamps-enough sender nonce proof best counted next shown last e phase new full succ kept digest of left) = absurd (subst (ReadIn id t₀ t now) phase x)
+    read-heard card₀ h x (stamps-ended sender nonce proof best counted e phase left) = absurd (subst (ReadIn id t₀ t now) phase x)
+    read-heard card₀ h x (prepared-counted sender timestamp counted e phase new same-card left) = absurd (subst (ReadIn id t₀ t now) phase x)
+    read-heard card₀ h x (prepareds-enough sender timestamp counted proof e phase new full same-card of-timestamp of-digest left) = absurd (subst (ReadIn id t₀ t now) phase x)
+    read-heard card₀ h x (written-counted sender timestamp counted e phase new same-card left) = absurd (subst (ReadIn id t₀ t now) phase x)
+    read-heard card₀ h x (writtens-enough sender timestamp counted e phase new full left) = absurd (subst (ReadIn id t₀ t now) phase x)
+    read-heard card₀ h x (card-counted sender nonce card proof best counted showed e phase new stands better left) =
+        let y : Reading id t₀ t now nonce (number best) counted showed = subst (ReadIn id t₀ t now) phase x in
+        let q = take-card h sender nonce card proof best counted showed e (new .0) stands y in
+        goes-to false card₀ (h .turn) waits (Cards nonce (bestOf best proof) (with counted sender) (showedBy best proof sender showed)) (h .step) left (no-done waits refl)
         (record { new = y .new; seen = q .seen; shown-by = q .shown-by; is-shown = subst (Shown (suc t) (number (bestOf best proof))) (sym better) (q .is-shown) })
-    read-heard card₀ h x (cards-agree sender nonce card proof best counts showed e phase new stands full full′ left) =
-        let y : Reading id t₀ t now nonce (number best) counts showed = subst (ReadIn id t₀ t now) phase x in
-        let q = take-card h sender nonce card proof best counts showed e (new .0) stands y in
+    read-heard card₀ h x (cards-agree sender nonce card proof best counted showed e phase new stands full full′ left) =
+        let y : Reading id t₀ t now nonce (number best) counted showed = subst (ReadIn id t₀ t now) phase x in
+        let q = take-card h sender nonce card proof best counted showed e (new .0) stands y in
         finishes (bestOf best proof) (betterCard best proof card now) (done-is (h .turn) (done (bestOf best proof) (betterCard best proof card now)) Idle (h .step) left)
         (record {
           fits = best-fits best proof (carried-fits (subst PhaseFits phase (good .phase-fits)));
           own = λ w. apart (cc);
           settled = record { who = has (showedBy best proof sender showed); enough = quorum (showedBy best proof sender showed) full′; hold = q .shown-by };
-          above = below (number (bestOf best proof)) (with counts sender) (quorum (with counts sender) full) (q .seen);
+          above = below (number (bestOf best proof)) (with counted sender) (quorum (with counted sender) full) (q .seen);
           is-shown = q .is-shown;
         })
-    read-heard card₀ h x (cards-differ sender nonce card proof best counts showed shown e phase new stands full better left) =
-        let y : Reading id t₀ t now nonce (number best) counts showed = subst (ReadIn id t₀ t now) phase x in
-        let q = take-card h sender nonce card proof best counts showed e (new .0) stands y in
+    read-heard card₀ h x (cards-differ sender nonce card proof best counted showed shown e phase new stands full better left) =
+        let y : Reading id t₀ t now nonce (number best) counted showed = subst (ReadIn id t₀ t now) phase x in
+        let q = take-card h sender nonce card proof best counted showed e (new .0) stands y in
         goes-to false card₀ (h .turn) _ (WriteBack (bestOf best proof) (showedBy best proof sender showed)) (h .step) left (no-done _ refl)
         (record {
-          above = below (number (bestOf best proof)) (with counts sender) (quorum (with counts sender) full) (q .seen);
+          above = below (number (bestOf best proof)) (with counted sender) (quorum (with counted sender) full) (q .seen);
           stored = q .shown-by;
           is-shown = subst (Shown (suc t) (number (bestOf best proof))) (sym better) (q .is-shown);
         })
-    read-heard card₀ h x (back-counted sender timestamp counts e phase new same-card left) =
-        let y : WritingBack t₀ t now (number timestamp) counts = subst (ReadIn id t₀ t now) phase x in
-        goes-to false card₀ (h .turn) counted (WriteBack timestamp (with counts sender)) (h .step) left (no-done counted refl)
+    read-heard card₀ h x (back-counted sender timestamp counted e phase new same-card left) =
+        let y : WritingBack t₀ t now (number timestamp) counted = subst (ReadIn id t₀ t now) phase x in
+        goes-to false card₀ (h .turn) waits (WriteBack timestamp (with counted sender)) (h .step) left (no-done waits refl)
         (record {
           above = y .above;
-          stored = stored-more h sender counts (number timestamp) (new .0) e (y .stored);
+          stored = stored-more h sender counted (number timestamp) (new .0) e (y .stored);
           is-shown = subst (Shown (suc t) (number timestamp)) (sym (same-card .card-kept)) (shown-later t (suc t) (number timestamp) (currentCard now) (omega arith) (y .is-shown));
         })
-    read-heard card₀ h x (back-enough sender timestamp counts e phase new full left) =
-        let y : WritingBack t₀ t now (number timestamp) counts = subst (ReadIn id t₀ t now) phase x in
+    read-heard card₀ h x (back-enough sender timestamp counted e phase new full left) =
+        let y : WritingBack t₀ t now (number timestamp) counted = subst (ReadIn id t₀ t now) phase x in
         finishes timestamp (currentCard now) (done-is (h .turn) (done timestamp (currentCard now)) Idle (h .step) left)
         (record {
           fits = carried-fits (subst PhaseFits phase (good .phase-fits));
           own = λ w. apart (cc);
-          settled = record { who = has (with counts sender); enough = quorum (with counts sender) full; hold = stored-more h sender counts (number timestamp) (new .0) e (y .stored) };
+          settled = record { who = has (with counted sender); enough = quorum (with counted sender) full; hold = stored-more h sender counted (number timestamp) (new .0) e (y .stored) };
           above = y .above;
           is-shown = shown-later t (suc t) (number timestamp) (currentCard now) (omega arith) (y .is-shown);
         })

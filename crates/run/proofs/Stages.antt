@@ -9,7 +9,7 @@ use Rattle.base.specs.declared.timestamp.Timestamp.{Timestamp}
 use Rattle.wire.specs.Message.{Message, READ-STAMP, PREPARE, WRITE, READ, STAMP, PREPARED, WRITTEN, CARD}
 use Rattle.wire.specs.Proof.{PreparedProof, WrittenProof}
 use Rattle.wire.specs.Sha256.{sha256}
-use Rattle.protocol.specs.Client.{Answer, send, counted, done, ended, Turn, currentCard}
+use Rattle.protocol.specs.Client.{Answer, send, waits, done, ended, Turn, currentCard}
 use Rattle.protocol.specs.declared.client.Client.{Client}
 use Rattle.protocol.specs.declared.client.Phase.{Phase}
 use Rattle.protocol.specs.declared.client.Phase.the-variants.{Idle, Stamps, Prepareds, Writtens, Cards, WriteBack}
@@ -17,20 +17,20 @@ use Rattle.protocol.proofs.ClientCases.{Leaves, ClientCase, stamp-counted, stam
 
 abbrev pub isStamping : Phase → Bool
 isStamping Idle = false
-isStamping (Stamps nonce best counts) = true
-isStamping (Prepareds timestamp counts) = false
-isStamping (Writtens timestamp counts) = false
-isStamping (Cards nonce best counts showed) = false
-isStamping (WriteBack timestamp counts) = false
+isStamping (Stamps nonce best counted) = true
+isStamping (Prepareds timestamp counted) = false
+isStamping (Writtens timestamp counted) = false
+isStamping (Cards nonce best counted showed) = false
+isStamping (WriteBack timestamp counted) = false
 
 -- The timestamp of a write that has one.
 abbrev pub preparedFor : Phase → Option ℕ
 preparedFor Idle = none
-preparedFor (Stamps nonce best counts) = none
-preparedFor (Prepareds timestamp counts) = some (number timestamp)
-preparedFor (Writtens timestamp counts) = some (number timestamp)
-preparedFor (Cards nonce best counts showed) = none
-preparedFor (WriteBack timestamp counts) = none
+preparedFor (Stamps nonce best counted) = none
+preparedFor (Prepareds timestamp counted) = some (number timestamp)
+preparedFor (Writtens timestamp counted) = some (number timestamp)
+preparedFor (Cards nonce best counted showed) = none
+preparedFor (WriteBack timestamp counted) = none
 
 abbrev pub isPrepare : Answer → Bool
 isPrepare (send (READ-STAMP id nonce)) = false
@@ -41,19 +41,19 @@ isPrepare (send (STAMP id nonce proof addressed)) = false
 isPrepare (send (PREPARED id timestamp digest)) = false
 isPrepare (send (WRITTEN id timestamp)) = false
 isPrepare (send (CARD id nonce card proof addressed)) = false
-isPrepare counted = false
+isPrepare waits = false
 isPrepare (done timestamp card) = false
 isPrepare ended = false
 
 -- Whether an answer ends an operation.
 abbrev pub isOver : Answer → Bool
 isOver (send message) = false
-isOver counted = false
+isOver waits = false
 isOver (done timestamp card) = true
 isOver ended = true
 
 pub data Stage (before : Client) (turn : Turn) : Type 0 where
-  stamping : isStamping (before .phase) ≡ true → preparedFor (before .phase) ≡ none → currentCard (turn .next) ≡ currentCard before → turn .answer ≡ counted → Stage before turn
+  stamping : isStamping (before .phase) ≡ true → preparedFor (before .phase) ≡ none → currentCard (turn .next) ≡ currentCard before → turn .answer ≡ waits → Stage before turn
   prepares : (timestamp : ℕ) (shown : Option PreparedProof) (last : Option WrittenProof) → isStamping (before .phase) ≡ true → preparedFor (before .phase) ≡ none
       → isStamping (turn .next .phase) ≡ false → preparedFor (turn .next .phase) ≡ some timestamp → turn .answer ≡ send (PREPARE (before .id) timestamp (sha256 (currentCard before)) shown last) → Stage before turn
   keeps : (timestamp : ℕ) → preparedFor (before .phase) ≡ some timestamp → preparedFor (turn .next .phase) ≡ some timestamp → isStamping (turn .next .phase) ≡ false
@@ -73,16 +73,16 @@ module _ (before : Client) (turn : Turn) where
   other was next answer at e₁ e₂ e₃ l = others (ap preparedFor at ∙ e₁) (ap isStamping (l .phase-is) ∙ e₂) (ap isPrepare (l .answer-is) ∙ e₃)
 
   pub stage : (message : Message) → ClientCase before message turn → Stage before turn
-  stage message (stamp-counted sender nonce proof best counts m at new card l) = stamping (ap isStamping at) (ap preparedFor at) card (l .answer-is)
-  stage message (stamps-enough sender nonce proof best counts next shown last m at new q s c d t l) =
+  stage message (stamp-counted sender nonce proof best counted m at new card l) = stamping (ap isStamping at) (ap preparedFor at) card (l .answer-is)
+  stage message (stamps-enough sender nonce proof best counted next shown last m at new q s c d t l) =
       prepares (number next) shown last (ap isStamping at) (ap preparedFor at) (ap isStamping (l .phase-is)) (ap preparedFor (l .phase-is)) (l .answer-is)
-  stage message (stamps-ended sender nonce proof best counts m at l) = other _ _ _ at refl refl refl l
-  stage message (prepared-counted sender timestamp counts m at new c l) = kept _ _ _ (number timestamp) at refl refl refl refl refl l
-  stage message (prepareds-enough sender timestamp counts proof m at new q c t d l) = kept _ _ _ (number timestamp) at refl refl refl refl refl l
-  stage message (written-counted sender timestamp counts m at new c l) = kept _ _ _ (number timestamp) at refl refl refl refl refl l
-  stage message (writtens-enough sender timestamp counts m at new q l) = finishes timestamp (currentCard before) (ap preparedFor at) (ap isStamping (l .phase-is)) (l .answer-is)
-  stage message (card-counted sender nonce card proof best counts showed m at new s c l) = other _ _ _ at refl refl refl l
-  stage message (cards-agree sender nonce card proof best counts showed m at new s q a l) = other _ _ _ at refl refl refl l
-  stage message (cards-differ sender nonce card proof best counts showed shown m at new s q c l) = other _ _ _ at refl refl refl l
-  stage message (back-counted sender timestamp counts m at new c l) = other _ _ _ at refl refl refl l
-  stage message (back-enough sender timestamp counts m at new q l) = other _ _ _ at refl refl refl l
+  stage message (stamps-ended sender nonce proof best counted m at l) = other _ _ _ at refl refl refl l
+  stage message (prepared-counted sender timestamp counted m at new c l) = kept _ _ _ (number timestamp) at refl refl refl refl refl l
+  stage message (prepareds-enough sender timestamp counted proof m at new q c t d l) = kept _ _ _ (number timestamp) at refl refl refl refl refl l
+  stage message (written-counted sender timestamp counted m at new c l) = kept _ _ _ (number timestamp) at refl refl refl refl refl l
+  stage message (writtens-enough sender timestamp counted m at new q l) = finishes timestamp (currentCard before) (ap preparedFor at) (ap isStamping (l .phase-is)) (l .answer-is)
+  stage message (card-counted sender nonce card proof best counted showed m at new s c l) = other _ _ _ at refl refl refl l
+  stage message (cards-agree sender nonce card proof best counted showed m at new s q a l) = other _ _ _ at refl refl refl l
+  stage message (cards-differ sender nonce card proof best counted showed shown m at new s q c l) = other _ _ _ at refl refl refl l
+  stage message (back-counted sender timestamp counted m at new c l) = other _ _ _ at refl refl refl l
+  stage message (back-enough sender timestamp counted m at new q l) = other _ _ _ at refl refl refl l

@@ -14,7 +14,7 @@ use Rattle.wire.specs.Acceptance.{client}
 use Rattle.wire.specs.Message.{PREPARE}
 use Rattle.wire.specs.Proof.{PreparedProof, WrittenProof}
 use Rattle.wire.specs.Sha256.{sha256}
-use Rattle.protocol.specs.Client.{Answer, send, counted, done, ended, currentCard}
+use Rattle.protocol.specs.Client.{Answer, send, waits, done, ended, currentCard}
 use Rattle.protocol.specs.declared.client.Client.{Client}
 use Rattle.protocol.specs.declared.client.Phase.{Phase}
 use Rattle.protocol.specs.declared.client.Phase.the-variants.{Idle, Stamps, Prepareds, Writtens, Cards, WriteBack}
@@ -100,7 +100,7 @@ module _ (R : Run) where
 
             by : Stage (clientAt R id t) (h .turn) → Stamped (suc t)
             by (stamping was no-timestamp same answer) =
-                stamped-on t (ap currentCard (h .step .next-is) ∙ same) (λ at. not-over t counted (h .step .answer-is ∙ ap accepted answer) refl) (ih was)
+                stamped-on t (ap currentCard (h .step .next-is) ∙ same) (λ at. not-over t waits (h .step .answer-is ∙ ap accepted answer) refl) (ih was)
             by (prepares timestamp shown last was no-timestamp is for answer) = no is
             by (keeps timestamp was is no-stamps no-prepare goes) = no no-stamps
             by (finishes timestamp card was is answer) = no is
@@ -171,11 +171,11 @@ module _ (R : Run) where
   -- The timestamp that a phase of a write has is the chosen one.
   chosen-in : (id : ClientId) (card : List ℕ) (t₀ t s : ℕ) (now : Client) (phase : Phase) → WriteIn R id card t₀ t now phase → preparedFor phase ≡ some s → Chosen R id t₀ s
   chosen-in id card t₀ t s now Idle x e = absurd x
-  chosen-in id card t₀ t s now (Stamps nonce best counts) x e = apart (cc)
-  chosen-in id card t₀ t s now (Prepareds timestamp counts) x e = let is : number timestamp ≡ s = cc in subst (Chosen R id t₀) is (x .chosen)
-  chosen-in id card t₀ t s now (Writtens timestamp counts) x e = let is : number timestamp ≡ s = cc in subst (Chosen R id t₀) is (x .chosen)
-  chosen-in id card t₀ t s now (Cards nonce best counts showed) x e = absurd x
-  chosen-in id card t₀ t s now (WriteBack timestamp counts) x e = absurd x
+  chosen-in id card t₀ t s now (Stamps nonce best counted) x e = apart (cc)
+  chosen-in id card t₀ t s now (Prepareds timestamp counted) x e = let is : number timestamp ≡ s = cc in subst (Chosen R id t₀) is (x .chosen)
+  chosen-in id card t₀ t s now (Writtens timestamp counted) x e = let is : number timestamp ≡ s = cc in subst (Chosen R id t₀) is (x .chosen)
+  chosen-in id card t₀ t s now (Cards nonce best counted showed) x e = absurd x
+  chosen-in id card t₀ t s now (WriteBack timestamp counted) x e = absurd x
 
   module _ (P : Premises R) (w : Write R) where
     correct : R .correct-client (w .id) ≡ true

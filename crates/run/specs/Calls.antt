@@ -10,7 +10,7 @@ use lib.ListN.{length}
 use Rattle.base.specs.Outcome.{Outcome, accepted, refused}
 use Rattle.base.specs.declared.party.ClientId.{ClientId}
 use Rattle.base.specs.declared.party.ReplicaId.{ReplicaId}
-use Rattle.protocol.specs.Client.{Answer, send, counted, done, ended, madeClient, ClientCall, beginWriteCall, beginReadCall, clientCall}
+use Rattle.protocol.specs.Client.{Answer, send, waits, done, ended, madeClient, ClientCall, beginWriteCall, beginReadCall, clientCall}
 use Rattle.base.specs.Bytes.{filled}
 use Rattle.protocol.specs.Replica.{madeReplica, ReplicaCall, replicaCall}
 use Rattle.protocol.specs.declared.client.Client.{Client}
@@ -49,7 +49,7 @@ givenByClient call = record { answer = call .answer; card-length = call .«card_
 -- old contents."
 abbrev pub givenFor : List ℕ → Outcome Answer → Given
 givenFor old (accepted (send message)) = plain (Send (length (unsigned message))) (inFront (unsigned message) old)
-givenFor old (accepted counted) = plain Counted old
+givenFor old (accepted waits) = plain Counted old
 givenFor old (accepted (done timestamp card)) = record { answer = Done timestamp; card-length = length card; card = filled 17 card; output = old }
 givenFor old (accepted ended) = plain Ended old
 givenFor old (refused number) = plain (Refused number) old

@@ -15,12 +15,12 @@ mod replicas;
 mod tasks;
 mod words;
 
+use base::slices::front;
 use libc::STDIN_FILENO;
 use protocol::client::Client;
 use protocol::replica::Replica;
 use tasks::place;
 use wire::message::Party;
-use words::front;
 
 const SCRIPT: usize = 1_048_576;
 

@@ -14,9 +14,9 @@ use crate::tasks::Held;
 use crate::tasks::Task;
 use crate::tasks::behind_lent;
 use crate::tasks::lent;
-use crate::words::front;
 use base::party::ReplicaId;
 use base::party::Setup;
+use base::slices::front;
 use protocol::replica::Replica;
 use protocol::replica::ReplicaAnswer;
 

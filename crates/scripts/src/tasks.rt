@@ -11,10 +11,10 @@ use crate::words::Byte;
 use crate::words::Numeral;
 use crate::words::decimal;
 use crate::words::decimal_byte;
-use crate::words::front;
 use crate::words::number;
 use crate::words::rest;
 use crate::words::word;
+use base::slices::front;
 use wire::message::Party;
 ghost use Prim.Native.Nat.{_≤_};
 

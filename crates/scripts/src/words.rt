@@ -1,5 +1,7 @@
 // The words of a line, parted by one space each, and what they write.
 use base::party::within;
+use base::slices::behind;
+use base::slices::front;
 
 // A number, which other text lacks.
 pub enum Numeral {
@@ -14,22 +16,6 @@ pub enum Byte {
 }
 
 const LARGEST: u64 = 18_446_744_073_709_551_615;
-
-// So many bytes from the front, or all.
-pub fn front(bytes: &[u8], n: usize) -> &[u8] {
-    if n <= bytes.len() {
-        return &bytes[0..n];
-    }
-    bytes
-}
-
-// The bytes from a place on.
-pub fn behind(bytes: &[u8], at: usize) -> &[u8] {
-    if at <= bytes.len() {
-        return &bytes[at..];
-    }
-    &bytes[0..0]
-}
 
 // Where the first space from a place on stands, or the end.
 fn space(line: &[u8], from: usize) -> usize {

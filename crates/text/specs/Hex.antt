@@ -3,7 +3,8 @@ use mathlib.Core.Path.{_≡_}
 use mathlib.Core.Bool.{cond}
 use mathlib.Core.List.{List, [], _∷_, _++_}
 use mathlib.Core.Option.{Option, none, some}
-use Prim.Native.Nat.{ℕ, zero, suc, _+_, _-_, _*_, _<_}
+use Prim.Native.Nat.{ℕ, zero, suc, _+_, _-_, _*_, _/_, _%_, _<_}
+use lib.Dec.{ltb}
 use lib.ListN.{length, getD, drop}
 use Rattle.base.specs.Range.{within}
 use Rattle.io.specs.Counts.{Counts}
@@ -33,6 +34,18 @@ pairsFrom (some byte) later = byte ∷ later
 unfoldable pub hexPairs : ℕ → List ℕ → List ℕ
 hexPairs zero line = []
 hexPairs (suc room) line = pairsFrom (pairValue (getD line 0 0) (getD line 1 0)) (hexPairs room (drop 2 line))
+
+-- The capital digit of a number below 16.
+unfoldable pub hexDigit : ℕ → ℕ
+hexDigit n = cond (ltb n 10) (48 + n) (55 + n)
+
+abbrev pub hexPair : ℕ → List ℕ
+hexPair byte = hexDigit (byte / 16) ∷ hexDigit (byte % 16) ∷ []
+
+-- Bytes as pairs of capital digits.
+unfoldable pub hex : List ℕ → List ℕ
+hex [] = []
+hex (byte ∷ bytes) = hexPair byte ++ hex bytes
 
 -- What answers of the code stand for.
 abbrev pub digitOf : Digit → Option ℕ

@@ -1,2 +1,4 @@
+pub mod Decimal
 pub mod Hex
 pub mod Line
+pub mod Put

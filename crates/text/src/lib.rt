@@ -1,12 +1,14 @@
-// Lines, hex digits and numbers as text, for the programs that test the crates.
+// Lines, hex digits and numbers as text, for the player and the programs that test the crates.
 use base::party::within;
 use libc::STDIN_FILENO;
 use libc::STDOUT_FILENO;
 ghost use mathlib.Core.Path.{_≡_};
 ghost use Prim.Native.Nat.{_+_, _<_};
 ghost use lib.ListN.{getD};
-ghost use Rattle.text.specs.Hex.{hexValue, pairValue, HexRead, digitOf, DigitBelow};
+ghost use Rattle.text.specs.Decimal.{decimal};
+ghost use Rattle.text.specs.Hex.{hexValue, pairValue, HexRead, digitOf, DigitBelow, hexDigit, hexPair, hex};
 ghost use Rattle.text.specs.Line.{LineEnd};
+ghost use Rattle.text.specs.Put.{Puts};
 
 // The value of a digit or of a pair of digits, which other bytes lack.
 pub enum Digit {
@@ -105,25 +107,25 @@ pub fn say_rest(read: usize, room: usize) {
 
 fn capital_digit(n: u8) -> u8
     requires { ⌜ n < 16 ⌝ }
+    ensures { λ r. ⌜ r ≡ hexDigit n ⌝ }
 {
     if n < 10 { 48 + n } else { 55 + n }
-}
-
-fn print_pair(byte: u8) {
-    let pair = [capital_digit(byte / 16), capital_digit(byte % 16)];
-    print(&pair);
 }
 
 pub fn print_hex(bytes: &[u8]) {
     let mut i = 0;
     while i < bytes.len() {
-        print_pair(bytes[i]);
+        let byte = bytes[i];
+        let pair = [capital_digit(byte / 16), capital_digit(byte % 16)];
+        print(&pair);
         i += 1;
     }
 }
 
 // Stores bytes from a place on, as far as there is room, and answers the place behind them.
-pub fn put(to: &mut [u8], at: usize, bytes: &[u8]) -> usize {
+pub fn put(to: &mut [u8], at: usize, bytes: &[u8]) -> usize
+    ensures { λ r. ⌜ Puts (now (to .entry)) at (now (bytes .entry)) r (now (to .exit)) ⌝ }
+{
     let mut next = at;
     let mut i = 0;
     while i < bytes.len() {
@@ -138,19 +140,25 @@ pub fn put(to: &mut [u8], at: usize, bytes: &[u8]) -> usize {
 }
 
 // The same of a number's decimal digits.
-pub fn put_number(to: &mut [u8], at: usize, n: u64) -> usize {
+pub fn put_number(to: &mut [u8], at: usize, n: u64) -> usize
+    ensures { λ r. ⌜ Puts (now (to .entry)) at (decimal n) r (now (to .exit)) ⌝ }
+{
     let mut digits = [0u8; 20];
     let k = io::decimal(n, &mut digits);
     put(to, at, &digits[..k])
 }
 
-fn put_pair(to: &mut [u8], at: usize, byte: u8) -> usize {
+fn put_pair(to: &mut [u8], at: usize, byte: u8) -> usize
+    ensures { λ r. ⌜ Puts (now (to .entry)) at (hexPair byte) r (now (to .exit)) ⌝ }
+{
     let pair = [capital_digit(byte / 16), capital_digit(byte % 16)];
     put(to, at, &pair)
 }
 
 // The same of the bytes' hex digits.
-pub fn put_hex(to: &mut [u8], at: usize, bytes: &[u8]) -> usize {
+pub fn put_hex(to: &mut [u8], at: usize, bytes: &[u8]) -> usize
+    ensures { λ r. ⌜ Puts (now (to .entry)) at (hex (now (bytes .entry))) r (now (to .exit)) ⌝ }
+{
     let mut next = at;
     let mut i = 0;
     while i < bytes.len() {

@@ -15,6 +15,7 @@ use Rattle.base.specs.Outcome.{Outcome, accepted, refused, guard, _>>=_}
 use Rattle.base.specs.Timestamp.{number, ofNumber, isIssued}
 use Rattle.base.specs.declared.timestamp.Timestamp.{Timestamp}
 use Rattle.base.proofs.Timestamps.{number-ofNumber}
+use Rattle.base.specs.Bytes.{between}
 use Rattle.wire.specs.Acceptance.{senderOf, numbered, inItsRange}
 use Rattle.wire.specs.Accepting.{opened, entryCount, countIn, signatureCount, proofBetween, Ready}
 use Rattle.wire.specs.Checks.{preparedOf, writtenOf, timestampOf, ifThere, entriesIfThere, entriesOf, oneEach, ownGenuine, issued, all, proven, proofOutcome}
@@ -22,7 +23,7 @@ use Rattle.wire.specs.Decode.{decode, reading, spanOf, fieldsIn, framed,
 use Rattle.wire.specs.Judging.{entriesIn, proofCheckOutcome, smallest, preparedOutcome, writtenOutcome}
 use Rattle.wire.specs.Layout.{rules, mapIn, place, field}
 use Rattle.wire.specs.Message.{Message}
-use Rattle.wire.specs.Places.{Room, between}
+use Rattle.wire.specs.Places.{Room}
 use Rattle.wire.specs.Proof.{PreparedProof, WrittenProof, preparedFrom, writtenFrom, readEntries}
 use Rattle.wire.specs.declared.checks.ProofCheck.{ProofCheck}
 use Rattle.wire.specs.declared.message.Fields.{Fields}

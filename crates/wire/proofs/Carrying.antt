@@ -12,11 +12,12 @@ use Rattle.base.specs.Outcome.{accepted, refused}
 use Rattle.base.specs.Timestamp.{ofNumber}
 use Rattle.base.specs.declared.timestamp.Timestamp.{Timestamp}
 use Rattle.base.proofs.Timestamps.{number-ofNumber}
+use Rattle.base.specs.Bytes.{between}
 use Rattle.wire.specs.CardPart.{carriedIn, carried}
 use Rattle.wire.specs.Decode.{framed}
 use Rattle.wire.specs.Found.{Carries, Finds}
 use Rattle.wire.specs.Layout.{rules, mapIn, place, field}
-use Rattle.wire.specs.Places.{between, placesIn}
+use Rattle.wire.specs.Places.{placesIn}
 use Rattle.wire.specs.declared.card_part.Card.{Card}
 use Rattle.wire.specs.declared.card_part.Found.{Found}
 use Rattle.wire.specs.declared.card_part.Found.the-variants.{Here, Nowhere}

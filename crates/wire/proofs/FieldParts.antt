@@ -8,11 +8,12 @@ use lib.ListN.{length, getD, take, drop, length-take}
 use lib.Seq.{take-all}
 use Rattle.base.specs.BigEndian.{fromBytes}
 use Rattle.base.specs.BitMap.{bit}
+use Rattle.base.specs.Bytes.{between}
 use Rattle.base.specs.Timestamp.{ofNumber}
 use Rattle.base.specs.declared.timestamp.Timestamp.{Timestamp}
 use Rattle.wire.specs.Decode.{fieldsIn}
 use Rattle.wire.specs.Layout.{fixed, extent, rules, mapIn, place, field}
-use Rattle.wire.specs.Places.{Room, between, placesIn}
+use Rattle.wire.specs.Places.{Room, placesIn}
 use Rattle.wire.specs.declared.frame.Places.{Places}
 use Rattle.wire.specs.declared.message.Fields.{Fields}
 use Rattle.wire.proofs.Framed.{Framed, place-present, place-absent, place-rises, place-within, place-one, place-two, first-bits}

@@ -17,7 +17,7 @@ use Rattle.base.proofs.Booleans.{and-true-both}
 use Rattle.base.proofs.Outcome.{guard-passes, guard-accepted}
 use Rattle.base.proofs.Range.{inside, bounds}
 use Rattle.wire.specs.Decode.{framed, goodMap}
-use Rattle.wire.specs.Layout.{Rule, fixed, counted, extent, rules, mapIn, place, field}
+use Rattle.wire.specs.Layout.{Rule, fixed, repeated, extent, rules, mapIn, place, field}
 use Rattle.wire.specs.Message.{longest}
 use Rattle.base.proofs.BigEndian.{bytes-take, bytes-drop}
 
@@ -68,13 +68,6 @@ pub place-present : (bytes : List ℕ) (b : ℕ) → bit (mapIn bytes) b ≡ tru
 unfolding place
 place-present bytes b e = rw e
 
--- The bytes of a field by its rule.
-pub field-part : (bytes : List ℕ) (b : ℕ) → bit (mapIn bytes) b ≡ true → field bytes b ≡ take (extent (getD rules b (fixed 0)) (drop (place bytes b) bytes)) (drop (place bytes b) bytes)
-unfolding field
-field-part bytes b set =
-    let size : place bytes (suc b) - place bytes b ≡ extent (getD rules b (fixed 0)) (drop (place bytes b) bytes) = omega (arith, place-present bytes b set) in
-    rw size
-
 pub field-absent : (bytes : List ℕ) (b : ℕ) → bit (mapIn bytes) b ≡ false → field bytes b ≡ []
 unfolding field
 field-absent bytes b e = let none : place bytes (suc b) - place bytes b ≡ 0 = omega (arith, place-absent bytes b e) in rw none
@@ -82,11 +75,11 @@ field-absent bytes b e = let none : place bytes (suc b) - place bytes b ≡ 0 = 
 -- A field that says its length in its head says it alone too.
 abbrev pub Headed : Rule → Type 0
 Headed (fixed width) = Unit {0}
-Headed (counted head unit) = 1 ≤ head
+Headed (repeated head unit) = 1 ≤ head
 
 extent-take : (rule : Rule) (xs : List ℕ) → Headed rule → extent rule (take (extent rule xs) xs) ≡ extent rule xs
 extent-take (fixed width) xs h = refl
-extent-take (counted head unit) xs h = rw (getD-take (head + unit * getD xs (head - 1) 0) xs (head - 1) 0 (omega arith))
+extent-take (repeated head unit) xs h = rw (getD-take (head + unit * getD xs (head - 1) 0) xs (head - 1) 0 (omega arith))
 
 module _ (bytes : List ℕ) (f : Framed bytes) where
   -- Bits 0 and 1 are set, and none above 8.

@@ -3,8 +3,8 @@ use mathlib.Core.Path.{_≡_, refl, sym, ap, subst, _∙_}
 use mathlib.Core.Bool.{Bool, true, false, cond}
 use mathlib.Core.List.{List, [], _∷_}
 use mathlib.Core.Logic.{_⊎_}
-use mathlib.Core.Option.{Option, none, some}
-use Prim.Native.Nat.{ℕ, _+_, _-_, _*_, _≤_, _<_}
+use mathlib.Core.Option.{none, some}
+use Prim.Native.Nat.{ℕ, _-_, _*_, _≤_, _<_}
 use native.Mathlib.Omega.{arith}
 use borrow.Author.Tests.{eqb-true, le-ltb}
 use lib.Dec.{eqb}
@@ -22,10 +22,10 @@ use Rattle.wire.specs.Acceptance.{senderOf, inItsRange, admitted, accept
 use Rattle.wire.specs.Checks.{ifThere, shaped}
 use Rattle.wire.specs.Decode.{decode, reading, fieldsIn}
 use Rattle.wire.specs.Judging.{signers}
-use Rattle.wire.specs.Layout.{extent, preparedRule, rules, mapIn, place, field, signature}
+use Rattle.wire.specs.Layout.{rules, mapIn, place, field, signature}
 use Rattle.wire.specs.Message.{Message, READ-STAMP, PREPARE, WRITE, READ, STAMP, PREPARED, WRITTEN, CARD}
 use Rattle.wire.specs.Parts.{partAt, cardAt, preparedPart, writtenPart, preparedTimestamp, writtenTimestamp, timestampPart, digestPart, countPart, entriesPart, Whole, WholeIfThere}
-use Rattle.wire.specs.Proof.{PreparedProof, WrittenProof, entriesBytes, preparedFrom, writtenFrom, readEntries}
+use Rattle.wire.specs.Proof.{PreparedProof, entriesBytes, preparedFrom, writtenFrom}
 use Rattle.wire.specs.declared.message.Fields.{Fields}
 use Rattle.wire.specs.declared.message.Party.{Party}
 use Rattle.wire.specs.declared.message.Party.the-variants.{Replica, Client}

@@ -6,7 +6,8 @@ use native.Mathlib.Omega.{arith}
 use lib.ListN.{length, take, drop, length-drop}
 use lib.Seq.{take-add, length-take-le}
 use Rattle.wire.specs.Proof.{entriesBytes, countedEntries, readEntries}
-use Rattle.wire.specs.Writing.{keptCard, keptEntries, sizedCard}
+use Rattle.wire.specs.Putting.{sizedCard}
+use Rattle.wire.specs.Writing.{keptCard, keptEntries}
 use Rattle.wire.proofs.ProofBytes.{length-read}
 
 -- Entries that were read have the bytes that they were read from.

@@ -2,7 +2,6 @@ pub mod Accepted
 pub mod Accepting
 pub mod Admitted
 pub mod Carrying
-pub mod Cuts
 pub mod FieldParts
 pub mod FrameTests
 pub mod Framed

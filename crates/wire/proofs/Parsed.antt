@@ -7,7 +7,7 @@ use mathlib.Core.Option.{Option, none, some}
 use Prim.Native.Nat.{ℕ, _+_, _≤_}
 use native.Mathlib.Omega.{arith}
 use lib.Dec.{eqb}
-use lib.ListN.{length, take, drop}
+use lib.ListN.{length, take}
 use Rattle.base.specs.BitMap.{bit}
 use Rattle.base.specs.Outcome.{Outcome, accepted, refused, guard}
 use Rattle.base.specs.Range.{within}
@@ -21,7 +21,7 @@ use Rattle.wire.specs.Proof.{PreparedProof, WrittenProof, preparedFrom, 
 use Rattle.wire.specs.declared.message.Fields.{Fields}
 use Rattle.wire.specs.declared.message.Party.{Party}
 use Rattle.wire.specs.declared.message.Party.the-variants.{Replica, Client}
-use Rattle.wire.proofs.Framed.{Framed, framed-passes, framed-accepted, field-part, field-whole, place-rises, place-within, place-one, place-two}
+use Rattle.wire.proofs.Framed.{Framed, framed-passes, framed-accepted, field-whole, place-rises, place-within, place-one, place-two}
 use Rattle.wire.proofs.ProofBytes.{accepts-prepared, accepts-written}
 use Rattle.wire.proofs.Rows.{Taken, read-stamp, prepare, write, read, stamp, prepared, written, card, Passed, row, accepted-passed}
 
@@ -58,11 +58,6 @@ module _ (bytes : List ℕ) (f : Framed bytes) where
       go : (t : Bool) → bit (mapIn bytes) 7 ≡ t → optional t (readWritten (field bytes 7)) ≡ accepted (cond t (some (writtenFrom (field bytes 7))) none)
       go true set = rw (accepts-written (field bytes 7) (written-whole set))
       go false set = refl
-
--- The digest where it stands.
-pub digest-part : (bytes : List ℕ) → bit (mapIn bytes) 4 ≡ true → digestIn bytes ≡ take 32 (drop (place bytes 4) bytes)
-unfolding rules
-digest-part bytes set = field-part bytes 4 set
 
 -- The message of bytes that the table lets through.
 abbrev pub messageOf : {map kind : ℕ} {party : Party} → Taken map kind party → List ℕ → Message

@@ -201,10 +201,6 @@ pub prepared-accepted : (bytes : List ℕ) (p : PreparedProof) → readPrepared 
 unfolding readPrepared
 prepared-accepted bytes p e = whole-accepted preparedRule bytes (preparedFrom bytes) p e
 
-pub written-accepted : (bytes : List ℕ) (p : WrittenProof) → readWritten bytes ≡ accepted p → (extent writtenRule bytes ≡ length bytes) × (writtenFrom bytes ≡ p)
-unfolding readWritten
-written-accepted bytes p e = whole-accepted writtenRule bytes (writtenFrom bytes) p e
-
 -- Reading then writing a proof returns the bytes, and what was read fits.
 pub prepared-rewritten : (bytes : List ℕ) (p : PreparedProof) → Bytes bytes → readPrepared bytes ≡ accepted p → (preparedBytes p ≡ bytes) × PreparedFits p
 prepared-rewritten bytes p small e =

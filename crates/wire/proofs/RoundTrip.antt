@@ -5,17 +5,18 @@ use mathlib.Core.Option.{Option, none, some}
 use Prim.Native.Nat.{ℕ, _^_, _<_}
 use native.Mathlib.Omega.{arith}
 use lib.ListN.{length, getD, take, length-append}
+use lib.Seq.{drop-at}
 use Rattle.base.specs.BigEndian.{fromBytes, toBytes}
 use Rattle.base.specs.BitMap.{bit, mapOf}
-use Rattle.base.specs.Outcome.{Outcome, accepted, refused}
+use Rattle.base.specs.Outcome.{Outcome, accepted}
 use Rattle.base.proofs.BigEndian.{length-toBytes, fromBytes-toBytes}
 use Rattle.wire.specs.Decode.{Kind, kinds, ofKind, tested, decode, takerOf, kindIn, optional, preparedIn, writtenIn}
-use Rattle.wire.specs.Layout.{mapIn, place, field}
+use Rattle.wire.specs.Layout.{mapIn, place, field, signature}
 use Rattle.wire.specs.Message.{Message, READ-STAMP, PREPARE, WRITE, READ, STAMP, PREPARED, WRITTEN, CARD, preparedField, writtenField, fields, joined, body, encode, IsSignature, PreparedFits, WrittenFits, IfThere, Fits, Legal, size}
 use Rattle.wire.specs.Proof.{PreparedProof, WrittenProof, readPrepared, readWritten}
 use Rattle.wire.specs.declared.message.Party.{Party}
 use Rattle.wire.proofs.Framed.{Framed, framed-passes}
-use Rattle.wire.proofs.Rows.{kindOf, row, own-row, other, other-row, good-map}
+use Rattle.wire.proofs.Rows.{kindOf, row, own-row, good-map}
 use Rattle.wire.proofs.Places.{there, content, written, map-written, bit-written, place-written, field-written}
 use Rattle.wire.proofs.ProofBytes.{read-prepared, read-written}
 use Rattle.wire.proofs.Size.{fields-obey, encode-size}
@@ -168,15 +169,13 @@ module _ (m : Message) (s : List ℕ) (legal : Legal m) (sig : IsSignature s) wh
       ∙ ap (λ (k : ℕ). ofKind party (mapIn (encode m s)) k kinds next) (kind-encoded m s (legal .fits))
       ∙ ap (λ (map : ℕ). ofKind party map (kindOf m) kinds next) (map-encoded m s (legal .fits))
 
-  -- Each legal message is read back by the party that takes it, and refused with 5 by the other.
+  -- Each legal message is read back by the party that takes it, and so is its signature.
   pub decode-encode : decode (takerOf m) (encode m s) ≡ accepted m
   unfolding decode
   decode-encode =
       let next : Kind → Outcome Message = λ row. row .message (encode m s) in
       tested-encoded (takerOf m) next ∙ own-row m next ∙ row-encoded m s (legal .fits)
 
-  pub decode-other : decode (other (takerOf m)) (encode m s) ≡ refused 5
-  unfolding decode
-  decode-other =
-      let next : Kind → Outcome Message = λ row. row .message (encode m s) in
-      tested-encoded (other (takerOf m)) next ∙ other-row m (mapOf (fields m)) next
+  pub signature-encode : signature (encode m s) ≡ s
+  unfolding encode
+  signature-encode = drop-at (body m) s (place (encode m s) 9) (sym (end-encoded m s (legal .fits)))

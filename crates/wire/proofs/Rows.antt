@@ -33,10 +33,6 @@ kindOf (PREPARED r t d) = 6
 kindOf (WRITTEN r t) = 7
 kindOf (CARD r n card proof c) = 8
 
-abbrev pub other : Party → Party
-other Replica = Client
-other Client = Replica
-
 -- The row of a kind.
 abbrev noRow : Kind
 noRow = record { number = 0; taker = Replica; must = []; may = []; message = λ bytes. refused 5 }
@@ -60,18 +56,6 @@ own-row (PREPARED r t d) next = refl
 own-row (WRITTEN r t) next = refl
 own-row (CARD r n card none c) next = refl
 own-row (CARD r n card (some p) c) next = refl
-
--- The other party takes none of them.
-pub other-row : {A : Type 0} (m : Message) (map : ℕ) (next : Kind → Outcome A) → ofKind (other (takerOf m)) map (kindOf m) kinds next ≡ refused 5
-unfolding ofKind kinds guard
-other-row (READ-STAMP c n) map next = refl
-other-row (PREPARE c t d proof last) map next = refl
-other-row (WRITE c card proof) map next = refl
-other-row (READ c n) map next = refl
-other-row (STAMP r n proof c) map next = refl
-other-row (PREPARED r t d) map next = refl
-other-row (WRITTEN r t) map next = refl
-other-row (CARD r n card proof c) map next = refl
 
 pub good-map : (m : Message) → goodMap (mapOf (fields m)) ≡ true
 unfolding fields

@@ -6,17 +6,20 @@ use Prim.Native.Nat.{ℕ, zero, suc, _+_, _≤_, _<_}
 use native.Mathlib.Omega.{arith}
 use lib.ListN.{length, getD, length-append, replicate}
 use Rattle.base.proofs.BigEndian.{length-toBytes}
-use Rattle.wire.specs.Checks.{preparedOf, writtenOf}
-use Rattle.wire.specs.Layout.{fixed, counted, preparedRule, writtenRule, rules}
-use Rattle.wire.specs.Message.{Message, READ-STAMP, PREPARE, WRITE, READ, STAMP, PREPARED, WRITTEN, CARD, number, sized, preparedField, writtenField, fields, joined, body, encode, IsSignature, PreparedFits, WrittenFits, IfThere, Fits, preparedSize, writtenSize, EachFits, Legal, size, longest}
+use Rattle.base.specs.Outcome.{accepted, guard}
+use Rattle.base.specs.Range.{within}
+use Rattle.base.specs.Rising.{rising}
+use Rattle.wire.specs.Checks.{preparedOf, writtenOf, entriesOf, all, oneEach, shaped, proven, checked}
+use Rattle.wire.specs.Layout.{fixed, repeated, preparedRule, writtenRule, rules}
+use Rattle.wire.specs.Message.{Message, READ-STAMP, PREPARE, WRITE, READ, STAMP, PREPARED, WRITTEN, CARD, numberField, sized, preparedField, writtenField, fields, joined, body, encode, IsSignature, PreparedFits, WrittenFits, IfThere, Fits, preparedSize, writtenSize, EachFits, Legal, size, longest}
 use Rattle.wire.specs.Proof.{Entry, PreparedProof, WrittenProof}
 use Rattle.wire.proofs.Places.{content, Obeys, AllObey}
 use Rattle.wire.proofs.ProofBytes.{length-prepared, length-written, prepared-obeys, written-obeys}
 
-number-obeys : (width n : ℕ) → Obeys (fixed width) (number width n)
+number-obeys : (width n : ℕ) → Obeys (fixed width) (numberField width n)
 number-obeys width n rest = sym (length-toBytes width n)
 
-sized-obeys : (card : List ℕ) → Obeys (counted 1 1) (sized card)
+sized-obeys : (card : List ℕ) → Obeys (repeated 1 1) (sized card)
 sized-obeys card rest = omega arith
 
 preparedField-obeys : (proof : Option PreparedProof) → IfThere PreparedFits proof → Obeys preparedRule (preparedField proof)
@@ -113,25 +116,38 @@ at-most-longest (PREPARED r t d) card prepared written = omega arith
 at-most-longest (WRITTEN r t) card prepared written = omega arith
 at-most-longest (CARD r n bytes proof c) card prepared written = omega (arith, few-prepared proof prepared)
 
--- A PREPARE with two proofs of 11 entries has that many.
-blank : Entry
-blank = record { signer = record { 0 = 1 }; signature = replicate 64 0 }
+-- A PREPARE with two proofs of 11 entries, of different replicas, has that many, and passes 7 to 11 for f = 5.
+blank : ℕ → Entry
+blank id = record { signer = record { 0 = id }; signature = replicate 64 0 }
+
+blanks : ℕ → ℕ → List Entry
+blanks id zero = []
+blanks id (suc n) = blank id ∷ blanks (suc id) n
 
 pub longestMessage : Message
 longestMessage =
-    PREPARE (record { 0 = 1 }) 513 (replicate 32 0) (some (record { timestamp = 257; digest = replicate 32 0; entries = replicate 11 blank })) (some (record { timestamp = 257; entries = replicate 11 blank }))
+    PREPARE (record { 0 = 1 }) 513 (replicate 32 0) (some (record { timestamp = 257; digest = replicate 32 0; entries = blanks 1 11 })) (some (record { timestamp = 257; entries = blanks 1 11 }))
 
 zeros : (n i : ℕ) → getD (replicate n 0) i 0 < 256
 zeros zero i = omega arith
 zeros (suc n) zero = omega arith
 zeros (suc n) (suc i) = zeros n i
 
-blanks-fit : (n : ℕ) → EachFits (replicate n blank)
-unfolding blank
-blanks-fit zero = tt
-blanks-fit (suc n) = ((omega arith, (refl, zeros 64)), blanks-fit n)
+blanks-fit : (id n : ℕ) → id + n < 256 → EachFits (blanks id n)
+unfolding blank blanks
+blanks-fit id zero h = tt
+blanks-fit id (suc n) h = ((omega arith, (refl, zeros 64)), blanks-fit (suc id) n (omega arith))
 
 pub longest-reached : (size longestMessage ≡ longest) × Legal longestMessage
-unfolding size longestMessage Fits
-longest-reached =
-    (refl, record { fits = (omega arith, omega arith, (refl, zeros 32), (omega arith, (refl, zeros 32), (omega arith, blanks-fit 11)), (omega arith, (omega arith, blanks-fit 11))); short = omega arith })
+unfolding size longestMessage Fits blanks
+longest-reached = (
+  refl,
+  record {
+    fits = (omega arith, omega arith, (refl, zeros 32), (omega arith, (refl, zeros 32), (omega arith, blanks-fit 1 11 (omega arith))), (omega arith, (omega arith, blanks-fit 1 11 (omega arith))));
+    short = omega arith;
+  },
+)
+
+pub longest-passes : checked 5 longestMessage (replicate 23 1) (accepted longestMessage) ≡ accepted longestMessage
+unfolding longestMessage blank blanks checked oneEach entriesOf all proven shaped rising within guard
+longest-passes = refl

@@ -12,7 +12,8 @@ use lib.Seq.{take-at, drop-append-add, drop-drop, length-take-le, take-all, set-
 use Rattle.base.specs.Outcome.{accepted}
 use Rattle.base.proofs.Outcome.{guard-passes, guard-refuses}
 use Rattle.wire.specs.Message.{longest}
-use Rattle.wire.specs.Writing.{Put, Wrote}
+use Rattle.wire.specs.Putting.{Put}
+use Rattle.wire.specs.Writing.{Wrote}
 use Rattle.wire.specs.declared.writer.Encoded.the-variants.{Length, Refused}
 
 -- Two stores, the second where the first ends, are one.

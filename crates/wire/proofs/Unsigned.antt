@@ -8,21 +8,22 @@ use Rattle.base.specs.declared.party.ClientId.{ClientId}
 use Rattle.base.specs.declared.party.ReplicaId.{ReplicaId}
 use Rattle.wire.specs.Message.{Message, READ-STAMP, PREPARE, WRITE, READ, STAMP, PREPARED, WRITTEN, CARD, fields, joined, body, encode}
 use Rattle.wire.specs.Proof.{PreparedProof, WrittenProof, preparedBytes, writtenBytes}
-use Rattle.wire.specs.Writing.{unsigned, question, unless, bytesUnless, sizedCard, zeros}
+use Rattle.wire.specs.Putting.{question, bytesUnless, sizedCard}
+use Rattle.wire.specs.Writing.{unsigned, unless, blankSignature}
 
 abbrev head : ℕ → ℕ → ℕ → List ℕ
 head map kind sender = toBytes 2 map ++ (toBytes 1 kind ++ toBytes 1 sender)
 
 abbrev addressed : ClientId → List ℕ
-addressed client = toBytes 1 (client .0) ++ zeros
+addressed client = toBytes 1 (client .0) ++ blankSignature
 
 -- A body with its signature as zeros.
-pub body-unsigned : (message : Message) → body message ++ zeros ≡ unsigned message
+pub body-unsigned : (message : Message) → body message ++ blankSignature ≡ unsigned message
 unfolding encode
 body-unsigned message = refl
 
 module _ (client : ClientId) where
-  pub question-parts : (kind nonce : ℕ) → (head 7 kind (client .0) ++ toBytes 8 nonce) ++ zeros ≡ question kind client nonce
+  pub question-parts : (kind nonce : ℕ) → (head 7 kind (client .0) ++ toBytes 8 nonce) ++ blankSignature ≡ question kind client nonce
   unfolding question
   question-parts kind nonce = simp append-assoc
 
@@ -35,7 +36,7 @@ module _ (client : ClientId) where
   read-bytes nonce = simp append-assoc
 
   pub prepare-parts : (map timestamp : ℕ) (digest : List ℕ) (first second : Bool) (proof : PreparedProof) (last : WrittenProof) → map ≡ 27 + cond first 0 64 + cond second 0 128
-      → (((head map 2 (client .0) ++ (toBytes 5 timestamp ++ digest)) ++ bytesUnless first (preparedBytes proof)) ++ bytesUnless second (writtenBytes last)) ++ zeros
+      → (((head map 2 (client .0) ++ (toBytes 5 timestamp ++ digest)) ++ bytesUnless first (preparedBytes proof)) ++ bytesUnless second (writtenBytes last)) ++ blankSignature
       ≡ unsigned (PREPARE client timestamp digest (unless first proof) (unless second last))
   unfolding encode body fields joined
   prepare-parts map timestamp digest true true proof last e = rw e (simp append-assoc)
@@ -44,7 +45,7 @@ module _ (client : ClientId) where
   prepare-parts map timestamp digest false false proof last e = rw e (simp append-assoc)
 
   pub write-parts : (card : List ℕ) (proof : PreparedProof)
-      → ((head 99 3 (client .0) ++ sizedCard card) ++ preparedBytes proof) ++ zeros ≡ unsigned (WRITE client card proof)
+      → ((head 99 3 (client .0) ++ sizedCard card) ++ preparedBytes proof) ++ blankSignature ≡ unsigned (WRITE client card proof)
   unfolding encode body fields joined
   write-parts card proof = simp append-assoc
 

@@ -8,7 +8,7 @@ use native.Mathlib.Omega.{arith}
 use lib.ListN.{length, getD, take, drop}
 use lib.Seq.{drop-cons, drop-drop, take-take, take-nil}
 use Rattle.base.specs.BigEndian.{fromBytes}
-use Rattle.wire.specs.Places.{between}
+use Rattle.base.specs.Bytes.{between}
 
 -- So many bytes from the i-th after a place on.
 abbrev pub listed : List ℕ → ℕ → ℕ → ℕ → List ℕ

@@ -65,14 +65,14 @@ readFields (row ∷ rows) map bytes =
     (prepend none (readFields rows (map / 2) bytes))
 
 -- "Bit map (2 bytes)"; "Bits 7 to 15 are 0", so that it is below 128; "bits 0 and 1 go together".
-unfoldable pub goodMap : ℕ → Bool
-goodMap map = ltb map 128 && eqb (map % 2) (map / 2 % 2)
+unfoldable pub goodCardMap : ℕ → Bool
+goodCardMap map = ltb map 128 && eqb (map % 2) (map / 2 % 2)
 
 -- The fields of a card, if it keeps its table.
 unfoldable pub readCard : List ℕ → Option Fields
 readCard card =
     let map = fromBytes (take 2 card) in
-    cond (leb 2 (length card) && goodMap map) (readFields table map (drop 2 card)) none
+    cond (leb 2 (length card) && goodCardMap map) (readFields table map (drop 2 card)) none
 
 -- The other way: the bytes of a card with these fields.
 unfoldable pub writeFields : List Row → Fields → List ℕ
@@ -93,7 +93,7 @@ inRange (row ∷ rows) (none ∷ fields) = inRange rows fields
 inRange (row ∷ rows) (some value ∷ fields) = within (row .least) (row .greatest) value && inRange rows fields
 
 unfoldable pub legalFields : Fields → Bool
-legalFields fields = inRange table fields && goodMap (mapOf fields)
+legalFields fields = inRange table fields && goodCardMap (mapOf fields)
 
 abbrev pub isSome : Option Fields → Bool
 isSome none = false

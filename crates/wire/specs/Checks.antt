@@ -60,8 +60,11 @@ all test [] = true
 all test (x ∷ xs) = test x && all test xs
 
 -- 7: "The marks are not one per seal, or one is neither 0 nor 1."
+abbrev pub verdictsFit : ℕ → List ℕ → Bool
+verdictsFit signatures verdicts = eqb (length verdicts) signatures && all (λ v. leb v 1) verdicts
+
 unfoldable pub oneEach : Message → List ℕ → Bool
-oneEach message verdicts = eqb (length verdicts) (1 + length (entriesOf message)) && all (λ v. leb v 1) verdicts
+oneEach message verdicts = verdictsFit (1 + length (entriesOf message)) verdicts
 
 -- 8: "The message's own mark is 0."
 abbrev pub ownGenuine : List ℕ → Bool

@@ -12,7 +12,7 @@ use Rattle.base.specs.Range.{within}
 use Rattle.base.specs.Timestamp.{ofNumber}
 use Rattle.base.specs.declared.party.ClientId.{ClientId}
 use Rattle.base.specs.declared.party.ReplicaId.{ReplicaId}
-use Rattle.wire.specs.Layout.{mapIn, place, field}
+use Rattle.wire.specs.Layout.{fieldBits, mapIn, place, field, signaturePlace}
 use Rattle.wire.specs.Message.{Message, READ-STAMP, PREPARE, WRITE, READ, STAMP, PREPARED, WRITTEN, CARD, longest}
 use Rattle.wire.specs.Proof.{PreparedProof, WrittenProof, readPrepared, readWritten}
 use Rattle.wire.specs.declared.message.Fields.{Fields}
@@ -129,14 +129,14 @@ ofKind party map number (row ∷ rows) next = cond (eqb number (row .number)) (g
 
 -- 3: "The bit map lacks bit 0 or 1, or has one of 9 to 15."
 abbrev pub goodMap : ℕ → Bool
-goodMap map = (bit map 0 && bit map 1) && ltb map (2 ^ 9)
+goodMap map = (bit map 0 && bit map 1) && ltb map (2 ^ fieldBits)
 
 -- Tests 2 to 4, which look at lengths and the bit map alone, and what follows.
 unfoldable pub framed : {A : Type 0} → List ℕ → Outcome A → Outcome A
 framed bytes next =
     guard 2 (within 2 longest (length bytes))
     (guard 3 (goodMap (mapIn bytes))
-    (guard 4 (eqb (place bytes 9 + 64) (length bytes))
+    (guard 4 (eqb (signaturePlace bytes + 64) (length bytes))
     next))
 
 -- Tests 2 to 5, and what follows for the kind.
@@ -164,7 +164,7 @@ fieldsIn bytes =
       prepared = spanOf bytes 6;
       written = spanOf bytes 7;
       addressed = addressedIn bytes;
-      signature = record { start = place bytes 9; end = length bytes };
+      signature = record { start = signaturePlace bytes; end = length bytes };
     }
 
 unfoldable pub reading : Party → List ℕ → Outcome Fields

@@ -7,10 +7,10 @@ use lib.ListN.{length}
 use Rattle.base.specs.Timestamp.{number}
 use Rattle.wire.specs.CardPart.{carried}
 use Rattle.wire.specs.Layout.{place}
-use Rattle.wire.specs.Places.{between}
 use Rattle.wire.specs.declared.card_part.Card.{Card}
 use Rattle.wire.specs.declared.card_part.Found.{Found}
 use Rattle.wire.specs.declared.card_part.Found.the-variants.{Here, Nowhere}
+use Rattle.base.specs.Bytes.{between}
 
 pub record Carries (bytes : List ℕ) (card : Card) : Type 0 where
   pub rises : card .start ≤ card .end

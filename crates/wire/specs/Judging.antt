@@ -1,4 +1,5 @@
 -- Document 01, "Turned down", 9 to 11, as the code finds them: entries in a slice, and of several refusals the smallest.
+use mathlib.Core.Bool.{Bool}
 use mathlib.Core.List.{List, map}
 use mathlib.Core.Option.{Option, none, some}
 use Prim.Native.Nat.{ℕ, _/_, min}
@@ -27,6 +28,10 @@ abbrev pub smallest : Outcome (Unit {0}) → Outcome (Unit {0}) → Outcome (Uni
 smallest (accepted a) second = second
 smallest (refused m) (accepted a) = refused m
 smallest (refused m) (refused n) = refused (min m n)
+
+-- 9 to 11 of a message: of its two proofs, and 11 of its timestamp field.
+abbrev pub firstRefusal : Outcome (Unit {0}) → Outcome (Unit {0}) → Bool → Outcome (Unit {0})
+firstRefusal prepared written issued = smallest (smallest prepared written) (guard 11 issued (accepted tt))
 
 -- 9 to 11 of a proof with its entries' verdicts; a missing one has none.
 abbrev pub preparedOutcome : ℕ → List ℕ → Option PreparedProof → Outcome (Unit {0})

@@ -9,20 +9,20 @@ use Rattle.base.specs.BitMap.{bit}
 -- How long a field is: so many bytes; or a head, whose last byte says how many units of so many bytes follow it.
 pub data Rule : Type 0 where
   fixed : ℕ → Rule
-  counted : ℕ → ℕ → Rule
+  repeated : ℕ → ℕ → Rule
 
 -- The bytes of a field that starts at the front of these bytes.
 abbrev pub extent : Rule → List ℕ → ℕ
 extent (fixed width) bytes = width
-extent (counted head unit) bytes = head + unit * getD bytes (head - 1) 0
+extent (repeated head unit) bytes = head + unit * getD bytes (head - 1) 0
 
 -- A prepared proof: timestamp (5), digest (32), number of entries (1), and entries of 65 bytes.
 abbrev pub preparedRule : Rule
-preparedRule = counted 38 65
+preparedRule = repeated 38 65
 
 -- A written proof: "the same without the digest".
 abbrev pub writtenRule : Rule
-writtenRule = counted 6 65
+writtenRule = repeated 6 65
 
 -- The fields by bit.
 unfoldable pub rules : List Rule
@@ -32,17 +32,21 @@ rules =
     ∷ fixed 8  -- 2: nonce
     ∷ fixed 5  -- 3: timestamp (stamp)
     ∷ fixed 32  -- 4: digest
-    ∷ counted 1 1  -- 5: card (length byte, card)
+    ∷ repeated 1 1  -- 5: card (length byte, card)
     ∷ preparedRule  -- 6: prepared proof
     ∷ writtenRule  -- 7: written proof
     ∷ fixed 1  -- 8: client (desk) addressed
     ∷ []
 
+-- The fields have bits 0 to 8.
+abbrev pub fieldBits : ℕ
+fieldBits = 9
+
 -- "Bit map (2 bytes)"
 abbrev pub mapIn : List ℕ → ℕ
 mapIn bytes = fromBytes (take 2 bytes)
 
--- Where the field of a bit starts, or would start if it were there; of bit 9, the signature: "fields lowest bit first".
+-- Where the field of a bit starts, or would start if it were there: "fields lowest bit first".
 unfoldable pub place : List ℕ → ℕ → ℕ
 place bytes zero = 2
 place bytes (suc b) = let at = place bytes b in at + cond (bit (mapIn bytes) b) (extent (getD rules b (fixed 0)) (drop at bytes)) 0
@@ -52,5 +56,8 @@ unfoldable pub field : List ℕ → ℕ → List ℕ
 field bytes b = let at = place bytes b in take (place bytes (suc b) - at) (drop at bytes)
 
 -- "then a 64-byte seal over all bytes before it": the signature.
+abbrev pub signaturePlace : List ℕ → ℕ
+signaturePlace bytes = place bytes fieldBits
+
 abbrev pub signature : List ℕ → List ℕ
-signature bytes = drop (place bytes 9) bytes
+signature bytes = drop (signaturePlace bytes) bytes

@@ -12,6 +12,7 @@ pub mod Message
 pub mod Parts
 pub mod Places
 pub mod Proof
+pub mod Putting
 pub mod Sha256
 pub mod Signatures
 pub mod Writing

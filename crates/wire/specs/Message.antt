@@ -22,8 +22,8 @@ pub data Message : Type 0 where
   CARD : ReplicaId → ℕ → List ℕ → Option PreparedProof → ClientId → Message  -- sender, nonce, card, proof, client addressed
 
 -- A field that is there: a number of so many bytes, a card behind its length, an optional proof.
-abbrev pub number : ℕ → ℕ → Option (List ℕ)
-number width n = some (toBytes width n)
+abbrev pub numberField : ℕ → ℕ → Option (List ℕ)
+numberField width n = some (toBytes width n)
 
 abbrev pub sized : List ℕ → Option (List ℕ)
 sized bytes = some (length bytes ∷ bytes)
@@ -38,18 +38,18 @@ writtenField (some proof) = some (writtenBytes proof)
 
 -- The fields by bit: 0 kind, 1 sender, 2 nonce, 3 timestamp, 4 digest, 5 card, 6 prepared proof, 7 written proof, 8 client addressed.
 unfoldable pub fields : Message → List (Option (List ℕ))
-fields (READ-STAMP client nonce) = number 1 1 ∷ number 1 (client .0) ∷ number 8 nonce ∷ none ∷ none ∷ none ∷ none ∷ none ∷ none ∷ []
+fields (READ-STAMP client nonce) = numberField 1 1 ∷ numberField 1 (client .0) ∷ numberField 8 nonce ∷ none ∷ none ∷ none ∷ none ∷ none ∷ none ∷ []
 fields (PREPARE client timestamp digest proof last) =
-    number 1 2 ∷ number 1 (client .0) ∷ none ∷ number 5 timestamp ∷ some digest ∷ none ∷ preparedField proof ∷ writtenField last ∷ none ∷ []
-fields (WRITE client card proof) = number 1 3 ∷ number 1 (client .0) ∷ none ∷ none ∷ none ∷ sized card ∷ some (preparedBytes proof) ∷ none ∷ none ∷ []
-fields (READ client nonce) = number 1 4 ∷ number 1 (client .0) ∷ number 8 nonce ∷ none ∷ none ∷ none ∷ none ∷ none ∷ none ∷ []
+    numberField 1 2 ∷ numberField 1 (client .0) ∷ none ∷ numberField 5 timestamp ∷ some digest ∷ none ∷ preparedField proof ∷ writtenField last ∷ none ∷ []
+fields (WRITE client card proof) = numberField 1 3 ∷ numberField 1 (client .0) ∷ none ∷ none ∷ none ∷ sized card ∷ some (preparedBytes proof) ∷ none ∷ none ∷ []
+fields (READ client nonce) = numberField 1 4 ∷ numberField 1 (client .0) ∷ numberField 8 nonce ∷ none ∷ none ∷ none ∷ none ∷ none ∷ none ∷ []
 fields (STAMP replica nonce proof client) =
-    number 1 5 ∷ number 1 (replica .0) ∷ number 8 nonce ∷ none ∷ none ∷ none ∷ preparedField proof ∷ none ∷ number 1 (client .0) ∷ []
+    numberField 1 5 ∷ numberField 1 (replica .0) ∷ numberField 8 nonce ∷ none ∷ none ∷ none ∷ preparedField proof ∷ none ∷ numberField 1 (client .0) ∷ []
 fields (PREPARED replica timestamp digest) =
-    number 1 6 ∷ number 1 (replica .0) ∷ none ∷ number 5 timestamp ∷ some digest ∷ none ∷ none ∷ none ∷ none ∷ []
-fields (WRITTEN replica timestamp) = number 1 7 ∷ number 1 (replica .0) ∷ none ∷ number 5 timestamp ∷ none ∷ none ∷ none ∷ none ∷ none ∷ []
+    numberField 1 6 ∷ numberField 1 (replica .0) ∷ none ∷ numberField 5 timestamp ∷ some digest ∷ none ∷ none ∷ none ∷ none ∷ []
+fields (WRITTEN replica timestamp) = numberField 1 7 ∷ numberField 1 (replica .0) ∷ none ∷ numberField 5 timestamp ∷ none ∷ none ∷ none ∷ none ∷ none ∷ []
 fields (CARD replica nonce card proof client) =
-    number 1 8 ∷ number 1 (replica .0) ∷ number 8 nonce ∷ none ∷ none ∷ sized card ∷ preparedField proof ∷ none ∷ number 1 (client .0) ∷ []
+    numberField 1 8 ∷ numberField 1 (replica .0) ∷ numberField 8 nonce ∷ none ∷ none ∷ sized card ∷ preparedField proof ∷ none ∷ numberField 1 (client .0) ∷ []
 
 -- The fields that are there, one after the other.
 unfoldable pub joined : List (Option (List ℕ)) → List ℕ
@@ -129,6 +129,8 @@ size (CARD replica nonce card proof client) = sizeWith (8 + 1 + length card + pr
 abbrev pub longest : ℕ
 longest = 1_579
 
+-- "every legal message": the kind's fields, each within its width, and no longer than the longest. What 6 and 9 to 14 ask besides is
+-- a party's to ask: a message that they refuse has its one byte form too.
 pub record Legal (message : Message) : Type 0 where
   pub fits : Fits message
   pub short : size message ≤ longest

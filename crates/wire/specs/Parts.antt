@@ -7,10 +7,10 @@ use Prim.Native.Nat.{ℕ, _≤_}
 use lib.Dec.{ltb}
 use lib.ListN.{length, getD, take, drop}
 use Rattle.base.specs.BigEndian.{fromBytes}
+use Rattle.base.specs.Bytes.{between}
 use Rattle.base.specs.Timestamp.{ofNumber, start}
 use Rattle.base.specs.declared.timestamp.Timestamp.{Timestamp}
 use Rattle.wire.specs.Layout.{extent, preparedRule}
-use Rattle.wire.specs.Places.{between}
 use Rattle.wire.specs.Proof.{PreparedProof, WrittenProof, preparedFrom, writtenFrom}
 use Rattle.wire.specs.declared.message.Span.{Span}
 

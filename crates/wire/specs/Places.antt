@@ -2,9 +2,9 @@
 use mathlib.Core.Path.{_≡_}
 use mathlib.Core.List.{List}
 use Prim.Native.Nat.{ℕ, _+_, _-_, _≤_, _<_}
-use lib.ListN.{length, take, drop}
+use lib.ListN.{length}
 use Rattle.base.specs.Outcome.{Outcome, accepted, refused}
-use Rattle.wire.specs.Layout.{mapIn, place}
+use Rattle.wire.specs.Layout.{mapIn, place, signaturePlace}
 use Rattle.wire.specs.declared.frame.Framing.{Framing}
 use Rattle.wire.specs.declared.frame.Framing.the-variants.{Whole, Refused}
 use Rattle.wire.specs.declared.frame.Places.{Places}
@@ -35,17 +35,13 @@ placesIn bytes =
       prepared = place bytes 6;
       written = place bytes 7;
       addressed = place bytes 8;
-      signature = place bytes 9;
+      signature = signaturePlace bytes;
     }
 
 -- What an answer of the code stands for.
 abbrev pub frameOutcome : Framing → Outcome Places
 frameOutcome (Whole places) = accepted places
 frameOutcome (Refused number) = refused number
-
--- The bytes from one place to another.
-abbrev pub between : List ℕ → ℕ → ℕ → List ℕ
-between bytes at end = take (end - at) (drop at bytes)
 
 -- A field from one place to another: none, or one of so many bytes at least.
 pub record Room (bytes : List ℕ) (width at end : ℕ) : Type 0 where

@@ -67,11 +67,11 @@ K =
 
 -- 5.1.1: a message of n bytes is followed by 0x80, by the fewest zero bytes that bring it to 56 modulo 64,
 -- and by the number of its bits, 8 * n, in eight bytes.
-unfoldable pub zeros : ℕ → ℕ
-zeros n = (64 + 55 - n % 64) % 64
+unfoldable pub paddingZeros : ℕ → ℕ
+paddingZeros n = (64 + 55 - n % 64) % 64
 
 unfoldable pub padded : List ℕ → List ℕ
-padded m = m ++ (0x80 ∷ replicate (zeros (length m)) 0 ++ toBytes 8 (8 * length m))
+padded m = m ++ (0x80 ∷ replicate (paddingZeros (length m)) 0 ++ toBytes 8 (8 * length m))
 
 -- 5.2.1: block i of a padded message, word j of a block, and a block's first n words.
 abbrev pub block : List ℕ → ℕ → List ℕ
@@ -168,12 +168,12 @@ unfoldable pub sha256 : List ℕ → List ℕ
 sha256 m = hashBytes (hashValue (padded m) (length (padded m) / 64)) 8
 
 -- Document 01: the digest of up to this many bytes; a longer message is too long, with 32 zero bytes in the digest's place.
-abbrev pub longestMessage : ℕ
-longestMessage = 4096
+abbrev pub longestInput : ℕ
+longestInput = 4096
 
 abbrev pub answer : Bool → List ℕ → Digest
 answer true m = record { fits = true; bytes = sha256 m }
 answer false m = record { fits = false; bytes = replicate 32 0 }
 
 unfoldable pub digestOf : List ℕ → Digest
-digestOf m = answer (leb (length m) longestMessage) m
+digestOf m = answer (leb (length m) longestInput) m

@@ -1,15 +1,13 @@
 -- Document 01, "Messages": what a writer leaves in the borrowed output ("lent output"), and what it is handed.
 use mathlib.Core.Path.{_≡_}
 use mathlib.Core.Bool.{Bool, cond}
-use mathlib.Core.List.{List, [], _∷_, _++_}
+use mathlib.Core.List.{List, _++_}
 use mathlib.Core.Option.{Option, none, some}
-use Prim.Native.Nat.{ℕ, _+_, _≤_, min}
+use Prim.Native.Nat.{ℕ, min}
 use lib.Dec.{leb, eqb}
 use lib.ListN.{length, take, drop, replicate}
-use Rattle.base.specs.BigEndian.{toBytes}
 use Rattle.base.specs.Outcome.{Outcome, accepted, refused, guard}
 use Rattle.base.specs.Timestamp.{number}
-use Rattle.base.specs.declared.party.ClientId.{ClientId}
 use Rattle.base.specs.declared.timestamp.Timestamp.{Timestamp}
 use Rattle.wire.specs.Message.{Message, encode, longest}
 use Rattle.wire.specs.Proof.{Entry, PreparedProof, WrittenProof, readEntries}
@@ -17,15 +15,11 @@ use Rattle.wire.specs.declared.writer.Encoded.{Encoded}
 use Rattle.wire.specs.declared.writer.Encoded.the-variants.{Length, Refused}
 
 -- "A party sends its own seal as zeros for the box to fill."
-unfoldable pub zeros : List ℕ
-zeros = replicate 64 0
+unfoldable pub blankSignature : List ℕ
+blankSignature = replicate 64 0
 
 abbrev pub unsigned : Message → List ℕ
-unsigned message = encode message zeros
-
--- A READ-STAMP or READ, by its kind.
-unfoldable pub question : ℕ → ClientId → ℕ → List ℕ
-question kind client nonce = toBytes 2 7 ++ (toBytes 1 kind ++ (toBytes 1 (client .0) ++ toBytes 8 nonce)) ++ zeros
+unsigned message = encode message blankSignature
 
 -- What an answer of the code stands for: the message's length.
 abbrev pub encodedOutcome : Encoded → Outcome ℕ
@@ -45,19 +39,9 @@ pub record Wrote (old bytes : List ℕ) (answer : Encoded) (new : List ℕ) : Ty
   pub answered : encodedOutcome answer ≡ guard 1 (roomy old) (accepted (length bytes))
   pub holds : new ≡ cond (roomy old) (inFront bytes old) old
 
--- A step of a writer: the bytes, at most so many, stand from a place on, and the next place is the one behind them.
-pub record Put (old : List ℕ) (at : ℕ) (bytes : List ℕ) (most : ℕ) (next : ℕ) (new : List ℕ) : Type 0 where
-  pub behind : next ≡ at + length bytes
-  pub short : length bytes ≤ most
-  pub room : next ≤ length old
-  pub holds : new ≡ take at old ++ bytes ++ drop (at + length bytes) old
-
 -- A card as a party keeps it: its length, and room for 17 bytes. A length above 17 counts as 17.
 abbrev pub keptCard : ℕ → List ℕ → List ℕ
 keptCard size card = take (min size 17) card
-
-abbrev pub sizedCard : List ℕ → List ℕ
-sizedCard card = length card ∷ card
 
 -- Proofs as a party keeps them: a timestamp, a digest, how many entries, and room for 11, which are all that q can be. A number above 11 counts as 11.
 abbrev pub keptEntries : ℕ → List ℕ → List Entry
@@ -75,7 +59,3 @@ missing timestamp = eqb (number timestamp) 0
 
 abbrev pub unless : {A : Type 0} → Bool → A → Option A
 unless absent proof = cond absent none (some proof)
-
--- The bytes of what may be missing.
-abbrev pub bytesUnless : Bool → List ℕ → List ℕ
-bytesUnless absent bytes = cond absent [] bytes

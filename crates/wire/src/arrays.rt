@@ -2,8 +2,8 @@
 use crate::layout::CARD_ROOM;
 use crate::layout::DIGEST;
 use crate::layout::ENTRIES_ROOM;
-use crate::slices::front;
 use base::bytes::put;
+use base::slices::front;
 ghost use mathlib.Core.Path.{_≡_};
 ghost use Rattle.base.specs.Bytes.{filled};
 

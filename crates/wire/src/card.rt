@@ -1,11 +1,12 @@
 // Cards: the value of the register.
+use crate::layout::DIGEST;
 use base::refusal::BAD_CARD;
 ghost use mathlib.Core.Path.{_≡_};
 ghost use mathlib.Core.Option.{none};
 ghost use Prim.Native.Nat.{_+_, _≤_, _<_};
 ghost use lib.ListN.{length, getD, drop};
 ghost use Rattle.base.specs.BigEndian.{fromBytes};
-ghost use Rattle.wire.specs.Card.{row, table, standing, readFields, goodMap, checkCard, cardOutcome, fieldOf, readAnswer, cardRead, cardDigest};
+ghost use Rattle.wire.specs.Card.{row, table, standing, readFields, goodCardMap, checkCard, cardOutcome, fieldOf, readAnswer, cardRead, cardDigest};
 
 pub enum CardCheck {
     Good,
@@ -26,7 +27,7 @@ pub struct CardRead {
 // A card's digest; 32 zero bytes where the card is refused.
 pub struct CardDigest {
     pub check: CardCheck,
-    pub bytes: [u8; 32],
+    pub bytes: [u8; DIGEST],
 }
 
 // A row of the card's table: how many bytes the field has, its least and its greatest value.
@@ -126,7 +127,7 @@ fn refused() -> CardRead
 
 // The map says which fields follow: bits 7 to 15 are 0, and both diameters are present or none.
 fn good_map(map: u32) -> bool
-    ensures { λ r. ⌜ r ≡ goodMap map ⌝ }
+    ensures { λ r. ⌜ r ≡ goodCardMap map ⌝ }
 {
     if map >= 128 {
         return false;
@@ -195,7 +196,7 @@ pub fn digest(card: &[u8]) -> CardDigest
     let CardCheck::Good = check(card) else {
         return CardDigest {
             check: CardCheck::Refused(BAD_CARD),
-            bytes: [0; 32],
+            bytes: [0; DIGEST],
         };
     };
     let bytes = crate::sha256::sha256(card).bytes;

@@ -8,15 +8,11 @@ use base::refusal::NOT_A_QUORUM;
 use base::refusal::NOT_ISSUED;
 use base::timestamp::Timestamp;
 ghost use mathlib.Core.Path.{_≡_};
-ghost use mathlib.Core.Bool.{_&&_};
-ghost use lib.Dec.{leb, eqb};
-ghost use lib.ListN.{length};
-ghost use Rattle.base.specs.Outcome.{accepted, guard};
 ghost use Rattle.base.specs.Range.{within};
 ghost use Rattle.base.specs.Rising.{rising};
 ghost use Rattle.base.specs.Timestamp.{number};
-ghost use Rattle.wire.specs.Checks.{all, shaped, genuine, proofOutcome};
-ghost use Rattle.wire.specs.Judging.{entriesIn, signers, proofCheckOutcome, smallest};
+ghost use Rattle.wire.specs.Checks.{all, verdictsFit, shaped, genuine, proofOutcome};
+ghost use Rattle.wire.specs.Judging.{entriesIn, signers, proofCheckOutcome, smallest, firstRefusal};
 
 // What a proof's tests find: nothing against it, or the refusal.
 pub enum ProofCheck {
@@ -38,8 +34,8 @@ fn all_within(low: u8, high: u8, numbers: &[u8]) -> bool
 }
 
 // Test 7: one verdict per signature, each 0 or 1.
-pub fn verdicts_fit(verdicts: &[u8], signatures: usize) -> bool
-    ensures { λ r. ⌜ r ≡ (eqb (length (now (verdicts .entry))) signatures && all (λ v. leb v 1) (now (verdicts .entry))) ⌝ }
+pub(super) fn verdicts_fit(verdicts: &[u8], signatures: usize) -> bool
+    ensures { λ r. ⌜ r ≡ verdictsFit signatures (now (verdicts .entry)) ⌝ }
 {
     if verdicts.len() != signatures {
         return false;
@@ -86,7 +82,12 @@ fn is_shaped(f: u8, entries: &[u8]) -> bool
 }
 
 // Tests 9 to 11 of one proof: its entries, their verdicts, its timestamp.
-pub fn check_proof(f: u8, entries: &[u8], verdicts: &[u8], timestamp: Timestamp) -> ProofCheck
+pub(super) fn check_proof(
+    f: u8,
+    entries: &[u8],
+    verdicts: &[u8],
+    timestamp: Timestamp,
+) -> ProofCheck
     ensures { λ r. ⌜ proofCheckOutcome r ≡ proofOutcome f (entriesIn (now (entries .entry))) (now (verdicts .entry)) (number timestamp) ⌝ }
 {
     if !is_shaped(f, entries) {
@@ -118,8 +119,8 @@ fn smaller(a: ProofCheck, b: ProofCheck) -> ProofCheck
 }
 
 // Tests 9 to 11 of a message, each over both proofs and the timestamp field before the next. What is missing is good.
-pub fn first_refusal(prepared: ProofCheck, written: ProofCheck, issued: bool) -> ProofCheck
-    ensures { λ r. ⌜ proofCheckOutcome r ≡ smallest (smallest (proofCheckOutcome prepared) (proofCheckOutcome written)) (guard 11 issued (accepted tt)) ⌝ }
+pub(super) fn first_refusal(prepared: ProofCheck, written: ProofCheck, issued: bool) -> ProofCheck
+    ensures { λ r. ⌜ proofCheckOutcome r ≡ firstRefusal (proofCheckOutcome prepared) (proofCheckOutcome written) issued ⌝ }
 {
     let proofs = smaller(prepared, written);
     if issued {

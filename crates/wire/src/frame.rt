@@ -1,6 +1,12 @@
 // Tests 2 to 4: a message's length, its bit map, and where its fields end.
+use crate::layout::DIGEST;
+use crate::layout::ENTRY;
 use crate::layout::LONGEST_MESSAGE;
+use crate::layout::MAPS;
+use crate::layout::PREPARED_HEAD;
 use crate::layout::SIGNATURE;
+use crate::layout::TIMESTAMP;
+use crate::layout::WRITTEN_HEAD;
 use base::refusal::BIT_MAP;
 use base::refusal::FIELD_LENGTHS;
 use base::refusal::MESSAGE_LENGTH;
@@ -9,7 +15,7 @@ ghost use Prim.Native.Nat.{suc, _+_, _*_, _≤_, _<_};
 ghost use lib.Dec.{eqb};
 ghost use lib.ListN.{length, drop};
 ghost use Rattle.base.specs.Outcome.{accepted, guard};
-ghost use Rattle.wire.specs.Layout.{counted, extent, mapIn, place};
+ghost use Rattle.wire.specs.Layout.{repeated, extent, fieldBits, mapIn, place, signaturePlace};
 ghost use Rattle.wire.specs.Decode.{framed};
 ghost use Rattle.wire.specs.Places.{Takes, Fronted, placesIn, frameOutcome};
 
@@ -54,9 +60,9 @@ fn take_fixed(bytes: &[u8], width: usize, at: usize) -> Taken
 }
 
 // A field whose head ends with the number of units that follow it.
-fn take_counted(bytes: &[u8], head: usize, unit: usize, at: usize) -> Taken
+fn take_repeated(bytes: &[u8], head: usize, unit: usize, at: usize) -> Taken
     requires { ⌜ (at ≤ length (now bytes)) × (1 ≤ head) × (unit ≤ 65) ⌝ }
-    ensures { λ r. ⌜ Takes (now (bytes .entry)) (at + extent (counted head unit) (drop at (now (bytes .entry)))) r ⌝ }
+    ensures { λ r. ⌜ Takes (now (bytes .entry)) (at + extent (repeated head unit) (drop at (now (bytes .entry)))) r ⌝ }
 {
     let Taken::Next(end) = take_fixed(bytes, head, at) else {
         return Taken::Cut;
@@ -67,7 +73,7 @@ fn take_counted(bytes: &[u8], head: usize, unit: usize, at: usize) -> Taken
 
 // The field of a bit: nothing where the bit is not set.
 fn take_field(bytes: &[u8], map: u16, bit: usize, at: usize) -> Taken
-    requires { ⌜ (map ≡ mapIn (now bytes)) × (bit < 9) × (at ≡ place (now bytes) bit) × (at ≤ length (now bytes)) ⌝ }
+    requires { ⌜ (map ≡ mapIn (now bytes)) × (bit < fieldBits) × (at ≡ place (now bytes) bit) × (at ≤ length (now bytes)) ⌝ }
     ensures { λ r. ⌜ Takes (now (bytes .entry)) (place (now (bytes .entry)) (suc bit)) r ⌝ }
 {
     if (map >> bit) % 2 == 0 {
@@ -75,11 +81,11 @@ fn take_field(bytes: &[u8], map: u16, bit: usize, at: usize) -> Taken
     }
     match bit {
         2 => take_fixed(bytes, 8, at),
-        3 => take_fixed(bytes, 5, at),
-        4 => take_fixed(bytes, 32, at),
-        5 => take_counted(bytes, 1, 1, at),
-        6 => take_counted(bytes, 38, 65, at),
-        7 => take_counted(bytes, 6, 65, at),
+        3 => take_fixed(bytes, TIMESTAMP, at),
+        4 => take_fixed(bytes, DIGEST, at),
+        5 => take_repeated(bytes, 1, 1, at),
+        6 => take_repeated(bytes, PREPARED_HEAD, ENTRY, at),
+        7 => take_repeated(bytes, WRITTEN_HEAD, ENTRY, at),
         _ => take_fixed(bytes, 1, at),
     }
 }
@@ -94,7 +100,7 @@ fn lay_back(
     card: usize,
 ) -> Framing
     requires { ⌜ (map ≡ mapIn (now bytes)) × Fronted (now bytes) nonce timestamp digest card ⌝ }
-    ensures { λ r. ⌜ frameOutcome r ≡ guard 4 (eqb (place (now (bytes .entry)) 9 + 64) (length (now (bytes .entry)))) (accepted (placesIn (now (bytes .entry)))) ⌝ }
+    ensures { λ r. ⌜ frameOutcome r ≡ guard 4 (eqb (signaturePlace (now (bytes .entry)) + 64) (length (now (bytes .entry)))) (accepted (placesIn (now (bytes .entry)))) ⌝ }
 {
     let Taken::Next(prepared) = take_field(bytes, map, 5, card) else {
         return Framing::Refused(FIELD_LENGTHS);
@@ -127,7 +133,7 @@ fn lay_back(
 // Test 4: field after field, each from the end of the one before it.
 fn lay(bytes: &[u8], map: u16) -> Framing
     requires { ⌜ (map ≡ mapIn (now bytes)) × (2 ≤ length (now bytes)) ⌝ }
-    ensures { λ r. ⌜ frameOutcome r ≡ guard 4 (eqb (place (now (bytes .entry)) 9 + 64) (length (now (bytes .entry)))) (accepted (placesIn (now (bytes .entry)))) ⌝ }
+    ensures { λ r. ⌜ frameOutcome r ≡ guard 4 (eqb (signaturePlace (now (bytes .entry)) + 64) (length (now (bytes .entry)))) (accepted (placesIn (now (bytes .entry)))) ⌝ }
 {
     let Taken::Next(sender) = take_field(bytes, map, 0, 2) else {
         return Framing::Refused(FIELD_LENGTHS);
@@ -161,7 +167,7 @@ pub fn frame(bytes: &[u8]) -> Framing
     if map % 4 != 3 {
         return Framing::Refused(BIT_MAP);
     }
-    if 512 <= map {
+    if MAPS <= map {
         return Framing::Refused(BIT_MAP);
     }
     lay(bytes, map)

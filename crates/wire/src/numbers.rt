@@ -4,8 +4,9 @@ ghost use mathlib.Core.Path.{_≡_};
 ghost use Prim.Native.Nat.{_+_, _≤_};
 ghost use lib.ListN.{length, take, drop};
 ghost use Rattle.base.specs.BigEndian.{fromBytes};
+ghost use Rattle.base.specs.Bytes.{between};
 ghost use Rattle.base.specs.Timestamp.{ofNumber};
-ghost use Rattle.wire.specs.Places.{between, Room};
+ghost use Rattle.wire.specs.Places.{Room};
 
 pub(super) fn byte_in(bytes: &[u8], at: usize, end: usize) -> u8
     requires { ⌜ Room (now bytes) 1 at end ⌝ }

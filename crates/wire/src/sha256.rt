@@ -3,21 +3,22 @@ mod functions;
 mod padding;
 mod rounds;
 
+use crate::layout::DIGEST;
 ghost use mathlib.Core.Path.{_≡_};
 ghost use Prim.Native.Nat.{_/_, _%_, _^_, _≤_, _<_};
 ghost use lib.ListN.{length};
-ghost use Rattle.wire.specs.Sha256.{longestMessage, padded, block, blockCount, words, compress, hashValue, hashBytes, digestOf};
+ghost use Rattle.wire.specs.Sha256.{longestInput, padded, block, blockCount, words, compress, hashValue, hashBytes, digestOf};
 
 // Where `fits` is false the message is too long [document 01: "too long"], and the bytes are zero.
 pub struct Digest {
     pub fits: bool,
-    pub bytes: [u8; 32],
+    pub bytes: [u8; DIGEST],
 }
 
-const LONGEST_MESSAGE: usize = 4096;
+const LONGEST_INPUT: usize = 4096;
 
 fn hash_block(hash: &[u32; 8], message: &[u8], i: usize, blocks: usize) -> [u32; 8]
-    requires { ⌜ (length (now message) ≤ longestMessage) × (i < blocks) × (blocks ≡ blockCount (length (now message))) ⌝ }
+    requires { ⌜ (length (now message) ≤ longestInput) × (i < blocks) × (blocks ≡ blockCount (length (now message))) ⌝ }
     ensures { λ r. ⌜ r ≡ compress (now (hash .entry)) (words (block (padded (now (message .entry))) i) 16) ⌝ }
 {
     let mut w = [0u32; 64];
@@ -26,7 +27,7 @@ fn hash_block(hash: &[u32; 8], message: &[u8], i: usize, blocks: usize) -> [u32;
 }
 
 fn hash_message(message: &[u8]) -> [u32; 8]
-    requires { ⌜ length (now message) ≤ longestMessage ⌝ }
+    requires { ⌜ length (now message) ≤ longestInput ⌝ }
     ensures { λ r. ⌜ r ≡ hashValue (padded (now (message .entry))) (length (padded (now (message .entry))) / 64) ⌝ }
 {
     // 0x80 and the length take nine bytes, and the last block may be partly filled.
@@ -48,10 +49,10 @@ fn byte(x: u32, k: u32) -> u8
     ((x >> k) & 0xff) as u8
 }
 
-fn hash_bytes(hash: &[u32; 8]) -> [u8; 32]
+fn hash_bytes(hash: &[u32; 8]) -> [u8; DIGEST]
     ensures { λ r. ⌜ r ≡ hashBytes (now (hash .entry)) 8 ⌝ }
 {
-    let mut bytes = [0u8; 32];
+    let mut bytes = [0u8; DIGEST];
     let mut i: usize = 0;
     while i < 8 {
         let word = hash[i];
@@ -68,10 +69,10 @@ fn hash_bytes(hash: &[u32; 8]) -> [u8; 32]
 pub fn sha256(message: &[u8]) -> Digest
     ensures { λ r. ⌜ r ≡ digestOf (now (message .entry)) ⌝ }
 {
-    if message.len() > LONGEST_MESSAGE {
+    if message.len() > LONGEST_INPUT {
         return Digest {
             fits: false,
-            bytes: [0u8; 32],
+            bytes: [0u8; DIGEST],
         };
     }
     let hash = hash_message(message);
@@ -83,7 +84,7 @@ pub fn sha256(message: &[u8]) -> Digest
 
 // The same for Rust and C, with the digest written to `out`; false if the message is too long.
 #[no_mangle]
-pub extern "C" fn wire_sha256(message: &[u8], out: &mut [u8; 32]) -> bool
+pub extern "C" fn wire_sha256(message: &[u8], out: &mut [u8; DIGEST]) -> bool
     ensures { λ r. ⌜ (r ≡ digestOf (now (message .entry)) .fits) × (now (out .exit) ≡ digestOf (now (message .entry)) .bytes) ⌝ }
 {
     let digest = sha256(message);

@@ -2,6 +2,9 @@
 mod fields;
 mod proof;
 
+use crate::layout::CARD_ROOM;
+use crate::layout::DIGEST;
+use crate::layout::ENTRIES_ROOM;
 use crate::layout::LONGEST_MESSAGE;
 use base::party::ClientId;
 use base::party::ReplicaId;
@@ -22,7 +25,8 @@ ghost use Prim.Native.Nat.{_≤_};
 ghost use lib.ListN.{length};
 ghost use Rattle.base.specs.Timestamp.{number};
 ghost use Rattle.wire.specs.Message.{READ-STAMP, PREPARE, WRITE, READ, STAMP, PREPARED, WRITTEN, CARD, body};
-ghost use Rattle.wire.specs.Writing.{Put, Wrote, unsigned, missing, unless, keptPrepared, keptWritten, keptCard, question};
+ghost use Rattle.wire.specs.Putting.{Put, question};
+ghost use Rattle.wire.specs.Writing.{Wrote, unsigned, missing, unless, keptPrepared, keptWritten, keptCard};
 
 // The length of what was written, or the refusal.
 pub enum Encoded {
@@ -75,14 +79,14 @@ pub fn write_prepare<'a>(
     out: &mut [u8],
     client: ClientId,
     timestamp: Timestamp,
-    digest: &'a [u8; 32],
+    digest: &'a [u8; DIGEST],
     proof_timestamp: Timestamp,
-    proof_digest: &'a [u8; 32],
+    proof_digest: &'a [u8; DIGEST],
     proof_count: u8,
-    proof_entries: &'a [u8; 715],
+    proof_entries: &'a [u8; ENTRIES_ROOM],
     last_timestamp: Timestamp,
     last_count: u8,
-    last_entries: &'a [u8; 715],
+    last_entries: &'a [u8; ENTRIES_ROOM],
 ) -> Encoded
     ensures { λ r. ⌜ Wrote (now (out .entry))
         (unsigned (PREPARE client (number timestamp) (now (digest .entry))
@@ -113,12 +117,12 @@ pub fn write_prepare<'a>(
 pub fn write_write<'a>(
     out: &mut [u8],
     client: ClientId,
-    card: &'a [u8; 17],
+    card: &'a [u8; CARD_ROOM],
     card_length: u8,
     timestamp: Timestamp,
-    digest: &'a [u8; 32],
+    digest: &'a [u8; DIGEST],
     entry_count: u8,
-    entries: &'a [u8; 715],
+    entries: &'a [u8; ENTRIES_ROOM],
 ) -> Encoded
     ensures { λ r. ⌜ Wrote (now (out .entry))
         (unsigned (WRITE client (keptCard «card_length» (now (card .entry)))
@@ -139,9 +143,9 @@ pub fn write_stamp<'a>(
     replica: ReplicaId,
     nonce: u64,
     timestamp: Timestamp,
-    digest: &'a [u8; 32],
+    digest: &'a [u8; DIGEST],
     entry_count: u8,
-    entries: &'a [u8; 715],
+    entries: &'a [u8; ENTRIES_ROOM],
     client: ClientId,
 ) -> Encoded
     ensures { λ r. ⌜ Wrote (now (out .entry))
@@ -186,7 +190,7 @@ pub fn write_prepared(
     out: &mut [u8],
     replica: ReplicaId,
     timestamp: Timestamp,
-    digest: &[u8; 32],
+    digest: &[u8; DIGEST],
 ) -> Encoded
     ensures { λ r. ⌜ Wrote (now (out .entry)) (unsigned (PREPARED replica (number timestamp) (now (digest .entry)))) r (now (out .exit)) ⌝ }
 {
@@ -211,12 +215,12 @@ pub fn write_card<'a>(
     out: &mut [u8],
     replica: ReplicaId,
     nonce: u64,
-    card: &'a [u8; 17],
+    card: &'a [u8; CARD_ROOM],
     card_length: u8,
     timestamp: Timestamp,
-    digest: &'a [u8; 32],
+    digest: &'a [u8; DIGEST],
     entry_count: u8,
-    entries: &'a [u8; 715],
+    entries: &'a [u8; ENTRIES_ROOM],
     client: ClientId,
 ) -> Encoded
     ensures { λ r. ⌜ Wrote (now (out .entry))

@@ -9,7 +9,7 @@ use lib.Dec.{eqb}
 use lib.ListN.{getD}
 use Rattle.base.specs.Outcome.{Outcome, accepted, refused}
 use Rattle.base.specs.declared.timestamp.Timestamp.{Timestamp}
-use Rattle.protocol.specs.Client.{Answer, send, counted, done, ended}
+use Rattle.protocol.specs.Client.{Answer, send, waits, done, ended}
 use Rattle.wire.specs.Message.{Message, body}
 
 -- ---- Tests and what they say
@@ -22,7 +22,7 @@ no-test h = absurd (false≢true h)
 -- A message counts by the bytes that its signature covers.
 unfoldable pub code : Outcome Answer → List ℕ
 code (accepted (send message)) = 0 ∷ body message
-code (accepted counted) = 1 ∷ []
+code (accepted waits) = 1 ∷ []
 code (accepted (done timestamp card)) = 2 ∷ timestamp .count ∷ timestamp .client .0 ∷ card
 code (accepted ended) = 3 ∷ []
 code (refused number) = 4 ∷ number ∷ []
@@ -33,7 +33,7 @@ other-code a b xs ys test e = let heads : a ≡ b = cc in absurd (eqb-false a b 
 pub is-sent : (answer : Outcome Answer) (message : Message) → code answer ≡ code (accepted (send message)) → (m : Message) × (answer ≡ accepted (send m)) × (body m ≡ body message)
 unfolding code
 is-sent (accepted (send m)) message e = (m, refl, cc)
-is-sent (accepted counted) message e = other-code 1 0 [] (body message) refl e
+is-sent (accepted waits) message e = other-code 1 0 [] (body message) refl e
 is-sent (accepted (done timestamp card)) message e = other-code 2 0 (timestamp .count ∷ timestamp .client .0 ∷ card) (body message) refl e
 is-sent (accepted ended) message e = other-code 3 0 [] (body message) refl e
 is-sent (refused number) message e = other-code 4 0 (number ∷ []) (body message) refl e
@@ -41,12 +41,12 @@ is-sent (refused number) message e = other-code 4 0 (number ∷ []) (body messag
 pub is-done : (answer : Outcome Answer) (timestamp : Timestamp) (card : List ℕ) → code answer ≡ code (accepted (done timestamp card)) → answer ≡ accepted (done timestamp card)
 unfolding code
 is-done (accepted (send m)) timestamp card e = other-code 0 2 (body m) (timestamp .count ∷ timestamp .client .0 ∷ card) refl e
-is-done (accepted counted) timestamp card e = other-code 1 2 [] (timestamp .count ∷ timestamp .client .0 ∷ card) refl e
+is-done (accepted waits) timestamp card e = other-code 1 2 [] (timestamp .count ∷ timestamp .client .0 ∷ card) refl e
 is-done (accepted (done t c)) timestamp card e =
-    let counts : t .count ≡ timestamp .count = cc in
+    let counted : t .count ≡ timestamp .count = cc in
     let clients : t .client .0 ≡ timestamp .client .0 = cc in
     let cards : c ≡ card = cc in
-    λ i. accepted (done (record { count = counts i; client = record { 0 = clients i } }) (cards i))
+    λ i. accepted (done (record { count = counted i; client = record { 0 = clients i } }) (cards i))
 is-done (accepted ended) timestamp card e = other-code 3 2 [] (timestamp .count ∷ timestamp .client .0 ∷ card) refl e
 is-done (refused number) timestamp card e = other-code 4 2 (number ∷ []) (timestamp .count ∷ timestamp .client .0 ∷ card) refl e
 
@@ -54,14 +54,14 @@ pub is-accepted : (answer : Outcome Answer) (told : Answer) → code answer ≡ 
 unfolding code
 is-accepted (accepted a) told e = (a, refl)
 is-accepted (refused number) (send message) e = other-code 4 0 (number ∷ []) (body message) refl e
-is-accepted (refused number) counted e = other-code 4 1 (number ∷ []) [] refl e
+is-accepted (refused number) waits e = other-code 4 1 (number ∷ []) [] refl e
 is-accepted (refused number) (done timestamp card) e = other-code 4 2 (number ∷ []) (timestamp .count ∷ timestamp .client .0 ∷ card) refl e
 is-accepted (refused number) ended e = other-code 4 3 (number ∷ []) [] refl e
 
 pub is-refused : (answer : Outcome Answer) (number : ℕ) → code answer ≡ code (refused number) → answer ≡ refused number
 unfolding code
 is-refused (accepted (send message)) number e = other-code 0 4 (body message) (number ∷ []) refl e
-is-refused (accepted counted) number e = other-code 1 4 [] (number ∷ []) refl e
+is-refused (accepted waits) number e = other-code 1 4 [] (number ∷ []) refl e
 is-refused (accepted (done timestamp card)) number e = other-code 2 4 (timestamp .count ∷ timestamp .client .0 ∷ card) (number ∷ []) refl e
 is-refused (accepted ended) number e = other-code 3 4 [] (number ∷ []) refl e
 is-refused (refused other) number e = let same : other ≡ number = cc in λ i. refused (same i)
@@ -82,10 +82,10 @@ goesOn numbers = not (eqb (getD numbers 0 0) 2 || eqb (getD numbers 0 0) 3)
 abbrev pub isCounted : List ℕ → Bool
 isCounted numbers = eqb (getD numbers 0 0) 1
 
-pub is-counted : (answer : Outcome Answer) → isCounted (code answer) ≡ true → answer ≡ accepted counted
+pub is-counted : (answer : Outcome Answer) → isCounted (code answer) ≡ true → answer ≡ accepted waits
 unfolding code
 is-counted (accepted (send message)) h = no-test h
-is-counted (accepted counted) h = refl
+is-counted (accepted waits) h = refl
 is-counted (accepted (done timestamp card)) h = no-test h
 is-counted (accepted ended) h = no-test h
 is-counted (refused number) h = no-test h

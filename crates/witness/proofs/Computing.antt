@@ -9,23 +9,23 @@ use Rattle.base.specs.Same.{same}
 use Rattle.protocol.specs.Client.{gathered, beginWrite, beginRead, afterStamp, onStamp, afterPrepared, onPrepared, afterWritten, afterWriteBack, onWritten, afterCard, onCard, clientStep, onReply}
 use Rattle.protocol.specs.Replica.{freshRegister, afterPrepare, afterWrite, replicaStep, onRequest}
 use Rattle.run.specs.Run.{replicaAt, clientAt, answerTo}
-use Rattle.wire.specs.Card.{table, readFields, goodMap, readCard}
+use Rattle.wire.specs.Card.{table, readFields, goodCardMap, readCard}
 use Rattle.wire.specs.Acceptance.{admits, admitted}
 use Rattle.wire.specs.Checks.{entriesOf, all, oneEach, shaped, proven, checked, proofOutcome}
 use Rattle.wire.specs.Decode.{decode, kinds, ofKind, framed}
 use Rattle.wire.specs.Layout.{rules, place, field}
 use Rattle.wire.specs.Message.{fields, joined, body, encode}
 use Rattle.wire.specs.Proof.{entriesBytes, preparedBytes, writtenBytes, readEntries, readPrepared, readWritten}
-use Rattle.wire.specs.Sha256.{Ch, Maj, Σ₀, Σ₁, σ₀, σ₁, K, H⁰, zeros, padded, wordOf, words, nextWord, schedule, T₁, T₂, rounds, nextHash, compress, hashValue, hashBytes, sha256}
+use Rattle.wire.specs.Sha256.{Ch, Maj, Σ₀, Σ₁, σ₀, σ₁, K, H⁰, paddingZeros, padded, wordOf, words, nextWord, schedule, T₁, T₂, rounds, nextHash, compress, hashValue, hashBytes, sha256}
 
 unfoldable pub messages : Unit {0}
 unfolding fromBytes toBytes guard within same rules place field kinds ofKind framed decode fields joined body encode entriesBytes preparedBytes writtenBytes readEntries readPrepared readWritten
 messages = tt
 
 unfoldable pub steps : Unit {0}
-unfolding messages count has with rising entriesOf all oneEach shaped proven checked admits admitted proofOutcome table readFields goodMap readCard freshRegister afterPrepare afterWrite onRequest replicaStep gathered beginWrite beginRead afterStamp onStamp afterPrepared onPrepared afterWritten afterWriteBack onWritten afterCard onCard onReply clientStep replicaAt clientAt answerTo
+unfolding messages count has with rising entriesOf all oneEach shaped proven checked admits admitted proofOutcome table readFields goodCardMap readCard freshRegister afterPrepare afterWrite onRequest replicaStep gathered beginWrite beginRead afterStamp onStamp afterPrepared onPrepared afterWritten afterWriteBack onWritten afterCard onCard onReply clientStep replicaAt clientAt answerTo
 steps = tt
 
 unfoldable pub digests : Unit {0}
-unfolding fromBytes toBytes Ch Maj Σ₀ Σ₁ σ₀ σ₁ K H⁰ zeros padded wordOf words nextWord schedule T₁ T₂ rounds nextHash compress hashValue hashBytes sha256
+unfolding fromBytes toBytes Ch Maj Σ₀ Σ₁ σ₀ σ₁ K H⁰ paddingZeros padded wordOf words nextWord schedule T₁ T₂ rounds nextHash compress hashValue hashBytes sha256
 digests = tt

@@ -11,7 +11,7 @@ use Rattle.base.specs.Range.{within}
 use Rattle.base.specs.declared.party.ClientId.{ClientId}
 use Rattle.base.specs.declared.party.ReplicaId.{ReplicaId}
 use Rattle.base.specs.declared.timestamp.Timestamp.{Timestamp}
-use Rattle.protocol.specs.Client.{send, counted, done}
+use Rattle.protocol.specs.Client.{send, waits, done}
 use Rattle.protocol.specs.Parts.{startCard}
 use Rattle.run.proofs.Demand3.{demand-3}
 use Rattle.run.specs.Claims.{Finished, Genuine, Claims}
@@ -139,27 +139,27 @@ story =
     begins-write client-1 service ↝ send asks-stamp
     ∷ to-replica replica-1 (from-client client-1 asks-stamp) one ↝ send (stamp replica-1)
     ∷ to-replica replica-2 (from-client client-1 asks-stamp) one ↝ send (stamp replica-2)
-    ∷ to-client client-1 (from-replica replica-1 stamp) one ↝ counted
-    ∷ to-client client-1 (from-replica replica-2 stamp) one ↝ counted
+    ∷ to-client client-1 (from-replica replica-1 stamp) one ↝ waits
+    ∷ to-client client-1 (from-replica replica-2 stamp) one ↝ waits
     ∷ to-client client-1 (from-replica replica-4 stamp) one ↝ send prepare
     -- 6 to 10: the PREPAREDs of replicas 1 and 2, and of replica 4: they are the proof.
     ∷ to-replica replica-1 (from-client client-1 prepare) one ↝ send (prepared replica-1)
     ∷ to-replica replica-2 (from-client client-1 prepare) one ↝ send (prepared replica-2)
-    ∷ to-client client-1 (from-replica replica-1 prepared) one ↝ counted
-    ∷ to-client client-1 (from-replica replica-2 prepared) one ↝ counted
+    ∷ to-client client-1 (from-replica replica-1 prepared) one ↝ waits
+    ∷ to-client client-1 (from-replica replica-2 prepared) one ↝ waits
     ∷ to-client client-1 (from-replica replica-4 prepared) one ↝ send write
     -- 11 to 15: the WRITTENs of replicas 1 and 2, and of replica 4: the write is done.
     ∷ to-replica replica-1 (from-client client-1 write) four ↝ send (written replica-1)
     ∷ to-replica replica-2 (from-client client-1 write) four ↝ send (written replica-2)
-    ∷ to-client client-1 (from-replica replica-1 written) one ↝ counted
-    ∷ to-client client-1 (from-replica replica-2 written) one ↝ counted
+    ∷ to-client client-1 (from-replica replica-1 written) one ↝ waits
+    ∷ to-client client-1 (from-replica replica-2 written) one ↝ waits
     ∷ to-client client-1 (from-replica replica-4 written) one ↝ done at-1·1 service
     -- 16 to 21: client 2 reads. Replicas 1, 2 and 4 show 1.1: it is done in one phase.
     ∷ begins-read client-2 ↝ send (asks-card client-2)
     ∷ to-replica replica-1 (from-client client-2 (asks-card client-2)) one ↝ send (shows client-2 replica-1)
     ∷ to-replica replica-2 (from-client client-2 (asks-card client-2)) one ↝ send (shows client-2 replica-2)
-    ∷ to-client client-2 (from-replica replica-1 (shows client-2)) four ↝ counted
-    ∷ to-client client-2 (from-replica replica-2 (shows client-2)) four ↝ counted
+    ∷ to-client client-2 (from-replica replica-1 (shows client-2)) four ↝ waits
+    ∷ to-client client-2 (from-replica replica-2 (shows client-2)) four ↝ waits
     ∷ to-client client-2 (from-replica replica-4 (shows client-2)) four ↝ done at-1·1 service
     -- 22 and 23: client 4 asks replica 3 for 1.4 with one digest, and then with another.
     ∷ to-replica replica-3 (from-client client-4 (asks-1·4 service-digest)) one ↝ send (PREPARED replica-3 1·4 service-digest)
@@ -168,15 +168,15 @@ story =
     ∷ begins-read client-3 ↝ send (asks-card client-3)
     ∷ to-replica replica-1 (from-client client-3 (asks-card client-3)) one ↝ send (shows client-3 replica-1)
     ∷ to-replica replica-2 (from-client client-3 (asks-card client-3)) one ↝ send (shows client-3 replica-2)
-    ∷ to-client client-3 (from-replica replica-1 (shows client-3)) four ↝ counted
-    ∷ to-client client-3 (from-replica replica-2 (shows client-3)) four ↝ counted
+    ∷ to-client client-3 (from-replica replica-1 (shows client-3)) four ↝ waits
+    ∷ to-client client-3 (from-replica replica-2 (shows client-3)) four ↝ waits
     ∷ to-client client-3 (from-replica replica-4 stale) one ↝ send write-back
     -- 30 to 35: before that is done client 2 begins a write. All show 1.1, so it asks for 2.2.
     ∷ begins-write client-2 lathe ↝ send asks-stamp-2
     ∷ to-replica replica-1 (from-client client-2 asks-stamp-2) one ↝ send (stamp-2 replica-1)
     ∷ to-replica replica-2 (from-client client-2 asks-stamp-2) one ↝ send (stamp-2 replica-2)
-    ∷ to-client client-2 (from-replica replica-1 stamp-2) four ↝ counted
-    ∷ to-client client-2 (from-replica replica-2 stamp-2) four ↝ counted
+    ∷ to-client client-2 (from-replica replica-1 stamp-2) four ↝ waits
+    ∷ to-client client-2 (from-replica replica-2 stamp-2) four ↝ waits
     ∷ to-client client-2 (from-replica replica-4 stamp-2) four ↝ send prepare-2
     -- 36 and 37: replica 3, which held 0.0, takes what client 3 writes back: the read is done, while the write goes on.
     ∷ to-replica replica-3 (from-client client-3 write-back) four ↝ send (written replica-3)
@@ -184,35 +184,35 @@ story =
     -- 38 to 42: the PREPAREDs of 2.2.
     ∷ to-replica replica-1 (from-client client-2 prepare-2) four ↝ send (prepared-2 replica-1)
     ∷ to-replica replica-2 (from-client client-2 prepare-2) four ↝ send (prepared-2 replica-2)
-    ∷ to-client client-2 (from-replica replica-1 prepared-2) one ↝ counted
-    ∷ to-client client-2 (from-replica replica-2 prepared-2) one ↝ counted
+    ∷ to-client client-2 (from-replica replica-1 prepared-2) one ↝ waits
+    ∷ to-client client-2 (from-replica replica-2 prepared-2) one ↝ waits
     ∷ to-client client-2 (from-replica replica-4 prepared-2) one ↝ send write-2
     -- 43 to 47: the WRITTENs of 2.2: the second write is done.
     ∷ to-replica replica-1 (from-client client-2 write-2) four ↝ send (written-2 replica-1)
     ∷ to-replica replica-2 (from-client client-2 write-2) four ↝ send (written-2 replica-2)
-    ∷ to-client client-2 (from-replica replica-1 written-2) one ↝ counted
-    ∷ to-client client-2 (from-replica replica-2 written-2) one ↝ counted
+    ∷ to-client client-2 (from-replica replica-1 written-2) one ↝ waits
+    ∷ to-client client-2 (from-replica replica-2 written-2) one ↝ waits
     ∷ to-client client-2 (from-replica replica-4 written-2) one ↝ done at-2·2 lathe
     -- 48 to 54: client 1 begins its second write, and is busy then. It asks for 3.1.
     ∷ begins-write client-1 service ↝ send asks-stamp-3
     ∷ begins-read client-1 ↛ 17
     ∷ to-replica replica-1 (from-client client-1 asks-stamp-3) one ↝ send (stamp-3 replica-1)
     ∷ to-replica replica-2 (from-client client-1 asks-stamp-3) one ↝ send (stamp-3 replica-2)
-    ∷ to-client client-1 (from-replica replica-1 stamp-3) four ↝ counted
-    ∷ to-client client-1 (from-replica replica-2 stamp-3) four ↝ counted
+    ∷ to-client client-1 (from-replica replica-1 stamp-3) four ↝ waits
+    ∷ to-client client-1 (from-replica replica-2 stamp-3) four ↝ waits
     ∷ to-client client-1 (from-replica replica-4 stamp-3) four ↝ send prepare-3
     -- 55 to 59: its slots at 1.1 are closed by its written proof, and take 3.1.
     ∷ to-replica replica-1 (from-client client-1 prepare-3) seven ↝ send (prepared-3 replica-1)
     ∷ to-replica replica-2 (from-client client-1 prepare-3) seven ↝ send (prepared-3 replica-2)
-    ∷ to-client client-1 (from-replica replica-1 prepared-3) one ↝ counted
-    ∷ to-client client-1 (from-replica replica-2 prepared-3) one ↝ counted
+    ∷ to-client client-1 (from-replica replica-1 prepared-3) one ↝ waits
+    ∷ to-client client-1 (from-replica replica-2 prepared-3) one ↝ waits
     ∷ to-client client-1 (from-replica replica-4 prepared-3) one ↝ send write-3
     -- 60 to 65: a WRITTEN in replica 2's name that it did not send has the verdict 0. Then the right ones come: the third write is done.
     ∷ to-replica replica-1 (from-client client-1 write-3) four ↝ send (written-3 replica-1)
     ∷ to-client client-1 (from-replica replica-2 written-3) not-genuine ↛ 8
     ∷ to-replica replica-2 (from-client client-1 write-3) four ↝ send (written-3 replica-2)
-    ∷ to-client client-1 (from-replica replica-1 written-3) one ↝ counted
-    ∷ to-client client-1 (from-replica replica-2 written-3) one ↝ counted
+    ∷ to-client client-1 (from-replica replica-1 written-3) one ↝ waits
+    ∷ to-client client-1 (from-replica replica-2 written-3) one ↝ waits
     ∷ to-client client-1 (from-replica replica-4 written-3) one ↝ done at-3·1 service
     -- 66: client 4 shows the proof of 1.1 with another card.
     ∷ to-replica replica-3 (from-client client-4 other-card) four ↛ 14
@@ -266,7 +266,7 @@ unfolding story code messages
 read = finished-told run story as-told false client-2 16 21 _ _ _ at-1·1 service refl refl (lit< tt) refl refl refl
 
 -- Client 2 sends nothing after its READ.
-pub in-one-phase : (t : ℕ) → 16 < t → t < 21 → At run t (client client-2) → answerAt run t ≡ accepted counted
+pub in-one-phase : (t : ℕ) → 16 < t → t < 21 → At run t (client client-2) → answerAt run t ≡ accepted waits
 unfolding story code messages
 in-one-phase = only-counted run story as-told client-2 16 21 refl
 

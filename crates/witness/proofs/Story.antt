@@ -19,7 +19,7 @@ use Rattle.base.specs.Same.{same}
 use Rattle.base.specs.declared.party.ClientId.{ClientId}
 use Rattle.base.specs.declared.party.ReplicaId.{ReplicaId}
 use Rattle.base.specs.declared.timestamp.Timestamp.{Timestamp}
-use Rattle.protocol.specs.Client.{Answer, send, counted, done, ended}
+use Rattle.protocol.specs.Client.{Answer, send, waits, done, ended}
 use Rattle.run.specs.Claims.{GoesOn, Begins, Finished, Genuine}
 use Rattle.run.specs.Premises.{TrueVerdicts, TrueFor, TrueAt, cardOf, CardOfRun}
 use Rattle.wire.specs.Acceptance.{Sender, replica, client}
@@ -197,7 +197,7 @@ same-party-self (client a) = eq-eqb (a .0) (a .0) refl
 
 abbrev sends : List ℕ → Bool → Outcome Answer → Bool
 sends bytes true (accepted (send message)) = same (body message) bytes
-sends bytes true (accepted counted) = false
+sends bytes true (accepted waits) = false
 sends bytes true (accepted (done timestamp card)) = false
 sends bytes true (accepted ended) = false
 sends bytes true (refused number) = false
@@ -206,7 +206,7 @@ sends bytes false answer = false
 message-sent : (bytes : List ℕ) (by : Bool) (answer : Outcome Answer) → sends bytes by answer ≡ true
     → (by ≡ true) × ((message : Message) × (answer ≡ accepted (send message)) × (body message ≡ bytes))
 message-sent bytes true (accepted (send message)) h = (refl, (message, refl, same-equal (body message) bytes h))
-message-sent bytes true (accepted counted) h = no-test h
+message-sent bytes true (accepted waits) h = no-test h
 message-sent bytes true (accepted (done timestamp card)) h = no-test h
 message-sent bytes true (accepted ended) h = no-test h
 message-sent bytes true (refused number) h = no-test h
@@ -386,7 +386,7 @@ module _ (R : Run) (lines : List Line) (told : Told R lines) where
       let goes-on = between goesOn (client id) begun finished all t after before at in
       record { not-done = λ timestamp card is. no-test (sym (ap goesOn (ap code is)) ∙ goes-on); not-ended = λ is. no-test (sym (ap goesOn (ap code is)) ∙ goes-on) }
 
-  pub only-counted : (id : ClientId) (begun finished : ℕ) → AllBetween lines isCounted (client id) begun finished → (t : ℕ) → begun < t → t < finished → At R t (client id) → answerAt R t ≡ accepted counted
+  pub only-counted : (id : ClientId) (begun finished : ℕ) → AllBetween lines isCounted (client id) begun finished → (t : ℕ) → begun < t → t < finished → At R t (client id) → answerAt R t ≡ accepted waits
   only-counted id begun finished all t after before at = is-counted (answerAt R t) (between isCounted (client id) begun finished all t after before at)
 
   -- ---- What a line says of the run

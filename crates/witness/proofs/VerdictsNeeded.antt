@@ -12,7 +12,7 @@ use Rattle.base.specs.Range.{within}
 use Rattle.base.specs.Timestamp.{start}
 use Rattle.base.specs.declared.party.ReplicaId.{ReplicaId}
 use Rattle.base.specs.declared.timestamp.Timestamp.{Timestamp}
-use Rattle.protocol.specs.Client.{send, counted, done}
+use Rattle.protocol.specs.Client.{send, waits, done}
 use Rattle.protocol.specs.Parts.{startCard}
 use Rattle.run.proofs.Demand3.{demand-3}
 use Rattle.run.specs.Claims.{Finished, Claims}
@@ -51,12 +51,12 @@ stale id = CARD id 1 startCard none client-2
 story : List Line
 story =
     begins-read client-1 ↝ send (READ client-1 1)
-    ∷ to-client client-1 (from-replica replica-1 later) four ↝ counted
-    ∷ to-client client-1 (from-replica replica-2 later) four ↝ counted
+    ∷ to-client client-1 (from-replica replica-1 later) four ↝ waits
+    ∷ to-client client-1 (from-replica replica-2 later) four ↝ waits
     ∷ to-client client-1 (from-replica replica-3 later) four ↝ done timestamp service
     ∷ begins-read client-2 ↝ send (READ client-2 1)
-    ∷ to-client client-2 (from-replica replica-1 stale) one ↝ counted
-    ∷ to-client client-2 (from-replica replica-2 stale) one ↝ counted
+    ∷ to-client client-2 (from-replica replica-1 stale) one ↝ waits
+    ∷ to-client client-2 (from-replica replica-2 stale) one ↝ waits
     ∷ to-client client-2 (from-replica replica-3 stale) one ↝ done start startCard
     ∷ []
 

@@ -1,5 +1,6 @@
 -- `text::print_hex` meets its contract. Assumes nothing.
 use Prim.Native.Nat.{_-_}
+use native.Mathlib.Omega.{arith}
 use borrow.Author.Needs.{needs}
 use lib.ListN.{length}
 use Rattle.text.proofs.print_hex.Statement.{statement}
@@ -11,6 +12,9 @@ Inv-loop bytes i₀ i = Unit {0}
 abbrev μ-loop : tie.MeasureT-loop
 μ-loop bytes i₀ i = length bytes - i
 
+capital-digit-requires : tie.Need-capital-digit-requires Inv-loop μ-loop
+capital-digit-requires c κs = omega (arith, c .shared-slice-known2 .given (c .before .before .loop .i))
+
 pub print-hex-spec : {M : Type 1} → statement M
 print-hex-spec =
     tie.close
@@ -18,6 +22,9 @@ print-hex-spec =
     Inv-loop
     μ-loop
     (λ c. search needs)
+    (λ c. search needs)
+    capital-digit-requires
+    (λ c κs. search needs)
     (λ c. search needs)
     (λ c κs. search needs)
     (λ c. search needs)

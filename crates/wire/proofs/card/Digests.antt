@@ -10,7 +10,7 @@ use lib.ListN.{length}
 use Rattle.base.specs.Outcome.{accepted}
 use Rattle.base.proofs.Outcome.{guard-passes, guard-refuses}
 use Rattle.wire.specs.Card.{Fields, readCard, isSome, isCard, checkCard, cardOutcome}
-use Rattle.wire.specs.Sha256.{answer, digestOf, longestMessage}
+use Rattle.wire.specs.Sha256.{answer, digestOf, longestInput}
 use Rattle.wire.specs.declared.card.CardCheck.{CardCheck}
 use Rattle.wire.specs.declared.card.CardCheck.the-variants.{Good, Refused}
 use Rattle.wire.proofs.card.RoundTrip.{at-most-17}
@@ -40,4 +40,4 @@ card-short card h = go (readCard card) refl
 -- A good card is short enough for the digest routine.
 pub good-digest : (card : List ℕ) → isCard card ≡ true → digestOf card ≡ answer true card
 unfolding digestOf
-good-digest card h = let short = card-short card h in rw (le-leb (length card) longestMessage (omega arith))
+good-digest card h = let short = card-short card h in rw (le-leb (length card) longestInput (omega arith))

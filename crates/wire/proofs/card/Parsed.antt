@@ -15,7 +15,7 @@ use Rattle.base.specs.Range.{within}
 use Rattle.base.proofs.Booleans.{and-true-both}
 use Rattle.base.specs.BitMap.{mapOf}
 use Rattle.wire.specs.declared.card.Row.{Row}
-use Rattle.wire.specs.Card.{table, Fields, prepend, prependPresent, standing, readFields, goodMap, readCard, isSome, cardOutcome, readAnswer}
+use Rattle.wire.specs.Card.{table, Fields, prepend, prependPresent, standing, readFields, goodCardMap, readCard, isSome, cardOutcome, readAnswer}
 
 module _ (row : Row) (bytes : List ℕ) where
   pub too-short : length bytes < row .width → standing row bytes ≡ none
@@ -103,8 +103,8 @@ mapped ended h = omega arith
 mapped (missing {rows = rows} {map = map} even r) h = let more = pow-suc 2 (length rows) in let rest = mapped r (omega arith) in omega arith
 mapped (present {rows = rows} {map = map} odd v r) h = let more = pow-suc 2 (length rows) in let rest = mapped r (omega arith) in omega arith
 
-pub good-small : (map : ℕ) → goodMap map ≡ true → map < 128
-unfolding goodMap
+pub good-small : (map : ℕ) → goodCardMap map ≡ true → map < 128
+unfolding goodCardMap
 good-small map good = ltb-true map 128 (and-true-both (ltb map 128) (eqb (map % 2) (map / 2 % 2)) good .0)
 
 module _ (card : List ℕ) where
@@ -113,11 +113,11 @@ module _ (card : List ℕ) where
   without-map h = rw (lt-leb 2 (length card) h)
 
   module _ (map : ℕ) (is-map : map ≡ fromBytes (take 2 card)) (h : 2 ≤ length card) where
-    pub with-bad-map : goodMap map ≡ false → readCard card ≡ none
+    pub with-bad-map : goodCardMap map ≡ false → readCard card ≡ none
     unfolding readCard
     with-bad-map bad = rw (le-leb 2 (length card) h, ← is-map, bad)
 
-    pub with-good-map : goodMap map ≡ true → readCard card ≡ readFields table map (drop 2 card)
+    pub with-good-map : goodCardMap map ≡ true → readCard card ≡ readFields table map (drop 2 card)
     unfolding readCard
     with-good-map good = rw (le-leb 2 (length card) h, ← is-map, good)
 

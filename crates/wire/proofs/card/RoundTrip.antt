@@ -16,7 +16,7 @@ use Rattle.base.proofs.Booleans.{and-true-both}
 use Rattle.base.proofs.Range.{bounds}
 use Rattle.base.specs.BitMap.{mapOf}
 use Rattle.wire.specs.declared.card.Row.{Row}
-use Rattle.wire.specs.Card.{table, Fields, standing, readFields, goodMap, readCard, writeFields, writeCard, inRange, legalFields, fieldsRecord, fieldsOf, cardRead}
+use Rattle.wire.specs.Card.{table, Fields, standing, readFields, goodCardMap, readCard, writeFields, writeCard, inRange, legalFields, fieldsRecord, fieldsOf, cardRead}
 use Rattle.wire.proofs.card.Parsed.{ReadAs, ended, missing, present, read-as, mapped, stood, stands, field-missing, field-present, good-small, with-good-map}
 
 -- Each row's values fit its bytes.
@@ -67,7 +67,7 @@ fields-written (row ∷ rows) (some value ∷ fields) fit legal =
 pub read-write : (fields : Fields) → legalFields fields ≡ true → readCard (writeCard fields) ≡ some fields
 unfolding legalFields writeCard
 read-write fields legal =
-    let both = and-true-both (inRange table fields) (goodMap (mapOf fields)) legal in
+    let both = and-true-both (inRange table fields) (goodCardMap (mapOf fields)) legal in
     let small = good-small (mapOf fields) (both .1) in
     let front = toBytes 2 (mapOf fields) in
     let two = length-toBytes 2 (mapOf fields) in
@@ -97,20 +97,20 @@ written (present {row = row} {bytes = bytes} {value = value} odd s r) small =
 -- What a good card shows: a good map, and its fields behind it.
 pub record GoodCard (card : List ℕ) (fields : Fields) : Type 0 where
   pub whole : 2 ≤ length card
-  pub good : goodMap (fromBytes (take 2 card)) ≡ true
+  pub good : goodCardMap (fromBytes (take 2 card)) ≡ true
   pub map-is : mapOf fields ≡ fromBytes (take 2 card)
   pub behind : ReadAs table (fromBytes (take 2 card)) (drop 2 card) fields
 
 pub good-card : (card : List ℕ) (fields : Fields) → readCard card ≡ some fields → GoodCard card fields
 unfolding readCard table
-good-card card fields e = go (leb 2 (length card) && goodMap map) refl e
+good-card card fields e = go (leb 2 (length card) && goodCardMap map) refl e
   where
     map : ℕ
     map = fromBytes (take 2 card)
 
-    go : (b : Bool) → (leb 2 (length card) && goodMap map) ≡ b → cond b (readFields table map (drop 2 card)) none ≡ some fields → GoodCard card fields
+    go : (b : Bool) → (leb 2 (length card) && goodCardMap map) ≡ b → cond b (readFields table map (drop 2 card)) none ≡ some fields → GoodCard card fields
     go true t k =
-        let both = and-true-both (leb 2 (length card)) (goodMap map) t in
+        let both = and-true-both (leb 2 (length card)) (goodCardMap map) t in
         let r = read-as table map (drop 2 card) fields k in
         record { whole = leb-true 2 (length card) (both .0); good = both .1; map-is = mapped r (good-small map (both .1)); behind = r }
     go false t k = let z : _≡_ {A = ℕ} 0 1 = cc in absurd (omega arith)
@@ -146,12 +146,12 @@ abbrev pub longest : Fields
 longest = some 9_000 ∷ some 4_000 ∷ some 350 ∷ some 150 ∷ some 2_000_000 ∷ some 4 ∷ some 65_535 ∷ []
 
 pub some-17 : (card : List ℕ) × (readCard card ≡ some longest) × (length card ≡ 17)
-unfolding table inRange within goodMap legalFields writeCard writeFields toBytes
+unfolding table inRange within goodCardMap legalFields writeCard writeFields toBytes
 some-17 = (writeCard longest, read-write longest refl, refl)
 
 -- "The starting card is 00 00": good, with no field.
 pub starting : readCard (0 ∷ 0 ∷ []) ≡ some (replicate 7 none)
-unfolding readCard readFields table goodMap fromBytes
+unfolding readCard readFields table goodCardMap fromBytes
 starting = refl
 
 -- The record of a card's fields tells them.

@@ -1,22 +1,10 @@
 // The words of a padded message (FIPS 180-4, sections 5.1.1 and 5.2.1), made one by one: the padded message stands nowhere.
-ghost use mathlib.Core.List.{[], _∷_};
+use base::big_endian::from_four;
 ghost use mathlib.Core.Path.{_≡_};
 ghost use Prim.Native.Nat.{_+_, _-_, _*_, _/_, _%_, _≤_, _<_, min};
 ghost use lib.ListN.{length, take, drop};
 ghost use Rattle.base.specs.BigEndian.{fromBytes};
-ghost use Rattle.wire.specs.Sha256.{longestMessage, padded, block, blockCount, words};
-
-fn wide(x: u8) -> u32
-    ensures { λ r. ⌜ r ≡ x ⌝ }
-{
-    x as u32
-}
-
-fn word(a: u8, b: u8, c: u8, d: u8) -> u32
-    ensures { λ r. ⌜ r ≡ fromBytes (a ∷ b ∷ c ∷ d ∷ []) ⌝ }
-{
-    wide(a) * 0x100_0000 + wide(b) * 0x1_0000 + wide(c) * 0x100 + wide(d)
-}
+ghost use Rattle.wire.specs.Sha256.{longestInput, padded, block, blockCount, words};
 
 // How many words of the block that starts at `start` are the message's alone.
 fn full_words(length: usize, start: usize) -> usize
@@ -31,7 +19,7 @@ fn full_words(length: usize, start: usize) -> usize
 
 // The word that starts at `at` of the padded message, of `total` bytes, if the message does not fill it.
 fn padding_word(message: &[u8], at: usize, total: usize) -> u32
-    requires { ⌜ (length (now message) ≤ longestMessage) × (length (now message) < at + 4) × (at % 4 ≡ 0) × (at + 4 ≤ total) × (total ≡ 64 * blockCount (length (now message))) ⌝ }
+    requires { ⌜ (length (now message) ≤ longestInput) × (length (now message) < at + 4) × (at % 4 ≡ 0) × (at + 4 ≤ total) × (total ≡ 64 * blockCount (length (now message))) ⌝ }
     ensures { λ r. ⌜ r ≡ fromBytes (take 4 (drop at (padded (now (message .entry))))) ⌝ }
 {
     let n = message.len();
@@ -42,15 +30,15 @@ fn padding_word(message: &[u8], at: usize, total: usize) -> u32
         return (8 * n) as u32;
     }
     if n < at + 1 {
-        return word(0x80, 0, 0, 0);
+        return from_four(0x80, 0, 0, 0);
     }
     if n < at + 2 {
-        return word(message[at], 0x80, 0, 0);
+        return from_four(message[at], 0x80, 0, 0);
     }
     if n < at + 3 {
-        return word(message[at], message[at + 1], 0x80, 0);
+        return from_four(message[at], message[at + 1], 0x80, 0);
     }
-    word(message[at], message[at + 1], message[at + 2], 0x80)
+    from_four(message[at], message[at + 1], message[at + 2], 0x80)
 }
 
 // The first words of block i, which the message fills.
@@ -61,7 +49,7 @@ fn load_message(message: &[u8], i: usize, full: usize, w: &mut [u32; 64])
     let mut j: usize = 0;
     while j < full {
         let at = 64 * i + 4 * j;
-        w[j] = word(
+        w[j] = from_four(
             message[at],
             message[at + 1],
             message[at + 2],
@@ -73,7 +61,7 @@ fn load_message(message: &[u8], i: usize, full: usize, w: &mut [u32; 64])
 
 // The other words of block i, of `blocks` blocks.
 fn load_padding(message: &[u8], i: usize, blocks: usize, full: usize, w: &mut [u32; 64])
-    requires { ⌜ (length (now message) ≤ longestMessage) × (i < blocks) × (blocks ≡ blockCount (length (now message))) × (full ≡ min 16 ((length (now message) - 64 * i) / 4)) × (length (now w) ≡ 64) × (take full (now w) ≡ words (block (padded (now message)) i) full) ⌝ }
+    requires { ⌜ (length (now message) ≤ longestInput) × (i < blocks) × (blocks ≡ blockCount (length (now message))) × (full ≡ min 16 ((length (now message) - 64 * i) / 4)) × (length (now w) ≡ 64) × (take full (now w) ≡ words (block (padded (now message)) i) full) ⌝ }
     ensures { λ _. ⌜ (length (now (w .exit)) ≡ 64) × (take 16 (now (w .exit)) ≡ words (block (padded (now (message .entry))) i) 16) ⌝ }
 {
     let mut j: usize = full;
@@ -85,7 +73,7 @@ fn load_padding(message: &[u8], i: usize, blocks: usize, full: usize, w: &mut [u
 
 // The 16 words of block i, of `blocks` blocks, at the front of w.
 pub(super) fn load(message: &[u8], i: usize, blocks: usize, w: &mut [u32; 64])
-    requires { ⌜ (length (now message) ≤ longestMessage) × (i < blocks) × (blocks ≡ blockCount (length (now message))) × (length (now w) ≡ 64) ⌝ }
+    requires { ⌜ (length (now message) ≤ longestInput) × (i < blocks) × (blocks ≡ blockCount (length (now message))) × (length (now w) ≡ 64) ⌝ }
     ensures { λ _. ⌜ (length (now (w .exit)) ≡ 64) × (take 16 (now (w .exit)) ≡ words (block (padded (now (message .entry))) i) 16) ⌝ }
 {
     let full = full_words(message.len(), 64 * i);

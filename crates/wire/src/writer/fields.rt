@@ -1,4 +1,9 @@
 // The fields of a message: each function stores one from a place on and answers the place behind it.
+use crate::layout::CARD_ROOM;
+use crate::layout::DIGEST;
+use crate::layout::LONGEST_CARD;
+use crate::layout::SIGNATURE;
+use crate::layout::TIMESTAMP;
 use base::timestamp::Timestamp;
 ghost use mathlib.Core.Path.{_≡_};
 ghost use mathlib.Core.List.{[], _∷_, _++_};
@@ -6,7 +11,8 @@ ghost use Prim.Native.Nat.{_+_, _≤_, _<_, min};
 ghost use lib.ListN.{length, take};
 ghost use Rattle.base.specs.BigEndian.{toBytes};
 ghost use Rattle.base.specs.Timestamp.{number};
-ghost use Rattle.wire.specs.Writing.{Put, zeros, sizedCard, keptCard};
+ghost use Rattle.wire.specs.Putting.{Put, sizedCard};
+ghost use Rattle.wire.specs.Writing.{blankSignature, keptCard};
 
 // The first `count` of some bytes.
 pub(super) fn put_bytes(out: &mut [u8], at: usize, bytes: &[u8], count: usize) -> usize
@@ -80,22 +86,22 @@ pub(super) fn put_timestamp(out: &mut [u8], at: usize, timestamp: Timestamp) -> 
     ensures { λ r. ⌜ Put (now (out .entry)) at (toBytes 5 (number timestamp)) 5 r (now (out .exit)) ⌝ }
 {
     let bytes = timestamp.to_bytes();
-    put_bytes(out, at, &bytes, 5)
+    put_bytes(out, at, &bytes, TIMESTAMP)
 }
 
 // By value: what is the function's own cannot overlap the output, so the compiler copies it whole and not byte by byte.
-fn put_digest(out: &mut [u8], at: usize, digest: [u8; 32]) -> usize
+fn put_digest(out: &mut [u8], at: usize, digest: [u8; DIGEST]) -> usize
     requires { ⌜ at + 32 ≤ length (now out) ⌝ }
     ensures { λ r. ⌜ Put (now (out .entry)) at digest 32 r (now (out .exit)) ⌝ }
 {
-    put_bytes(out, at, &digest, 32)
+    put_bytes(out, at, &digest, DIGEST)
 }
 
 pub(super) fn put_timestamp_and_digest(
     out: &mut [u8],
     at: usize,
     timestamp: Timestamp,
-    digest: &[u8; 32],
+    digest: &[u8; DIGEST],
 ) -> usize
     requires { ⌜ at + 37 ≤ length (now out) ⌝ }
     ensures { λ r. ⌜ Put (now (out .entry)) at (toBytes 5 (number timestamp) ++ now (digest .entry)) 37 r (now (out .exit)) ⌝ }
@@ -107,27 +113,27 @@ pub(super) fn put_timestamp_and_digest(
 // The sender's own signature: zeros, for the signing box to fill.
 pub(super) fn put_signature(out: &mut [u8], at: usize) -> usize
     requires { ⌜ at + 64 ≤ length (now out) ⌝ }
-    ensures { λ r. ⌜ Put (now (out .entry)) at zeros 64 r (now (out .exit)) ⌝ }
+    ensures { λ r. ⌜ Put (now (out .entry)) at blankSignature 64 r (now (out .exit)) ⌝ }
 {
-    let signature = [0u8; 64];
-    put_bytes(out, at, &signature, 64)
+    let signature = [0u8; SIGNATURE];
+    put_bytes(out, at, &signature, SIGNATURE)
 }
 
 // The client addressed, and the signature behind it.
 pub(super) fn put_addressed(out: &mut [u8], at: usize, client: u8) -> usize
     requires { ⌜ at + 65 ≤ length (now out) ⌝ }
-    ensures { λ r. ⌜ Put (now (out .entry)) at (toBytes 1 client ++ zeros) 65 r (now (out .exit)) ⌝ }
+    ensures { λ r. ⌜ Put (now (out .entry)) at (toBytes 1 client ++ blankSignature) 65 r (now (out .exit)) ⌝ }
 {
     let behind = put_byte(out, at, client);
     put_signature(out, behind)
 }
 
 // A card behind its length.
-pub(super) fn put_card(out: &mut [u8], at: usize, card: &[u8; 17], card_length: u8) -> usize
+pub(super) fn put_card(out: &mut [u8], at: usize, card: &[u8; CARD_ROOM], card_length: u8) -> usize
     requires { ⌜ at + 18 ≤ length (now out) ⌝ }
     ensures { λ r. ⌜ Put (now (out .entry)) at (sizedCard (keptCard «card_length» (now (card .entry)))) 18 r (now (out .exit)) ⌝ }
 {
-    let count = at_most(17, card_length);
+    let count = at_most(LONGEST_CARD, card_length);
     let behind = put_byte(out, at, count);
     put_bytes(out, behind, card, count as usize)
 }

@@ -4,6 +4,8 @@ use super::fields::put_byte;
 use super::fields::put_bytes;
 use super::fields::put_timestamp;
 use super::fields::put_timestamp_and_digest;
+use crate::layout::DIGEST;
+use crate::layout::ENTRIES_ROOM;
 use crate::layout::ENTRY;
 use crate::layout::MOST_ENTRIES;
 use base::timestamp::Timestamp;
@@ -12,10 +14,11 @@ ghost use mathlib.Core.Bool.{cond};
 ghost use Prim.Native.Nat.{_+_, _≤_};
 ghost use lib.ListN.{length};
 ghost use Rattle.wire.specs.Proof.{countedEntries, preparedBytes, writtenBytes};
-ghost use Rattle.wire.specs.Writing.{Put, keptEntries, keptPrepared, keptWritten, missing, bytesUnless};
+ghost use Rattle.wire.specs.Putting.{Put, bytesUnless};
+ghost use Rattle.wire.specs.Writing.{keptEntries, keptPrepared, keptWritten, missing};
 
 // The number of entries, and the entries.
-fn put_entries(out: &mut [u8], at: usize, entry_count: u8, entries: &[u8; 715]) -> usize
+fn put_entries(out: &mut [u8], at: usize, entry_count: u8, entries: &[u8; ENTRIES_ROOM]) -> usize
     requires { ⌜ at + 716 ≤ length (now out) ⌝ }
     ensures { λ r. ⌜ Put (now (out .entry)) at (countedEntries (keptEntries «entry_count» (now (entries .entry)))) 716 r (now (out .exit)) ⌝ }
 {
@@ -28,9 +31,9 @@ pub(super) fn put_prepared<'a>(
     out: &mut [u8],
     at: usize,
     timestamp: Timestamp,
-    digest: &'a [u8; 32],
+    digest: &'a [u8; DIGEST],
     entry_count: u8,
-    entries: &'a [u8; 715],
+    entries: &'a [u8; ENTRIES_ROOM],
 ) -> usize
     requires { ⌜ at + 753 ≤ length (now out) ⌝ }
     ensures { λ r. ⌜ Put (now (out .entry)) at (preparedBytes (keptPrepared timestamp (now (digest .entry)) «entry_count» (now (entries .entry)))) 753 r (now (out .exit)) ⌝ }
@@ -44,7 +47,7 @@ fn put_written(
     at: usize,
     timestamp: Timestamp,
     entry_count: u8,
-    entries: &[u8; 715],
+    entries: &[u8; ENTRIES_ROOM],
 ) -> usize
     requires { ⌜ at + 721 ≤ length (now out) ⌝ }
     ensures { λ r. ⌜ Put (now (out .entry)) at (writtenBytes (keptWritten timestamp «entry_count» (now (entries .entry)))) 721 r (now (out .exit)) ⌝ }
@@ -70,9 +73,9 @@ pub(super) fn put_prepared_unless_missing<'a>(
     out: &mut [u8],
     at: usize,
     timestamp: Timestamp,
-    digest: &'a [u8; 32],
+    digest: &'a [u8; DIGEST],
     entry_count: u8,
-    entries: &'a [u8; 715],
+    entries: &'a [u8; ENTRIES_ROOM],
 ) -> usize
     requires { ⌜ at + 753 ≤ length (now out) ⌝ }
     ensures { λ r. ⌜ Put (now (out .entry)) at (bytesUnless (missing timestamp) (preparedBytes (keptPrepared timestamp (now (digest .entry)) «entry_count» (now (entries .entry))))) 753 r (now (out .exit)) ⌝ }
@@ -88,7 +91,7 @@ pub(super) fn put_written_unless_missing(
     at: usize,
     timestamp: Timestamp,
     entry_count: u8,
-    entries: &[u8; 715],
+    entries: &[u8; ENTRIES_ROOM],
 ) -> usize
     requires { ⌜ at + 721 ≤ length (now out) ⌝ }
     ensures { λ r. ⌜ Put (now (out .entry)) at (bytesUnless (missing timestamp) (writtenBytes (keptWritten timestamp «entry_count» (now (entries .entry))))) 721 r (now (out .exit)) ⌝ }

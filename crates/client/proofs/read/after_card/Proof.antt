@@ -13,7 +13,7 @@ returns : tie.Need-returns
 unfolding afterCard
 returns c =
     let a = c .before .before .before .before .before .args in
-    λ before. rw (sym (c .before .before .before .is-quorum .ensures) ∙ not-true _ (c .before .before .if1 .taken)) (plain-call (c .plain .result) (a .out .now) (withPhase (Cards (a .nonce) (a .best) (a .counts) (a .showed)) (a .client)) Counted (rw (c .before .with-phase .ensures) at (c .plain .ensures)))
+    λ before. rw (sym (c .before .before .before .is-quorum .ensures) ∙ not-true _ (c .before .before .if1 .taken)) (plain-call (c .plain .result) (a .out .now) (withPhase (Cards (a .nonce) (a .best) (a .counted) (a .showed)) (a .client)) Counted (rw (c .before .with-phase .ensures) at (c .plain .ensures)))
 
 returns-2 : tie.Need-returns-2
 unfolding afterCard

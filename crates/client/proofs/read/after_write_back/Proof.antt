@@ -13,7 +13,7 @@ returns : tie.Need-returns
 unfolding afterWriteBack
 returns c =
     let a = c .before .before .before .before .args in
-    λ old before. rw (sym (c .before .before .before .is-quorum .ensures) ∙ not-true _ (c .before .before .if1 .taken)) (plain-call (c .plain .result) old (withPhase (WriteBack (a .timestamp) (a .counts)) (a .client)) Counted (rw (c .before .with-phase .ensures) at (c .plain .ensures)))
+    λ old before. rw (sym (c .before .before .before .is-quorum .ensures) ∙ not-true _ (c .before .before .if1 .taken)) (plain-call (c .plain .result) old (withPhase (WriteBack (a .timestamp) (a .counted)) (a .client)) Counted (rw (c .before .with-phase .ensures) at (c .plain .ensures)))
 
 returns-2 : tie.Need-returns-2
 unfolding afterWriteBack

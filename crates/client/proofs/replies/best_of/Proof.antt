@@ -11,7 +11,7 @@ returns c =
     let s = c .before .before .before .before in
     let proof = s .args .proof .now in
     let t = c .before .before .timestamp in
-    let later = compared (s .args .best) (t .result) proof (s .pre) (t .ensures) (c .before .is-before .result) (c .before .is-before .ensures) in
+    let later = compared (s .args .best) (t .result) proof (s .pre) (t .ensures) (c .before .is-before .result) (c .before .is-before .ensures .by-number) in
     rw (later ∙ c .if1 .taken) (t .ensures ∙ shown proof (s .pre))
 
 returns-2 : tie.Need-returns-2
@@ -19,7 +19,7 @@ returns-2 c =
     let s = c .before .before .before .before in
     let proof = s .args .proof .now in
     let t = c .before .before .timestamp in
-    let later = compared (s .args .best) (t .result) proof (s .pre) (t .ensures) (c .before .is-before .result) (c .before .is-before .ensures) in
+    let later = compared (s .args .best) (t .result) proof (s .pre) (t .ensures) (c .before .is-before .result) (c .before .is-before .ensures .by-number) in
     rw (later ∙ c .if1 .left)
 
 pub best-of-spec : {M : Type 1} → statement M

@@ -11,7 +11,7 @@ returns c =
     let s = d .before .before .before .before in
     let proof = s .args .proof .now in
     let t = d .before .before .timestamp in
-    let later = compared (s .args .best) (t .result) proof (s .pre) (t .ensures) (d .before .is-before .result) (d .before .is-before .ensures) in
+    let later = compared (s .args .best) (t .result) proof (s .pre) (t .ensures) (d .before .is-before .result) (d .before .is-before .ensures .by-number) in
     rw (later ∙ d .if1 .taken, ← c .before .empty .ensures) (c .with .ensures)
 
 returns-2 : tie.Need-returns-2
@@ -21,7 +21,7 @@ returns-2 c =
     let s = d .before .before .before .before in
     let proof = s .args .proof .now in
     let t = d .before .before .timestamp in
-    let later = compared (s .args .best) (t .result) proof (s .pre) (t .ensures) (d .before .is-before .result) (d .before .is-before .ensures) in
+    let later = compared (s .args .best) (t .result) proof (s .pre) (t .ensures) (d .before .is-before .result) (d .before .is-before .ensures .by-number) in
     let same = equalled (s .args .best) (t .result) proof (s .pre) (t .ensures) (e .before .is .result) (e .before .is .ensures) in
     rw (later ∙ d .if1 .left, same ∙ e .if2 .taken) (c .with2 .ensures)
 
@@ -31,7 +31,7 @@ returns-3 c =
     let s = d .before .before .before .before in
     let proof = s .args .proof .now in
     let t = d .before .before .timestamp in
-    let later = compared (s .args .best) (t .result) proof (s .pre) (t .ensures) (d .before .is-before .result) (d .before .is-before .ensures) in
+    let later = compared (s .args .best) (t .result) proof (s .pre) (t .ensures) (d .before .is-before .result) (d .before .is-before .ensures .by-number) in
     let same = equalled (s .args .best) (t .result) proof (s .pre) (t .ensures) (c .before .is .result) (c .before .is .ensures) in
     rw (later ∙ d .if1 .left, same ∙ c .if2 .left)
 

@@ -12,13 +12,13 @@ use Rattle.client.proofs.signatures.gather.Statement.{statement}
 use Rattle.client.proofs.signatures.gather.Tie as tie
 
 abbrev Inv-loop : tie.InvT-loop
-Inv-loop n counts signatures entries₀ count₀ id₀ entries count id = Keeps (take 11 (gathered id counts signatures)) count entries × (id ≤ n) × (length entries ≡ 715)
+Inv-loop n counted signatures entries₀ count₀ id₀ entries count id = Keeps (take 11 (gathered id counted signatures)) count entries × (id ≤ n) × (length entries ≡ 715)
 
 abbrev μ-loop : tie.MeasureT-loop
-μ-loop n counts signatures entries₀ count₀ id₀ entries count id = n - id
+μ-loop n counted signatures entries₀ count₀ id₀ entries count id = n - id
 
 loop-holds : tie.Need-loop-holds Inv-loop μ-loop
-loop-holds c = (nothing-gathered (c .args .counts) (c .args .signatures .now), omega arith, refl)
+loop-holds c = (nothing-gathered (c .args .counted) (c .args .signatures .now), omega arith, refl)
 
 add-id : tie.Need-add-id Inv-loop μ-loop
 add-id c = search needs
@@ -38,7 +38,7 @@ loop-again c =
     let a = c .before .before .before .before .before .before .args in
     let more = c .before .add-entry in
     let next : l .id + 1 ≡ suc (l .id) = add-one (l .id) in (
-      rw next (gathered-more (a .counts) (a .signatures .now) (omega arith) (l .id) (l .count) (l .entries) (more .result) (more .last .0) (omega arith) (l .inv .0) (rw next at (more .ensures))),
+      rw next (gathered-more (a .counted) (a .signatures .now) (omega arith) (l .id) (l .count) (l .entries) (more .result) (more .last .0) (omega arith) (l .inv .0) (rw next at (more .ensures))),
       omega arith,
       more .kept .0 ∙ l .inv .2,
     )

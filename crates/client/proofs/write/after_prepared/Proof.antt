@@ -19,7 +19,7 @@ returns : tie.Need-returns
 unfolding afterPrepared
 returns c =
     let a = c .before .before .before .before .before .args in
-    λ before. rw (sym (c .before .before .before .is-quorum .ensures) ∙ not-true _ (c .before .before .if1 .taken)) (plain-call (c .plain .result) (a .out .now) (withPhase (Prepareds (a .timestamp) (a .counts)) (a .client)) Counted (rw (c .before .with-phase .ensures) at (c .plain .ensures)))
+    λ before. rw (sym (c .before .before .before .is-quorum .ensures) ∙ not-true _ (c .before .before .if1 .taken)) (plain-call (c .plain .result) (a .out .now) (withPhase (Prepareds (a .timestamp) (a .counted)) (a .client)) Counted (rw (c .before .with-phase .ensures) at (c .plain .ensures)))
 
 returns-2 : tie.Need-returns-2
 unfolding afterPrepared
@@ -28,8 +28,8 @@ returns-2 c =
     let a = s .args in
     let signatures = a .client .signatures in
     let long = sized signatures 1_024 (s .good .0 .1 .1 .1 .1 .1 .1 .1 .1 .1 .1 .1 .0 .1 .0 .1) in
-    let made = kept-built (a .client) (a .counts) long (c .before .before .before .before .before .before .before .before .before .before .before .before .before .before .before .built .result .count) (c .before .before .before .before .before .before .before .before .before .before .before .before .before .before .before .built .result .entries) (c .before .before .before .before .before .before .before .before .before .before .before .before .before .before .before .built .ensures) in
-    let proof : PreparedProof = record { timestamp = number (a .timestamp); digest = a .client .digest; entries = built (a .client) (a .counts) signatures } in
+    let made = kept-built (a .client) (a .counted) long (c .before .before .before .before .before .before .before .before .before .before .before .before .before .before .before .built .result .count) (c .before .before .before .before .before .before .before .before .before .before .before .before .before .before .before .built .result .entries) (c .before .before .before .before .before .before .before .before .before .before .before .before .before .before .before .built .ensures) in
+    let proof : PreparedProof = record { timestamp = number (a .timestamp); digest = a .client .digest; entries = built (a .client) (a .counted) signatures } in
     let to = withPhase (Writtens (a .timestamp) empty) (withSignatures (zeros 1_024) (a .client)) in
     let sent = rw (c .before .with-phase2 .ensures, c .before .before .with-signatures .ensures, c .before .before .before .empty .ensures) at (c .sent .ensures) in
     let wrote = rw made at (c .before .before .before .before .before .before .write-write .ensures) in

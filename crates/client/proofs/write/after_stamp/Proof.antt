@@ -16,7 +16,7 @@ returns-2 : tie.Need-returns-2
 unfolding afterStamp
 returns-2 c =
     let a = c .before .before .before .before .before .args in
-    λ before. rw (sym (c .before .before .before .is-quorum .ensures) ∙ c .before .before .if1 .left) (plain-call (c .plain .result) (a .out .now) (withPhase (Stamps (a .nonce) (a .best) (a .counts)) (a .client)) Counted (rw (c .before .with-phase .ensures) at (c .plain .ensures)))
+    λ before. rw (sym (c .before .before .before .is-quorum .ensures) ∙ c .before .before .if1 .left) (plain-call (c .plain .result) (a .out .now) (withPhase (Stamps (a .nonce) (a .best) (a .counted)) (a .client)) Counted (rw (c .before .with-phase .ensures) at (c .plain .ensures)))
 
 pub after-stamp-spec : {M : Type 1} → statement M
 after-stamp-spec =

@@ -13,13 +13,13 @@ returns : tie.Need-returns
 unfolding afterWritten
 returns c =
     let a = c .before .before .before .before .args in
-    λ old before. rw (sym (c .before .before .before .is-quorum .ensures) ∙ not-true _ (c .before .before .if1 .taken)) (plain-call (c .plain .result) old (withPhase (Writtens (a .timestamp) (a .counts)) (a .client)) Counted (rw (c .before .with-phase .ensures) at (c .plain .ensures)))
+    λ old before. rw (sym (c .before .before .before .is-quorum .ensures) ∙ not-true _ (c .before .before .if1 .taken)) (plain-call (c .plain .result) old (withPhase (Writtens (a .timestamp) (a .counted)) (a .client)) Counted (rw (c .before .with-phase .ensures) at (c .plain .ensures)))
 
 returns-2 : tie.Need-returns-2
 unfolding afterWritten
 returns-2 c =
     let a = c .before .before .before .before .args in
-    let last = withLastWritten (a .timestamp) (built (a .client) (a .counts) (a .client .signatures)) (a .client) in
+    let last = withLastWritten (a .timestamp) (built (a .client) (a .counted) (a .client .signatures)) (a .client) in
     λ old before. rw (sym (c .before .before .before .is-quorum .ensures) ∙ not-false _ (c .before .before .if1 .left)) (done-call (c .done .result) old (withPhase Idle last) (a .timestamp) (currentCard last) (rw (c .before .with-last-written .ensures) at (c .done .ensures)))
 
 pub after-written-spec : {M : Type 1} → statement M

@@ -1,6 +1,5 @@
 -- `play::calls::before` meets its contract. Assumes nothing.
 use native.Mathlib.Omega.{arith}
-use borrow.Author.Needs.{needs}
 use Rattle.play.proofs.calls.before.Statement.{statement}
 use Rattle.play.proofs.calls.before.Tie as tie
 

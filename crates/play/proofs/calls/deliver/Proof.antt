@@ -4,7 +4,7 @@ use mathlib.Core.List.{List}
 use Prim.Native.Nat.{ℕ}
 use borrow.Author.Needs.{needs}
 use Rattle.play.proofs.Leaving.{message-copied, out-free, put-behind, client-behind}
-use Rattle.play.specs.Calls.{verdicts, free, messageAt, clientDoes}
+use Rattle.play.specs.Calls.{verdicts, clientDoes}
 use Rattle.wire.specs.declared.message.Party.the-variants.{Client as Here}
 use Rattle.protocol.specs.Client.{clientCall}
 use Rattle.play.proofs.calls.deliver.Statement.{statement}

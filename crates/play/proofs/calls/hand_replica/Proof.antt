@@ -1,5 +1,4 @@
 -- `play::calls::hand_replica` meets its contract. Assumes nothing.
-use native.Mathlib.Omega.{arith}
 use borrow.Author.Needs.{needs}
 use Rattle.play.proofs.Leaving.{replica-leaves, ones}
 use Rattle.wire.specs.declared.message.Party.the-variants.{Replica as AtReplica}

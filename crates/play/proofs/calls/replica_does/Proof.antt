@@ -4,7 +4,7 @@ use mathlib.Core.List.{List}
 use Prim.Native.Nat.{ℕ}
 use borrow.Author.Needs.{needs}
 use Rattle.play.proofs.Leaving.{message-copied, out-free, put-behind, replica-behind}
-use Rattle.play.specs.Calls.{verdicts, free, messageAt, replicaDoes}
+use Rattle.play.specs.Calls.{verdicts, replicaDoes}
 use Rattle.wire.specs.declared.message.Party.the-variants.{Replica as Here}
 use Rattle.protocol.specs.Replica.{replicaCall}
 use Rattle.play.proofs.calls.replica_does.Statement.{statement}

@@ -1,5 +1,4 @@
 -- `play::grammar::asked` meets its contract. Assumes nothing.
-use mathlib.Core.Path.{refl}
 use borrow.Author.Tests.{eq-eqb, ne-eqb}
 use borrow.Author.Needs.{needs}
 use Rattle.play.specs.Grammar.{asked}

@@ -1,30 +1,28 @@
 -- `play::grammar::is_card` meets its contract. Assumes nothing.
-use mathlib.Core.Path.{refl, sym, _≡_, _∙_}
 use native.Mathlib.Omega.{arith}
-use mathlib.Core.Bool.{true, false}
 use Prim.Native.Nat.{_%_}
 use lib.ListN.{length}
 use borrow.Author.Tests.{eq-eqb, ne-eqb}
 use borrow.Author.Needs.{needs}
-use Rattle.play.specs.Grammar.{isCard}
+use Rattle.play.specs.Grammar.{isHexCard}
 use Rattle.base.proofs.Range.{inside, below, above}
 use Rattle.play.proofs.grammar.is_card.Statement.{statement}
 use Rattle.play.proofs.grammar.is_card.Tie as tie
 
 returns : tie.Need-returns
-unfolding isCard
+unfolding isHexCard
 returns c = let a = c .before .before .args in rw (below 2 34 (length (a .digits .now)) (omega arith))
 
 returns-2 : tie.Need-returns-2
-unfolding isCard
+unfolding isHexCard
 returns-2 c = let a = c .before .before .before .args in rw (above 2 34 (length (a .digits .now)) (omega arith))
 
 returns-3 : tie.Need-returns-3
-unfolding isCard
+unfolding isHexCard
 returns-3 c = let a = c .before .before .before .before .args in rw (inside 2 34 (length (a .digits .now)) (omega arith) (omega arith), ne-eqb (length (a .digits .now) % 2) 0 (c .if3 .taken))
 
 returns-4 : tie.Need-returns-4
-unfolding isCard
+unfolding isHexCard
 returns-4 c = let a = c .before .before .before .before .before .args in rw (inside 2 34 (length (a .digits .now)) (omega arith) (omega arith), eq-eqb (length (a .digits .now) % 2) 0 (c .before .if3 .left)) (c .all-hex .ensures)
 
 pub is-card-spec : {M : Type 1} → statement M

@@ -1,7 +1,4 @@
 -- `play::grammar::is_hex_digit` meets its contract. Assumes nothing.
-use mathlib.Core.Path.{sym, refl, _∙_}
-use mathlib.Core.Bool.{true, false}
-use borrow.Author.Tests.{not-true, not-false}
 use borrow.Author.Needs.{needs}
 use Rattle.play.specs.Grammar.{isHexDigit}
 use Rattle.play.proofs.grammar.is_hex_digit.Statement.{statement}

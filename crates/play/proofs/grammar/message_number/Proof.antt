@@ -1,5 +1,4 @@
 -- `play::grammar::message_number` meets its contract. Assumes nothing.
-use mathlib.Core.Path.{refl, sym}
 use borrow.Author.Tests.{eq-eqb, ne-eqb}
 use borrow.Author.Needs.{needs}
 use Rattle.play.specs.Grammar.{messageNumber}

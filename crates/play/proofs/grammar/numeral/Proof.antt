@@ -6,7 +6,7 @@ use mathlib.Core.Bool.{true, false, cond}
 use borrow.Author.Tests.{not-true, not-false, lt-ltb, le-ltb}
 use lib.ListN.{length, getD, drop}
 use lib.Seq.{drop-cons, drop-length}
-use mathlib.Core.List.{List, _∷_, []}
+use mathlib.Core.List.{List}
 use native.Mathlib.Numerals.{add-one}
 use lib.Dec.{ltb}
 use borrow.Author.Needs.{needs}

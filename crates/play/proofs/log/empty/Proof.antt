@@ -1,6 +1,5 @@
 -- `play::log::empty` meets its contract. Assumes nothing.
 use mathlib.Core.Path.{refl}
-use borrow.Author.Needs.{needs}
 use Rattle.play.specs.Log.{emptyLog}
 use Rattle.play.proofs.log.empty.Statement.{statement}
 use Rattle.play.proofs.log.empty.Tie as tie

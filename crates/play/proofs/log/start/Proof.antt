@@ -1,6 +1,5 @@
 -- `play::log::start` meets its contract. Assumes nothing.
 use native.Mathlib.Omega.{arith}
-use borrow.Author.Needs.{needs}
 use Rattle.play.specs.Log.{start}
 use Rattle.play.proofs.log.start.Statement.{statement}
 use Rattle.play.proofs.log.start.Tie as tie

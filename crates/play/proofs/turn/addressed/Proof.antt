@@ -1,5 +1,4 @@
 -- `play::turn::addressed` meets its contract. Assumes nothing.
-use mathlib.Core.Path.{refl}
 use borrow.Author.Needs.{needs}
 use Rattle.play.specs.Player.{addressee}
 use Rattle.play.proofs.turn.addressed.Statement.{statement}

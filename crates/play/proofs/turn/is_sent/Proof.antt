@@ -2,7 +2,6 @@
 use mathlib.Core.Path.{sym}
 use native.Mathlib.Omega.{arith}
 use borrow.Author.Tests.{le-leb}
-use borrow.Author.Needs.{needs}
 use Rattle.base.specs.Range.{within}
 use Rattle.base.proofs.Range.{below}
 use Rattle.play.proofs.turn.is_sent.Statement.{statement}

@@ -1,5 +1,4 @@
 -- `play::turn::logged` meets its contract. Assumes nothing.
-use mathlib.Core.Path.{refl}
 use borrow.Author.Needs.{needs}
 use Rattle.play.specs.Player.{loggedBy}
 use Rattle.play.proofs.turn.logged.Statement.{statement}

@@ -1,5 +1,4 @@
 -- `play::turn::reply` meets its contract. Assumes nothing.
-use mathlib.Core.Path.{refl}
 use borrow.Author.Needs.{needs}
 use Rattle.play.specs.Player.{reply}
 use Rattle.play.proofs.turn.reply.Statement.{statement}

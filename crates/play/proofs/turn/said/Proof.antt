@@ -1,5 +1,4 @@
 -- `play::turn::said` meets its contract. Assumes nothing.
-use mathlib.Core.Path.{refl}
 use borrow.Author.Needs.{needs}
 use Rattle.play.specs.Player.{saidOf}
 use Rattle.play.proofs.turn.said.Statement.{statement}

@@ -55,7 +55,7 @@ returns-2 c =
     let x = w .before .before in
     let s = x .before .before .before .before .before .before .before in
     let a = s .args in
-    let later = ap (ltb (heldTimestamp (a .replica .register .held))) (stamp x) ∙ sym (c .before .is-before .ensures) ∙ not-true _ (c .if2 .taken) in
+    let later = ap (ltb (heldTimestamp (a .replica .register .held))) (stamp x) ∙ sym (c .before .is-before .ensures .by-number) ∙ not-true _ (c .if2 .taken) in
     sends (a .replica) (a .out .now) _ _ _ _ _ _ (replies x) (s .pre .1) (w .write-written .ensures) (c .before .before .before .answer-of .ensures)
     (sym (not-later (a .replica) (a .card .now) (preparedFrom (a .proof .now)) later)) (record { only = refl })
 
@@ -71,7 +71,7 @@ returns-3 c =
     let x = w .before .before in
     let s = x .before .before .before .before .before .before .before in
     let a = s .args in
-    let later = ap (ltb (heldTimestamp (a .replica .register .held))) (stamp x) ∙ sym (c .before .before .before .is-before .ensures) ∙ not-false _ (c .before .before .if2 .left) in
+    let later = ap (ltb (heldTimestamp (a .replica .register .held))) (stamp x) ∙ sym (c .before .before .before .is-before .ensures .by-number) ∙ not-false _ (c .before .before .if2 .left) in
     sends (a .replica) (a .out .now) _ _ _ _ _ _ (replies x) (s .pre .1) (w .write-written .ensures) (c .before .before .before .before .before .answer-of .ensures)
     (c .with-held .ensures ∙ ap (withHeld (a .replica)) (c .before .holding .ensures ∙ sym (is-later (a .replica) (a .card .now) (preparedFrom (a .proof .now)) later)))
     (record { only = rw (c .with-held .ensures) })

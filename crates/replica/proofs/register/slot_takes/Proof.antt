@@ -9,10 +9,10 @@ returns : tie.Need-returns
 returns c = rw (eq-eqb _ _ (c .if1 .taken))
 
 returns-2 : tie.Need-returns-2
-returns-2 c = rw (ne-eqb _ _ (c .before .before .if1 .left), lt-leb _ _ (ltb-true _ _ (sym (c .before .is-before .ensures) ∙ c .if2 .taken)))
+returns-2 c = rw (ne-eqb _ _ (c .before .before .if1 .left), lt-leb _ _ (ltb-true _ _ (sym (c .before .is-before .ensures .by-number) ∙ c .if2 .taken)))
 
 returns-3 : tie.Need-returns-3
-returns-3 c = rw (ne-eqb _ _ (c .before .before .before .if1 .left), le-leb _ _ (ltb-false _ _ (sym (c .before .before .is-before .ensures) ∙ c .before .if2 .left))) (c .is-before2 .ensures)
+returns-3 c = rw (ne-eqb _ _ (c .before .before .before .if1 .left), le-leb _ _ (ltb-false _ _ (sym (c .before .before .is-before .ensures .by-number) ∙ c .before .if2 .left))) (c .is-before2 .ensures .by-number)
 
 pub slot-takes-spec : {M : Type 1} → statement M
 slot-takes-spec = tie.close (tie.spec returns (λ c κs. search needs) returns-2 (λ c κs. search needs) returns-3)

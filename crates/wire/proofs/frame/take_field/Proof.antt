@@ -6,7 +6,7 @@ use native.Mathlib.Omega.{arith}
 use borrow.Author.Needs.{needs}
 use borrow.Author.Tests.{ne-eqb, eq-eqb}
 use Rattle.base.specs.BitMap.{bit}
-use Rattle.wire.specs.Layout.{fixed, counted, preparedRule, writtenRule, rules, mapIn}
+use Rattle.wire.specs.Layout.{fixed, repeated, preparedRule, writtenRule, rules, mapIn}
 use Rattle.wire.proofs.Framed.{place-absent}
 use Rattle.wire.proofs.Reading.{field-taken, one-byte}
 use Rattle.wire.proofs.frame.take_field.Statement.{statement}
@@ -49,19 +49,19 @@ returns-5 : tie.Need-returns-5
 unfolding rules
 returns-5 c =
     let b = c .before .before .before .before in
-    field-taken (b .args .bytes .now) _ _ (counted 1 1) (c .take-counted .result) (set (c .before .before)) (b .pre .2) (rw (c .before .match .keys4)) (c .take-counted .ensures)
+    field-taken (b .args .bytes .now) _ _ (repeated 1 1) (c .take-repeated .result) (set (c .before .before)) (b .pre .2) (rw (c .before .match .keys4)) (c .take-repeated .ensures)
 
 returns-6 : tie.Need-returns-6
 unfolding rules
 returns-6 c =
     let b = c .before .before .before .before in
-    field-taken (b .args .bytes .now) _ _ (preparedRule) (c .take-counted2 .result) (set (c .before .before)) (b .pre .2) (rw (c .before .match .keys5)) (c .take-counted2 .ensures)
+    field-taken (b .args .bytes .now) _ _ (preparedRule) (c .take-repeated2 .result) (set (c .before .before)) (b .pre .2) (rw (c .before .match .keys5)) (c .take-repeated2 .ensures)
 
 returns-7 : tie.Need-returns-7
 unfolding rules
 returns-7 c =
     let b = c .before .before .before .before in
-    field-taken (b .args .bytes .now) _ _ (writtenRule) (c .take-counted3 .result) (set (c .before .before)) (b .pre .2) (rw (c .before .match .keys6)) (c .take-counted3 .ensures)
+    field-taken (b .args .bytes .now) _ _ (writtenRule) (c .take-repeated3 .result) (set (c .before .before)) (b .pre .2) (rw (c .before .match .keys6)) (c .take-repeated3 .ensures)
 
 returns-8 : tie.Need-returns-8
 returns-8 c =

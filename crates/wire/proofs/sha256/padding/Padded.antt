@@ -8,16 +8,16 @@ use lib.ListN.{length, getD, take, drop, set, replicate, length-append, length-r
 use lib.Seq.{getD-append-seam, getD-append-add, drop-cons, drop-drop, drop-at, take-all, take-nil, take-take}
 use Rattle.base.specs.BigEndian.{fromBytes, toBytes}
 use Rattle.base.proofs.BigEndian.{length-toBytes, toBytes-zeros, fromBytes-toBytes}
-use Rattle.wire.specs.Sha256.{longestMessage, zeros, padded, block, blockCount, wordOf, words}
+use Rattle.wire.specs.Sha256.{longestInput, paddingZeros, padded, block, blockCount, wordOf, words}
 use Rattle.wire.proofs.sha256.Stores.{store-next}
 
 -- The number of zero bytes is the least that the standard asks for.
-zeros-least : (n : ℕ) → ((n + 1 + zeros n) % 64 ≡ 56) × (zeros n < 64)
-unfolding zeros
+zeros-least : (n : ℕ) → ((n + 1 + paddingZeros n) % 64 ≡ 56) × (paddingZeros n < 64)
+unfolding paddingZeros
 zeros-least n = (omega arith, omega arith)
 
 pub length-padded : (m : List ℕ) → length (padded m) ≡ 64 * blockCount (length m)
-unfolding padded zeros
+unfolding padded paddingZeros
 length-padded m = simp (length-append, length-replicate, length-toBytes) (omega arith)
 
 at-message : (m : List ℕ) (p : ℕ) → p < length m → getD (padded m) p 0 ≡ getD m p 0
@@ -30,21 +30,21 @@ at-mark m p e = rw (← e) (getD-append-seam m 0x80 _ 0)
 
 -- All but the last word: where the length fits four bytes, the other four bytes of its field are zeros like those before.
 abbrev unsized : List ℕ → List ℕ
-unsized m = m ++ 0x80 ∷ replicate (zeros (length m) + 4) 0
+unsized m = m ++ 0x80 ∷ replicate (paddingZeros (length m) + 4) 0
 
-module _ (m : List ℕ) (small : length m ≤ longestMessage) where
+module _ (m : List ℕ) (small : length m ≤ longestInput) where
   last-apart : padded m ≡ unsized m ++ toBytes 4 (8 * length m)
   unfolding padded
-  last-apart = rw (toBytes-zeros 4 4 (8 * length m) (omega arith), ← replicate-append-replicate {A = ℕ} (zeros (length m)) 4 0) (simp append-assoc)
+  last-apart = rw (toBytes-zeros 4 4 (8 * length m) (omega arith), ← replicate-append-replicate {A = ℕ} (paddingZeros (length m)) 4 0) (simp append-assoc)
 
   length-unsized : length (unsized m) + 4 ≡ 64 * blockCount (length m)
-  unfolding zeros
+  unfolding paddingZeros
   length-unsized = simp (length-append, length-replicate) (omega arith)
 
   at-zero : (p : ℕ) → length m < p → p + 4 < 64 * blockCount (length m) → getD (padded m) p 0 ≡ 0
   at-zero p l h =
       let n = length-unsized in
-      let z = zeros (length m) + 4 in
+      let z = paddingZeros (length m) + 4 in
       let j = p - length m - 1 in
       let e : p ≡ length m + suc j = omega arith in
       let q : length (unsized m) ≡ length m + suc z = simp (length-append, length-replicate) in
@@ -76,7 +76,7 @@ word-message m p h =
     (at-message m (p + 3) (omega arith))
 
 -- The words that the message does not fill, by where the message ends.
-module _ (m : List ℕ) (small : length m ≤ longestMessage) (p : ℕ) (aligned : p % 4 ≡ 0) (inside : p + 4 ≤ 64 * blockCount (length m)) where
+module _ (m : List ℕ) (small : length m ≤ longestInput) (p : ℕ) (aligned : p % 4 ≡ 0) (inside : p + 4 ≤ 64 * blockCount (length m)) where
   pub word-zero : length m < p → p + 4 < 64 * blockCount (length m) → 0 ≡ wordAt m p
   unfolding fromBytes
   word-zero l h =

@@ -26,7 +26,7 @@ loop-again c =
     let m = a .message .now in (
       omega arith,
       simp length-set (omega arith),
-      load-next m (l .w) (a .i) (l .j) _ (omega arith) (omega arith) (l .inv .2) (c .word .ensures ∙ word-message m (64 * a .i + 4 * l .j) (omega arith)),
+      load-next m (l .w) (a .i) (l .j) _ (omega arith) (omega arith) (l .inv .2) (c .from-four .ensures ∙ word-message m (64 * a .i + 4 * l .j) (omega arith)),
     )
 
 returns : tie.Need-returns Inv-loop μ-loop

@@ -15,22 +15,22 @@ returns-2 c = let a = c .before .before .before .args in word-length (a .message
 returns-3 : tie.Need-returns-3
 returns-3 c =
     let a = c .before .before .before .before .args in
-    c .word .ensures ∙ word-mark-0 (a .message .now) (omega arith) (a .at) (omega arith) (omega arith) (omega arith)
+    c .from-four .ensures ∙ word-mark-0 (a .message .now) (omega arith) (a .at) (omega arith) (omega arith) (omega arith)
 
 returns-4 : tie.Need-returns-4
 returns-4 c =
     let a = c .before .before .before .before .before .before .args in
-    c .word2 .ensures ∙ word-mark-1 (a .message .now) (omega arith) (a .at) (omega arith) (omega arith) (omega arith)
+    c .from-four2 .ensures ∙ word-mark-1 (a .message .now) (omega arith) (a .at) (omega arith) (omega arith) (omega arith)
 
 returns-5 : tie.Need-returns-5
 returns-5 c =
     let a = c .before .before .before .before .before .before .before .before .args in
-    c .word3 .ensures ∙ word-mark-2 (a .message .now) (omega arith) (a .at) (omega arith) (omega arith) (omega arith)
+    c .from-four3 .ensures ∙ word-mark-2 (a .message .now) (omega arith) (a .at) (omega arith) (omega arith) (omega arith)
 
 returns-6 : tie.Need-returns-6
 returns-6 c =
     let a = c .before .before .before .before .before .before .before .before .before .args in
-    c .word4 .ensures ∙ word-mark-3 (a .message .now) (omega arith) (a .at) (omega arith) (omega arith) (omega arith)
+    c .from-four4 .ensures ∙ word-mark-3 (a .message .now) (omega arith) (a .at) (omega arith) (omega arith) (omega arith)
 
 pub padding-word-spec : {M : Type 1} → statement M
 padding-word-spec =
