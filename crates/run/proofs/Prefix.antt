@@ -12,10 +12,10 @@ use Rattle.base.specs.declared.party.ReplicaId.{ReplicaId}
 use Rattle.wire.specs.Acceptance.{Sender}
 use Rattle.wire.specs.Decode.{decode}
 use Rattle.wire.specs.Message.{Message}
+use Rattle.wire.specs.Signatures.{Signature, signaturesOf}
 use Rattle.wire.specs.declared.message.Party.the-variants.{Replica as AtReplica, Client as AtClient}
 use Rattle.run.specs.Claims.{Claims}
 use Rattle.run.specs.Prefix.{prefix}
-use Rattle.wire.specs.Signatures.{Signature, signaturesOf}
 use Rattle.run.specs.Premises.{TrueVerdicts, TrueFor, TrueAt, cardOf, CardOfRun, Premises}
 use Rattle.run.specs.Run.{Event, begins-write, begins-read, to-replica, to-client, Run, afterAtReplica, afterAtClient, event, replicaAt, clientAt, answerTo, answerAt, Sent}
 use Rattle.run.proofs.Demand3.{demand-3}

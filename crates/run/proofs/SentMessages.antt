@@ -17,12 +17,12 @@ use Rattle.wire.specs.Checks.{all, ownGenuine, genuine}
 use Rattle.wire.specs.Decode.{decode}
 use Rattle.wire.specs.Message.{Message, READ-STAMP, READ, body, Legal}
 use Rattle.wire.specs.Proof.{Entry}
+use Rattle.wire.specs.Signatures.{Signature, signedBy, signaturesOf}
 use Rattle.wire.proofs.OneForm.{decoded-legal}
 use Rattle.wire.proofs.RoundTrip.{body-injective}
 use Rattle.wire.specs.declared.message.Party.the-variants.{Replica as AtReplica, Client as AtClient}
 use Rattle.protocol.specs.Client.{send}
 use Rattle.protocol.proofs.ClientCases.{LegalAnswer}
-use Rattle.wire.specs.Signatures.{Signature, signedBy, signaturesOf}
 use Rattle.run.specs.Premises.{TrueVerdicts, TrueFor, TrueAt, Premises}
 use Rattle.wire.specs.Acceptance.{senderOf, Sender, replica, client}
 use Rattle.run.specs.Run.{to-replica, to-client, Run, clientAt, answerAt, At, Correct, Sent}

@@ -23,6 +23,7 @@ use Rattle.base.proofs.Range.{bounds}
 use Rattle.wire.specs.Checks.{all, oneEach, entriesOf, shaped, genuine, issued, proofOutcome}
 use Rattle.wire.specs.Message.{Message, PREPARED, CARD, Legal, Fits, PreparedFits, size}
 use Rattle.wire.specs.Proof.{Entry, PreparedProof}
+use Rattle.wire.specs.Signatures.{preparedSignatures, signaturesOf}
 use Rattle.wire.proofs.ProofBytes.{prepared-rewritten}
 use Rattle.protocol.specs.Client.{send}
 use Rattle.protocol.specs.Replica.{slotCount, slotDigest}
@@ -30,7 +31,6 @@ use Rattle.protocol.specs.declared.replica.Slots.{Slots}
 use Rattle.wire.proofs.Passed.{Passed}
 use Rattle.protocol.proofs.ReplicaFacts.{clientOf, SlotRises, prepared-legal}
 use Rattle.run.specs.Claims.{Genuine, OneDigest}
-use Rattle.wire.specs.Signatures.{preparedSignatures, signaturesOf}
 use Rattle.run.specs.Premises.{TrueVerdicts, FewFaulty, Premises}
 use Rattle.wire.specs.Acceptance.{replica}
 use Rattle.run.specs.Run.{Run, replicaAt, answerAt, At}

@@ -24,7 +24,7 @@ use Rattle.wire.specs.Layout.{mapIn, field}
 use Rattle.wire.specs.Message.{Message, PREPARED, WRITTEN, body}
 use Rattle.wire.specs.Parts.{partAt, preparedPart, writtenPart, timestampPart, digestPart, countPart, writtenCount}
 use Rattle.wire.specs.Proof.{Entry, PreparedProof, WrittenProof, preparedFrom, writtenFrom, readEntries}
-use Rattle.wire.specs.Signatures.{Signature, signedBy, preparedSignatures, writtenSignatures, signaturesIfThere, signaturesOf, signaturesTo, signatureTo, signerOf, Answers, EntriesStand}
+use Rattle.wire.specs.Signatures.{Signature, signedBy, preparedSignatures, writtenSignatures, signaturesIfThere, signaturesOf, signaturesTo, signatureTo, signerOf, ShowsSignature, EntriesStand}
 use Rattle.wire.specs.Putting.{Put}
 use Rattle.wire.specs.declared.message.Fields.{Fields}
 use Rattle.wire.specs.declared.message.Party.{Party}
@@ -60,17 +60,17 @@ length-signatures bytes message =
     simp length-append (omega arith)
 
 -- Of bytes that can be read, as many as their fields say; of others none.
-pub counted : (party : Party) (bytes : List ℕ) (fields : Fields) → reading party bytes ≡ accepted fields → length (signaturesTo party bytes) ≡ countIn fields
+pub signatures-counted : (party : Party) (bytes : List ℕ) (fields : Fields) → reading party bytes ≡ accepted fields → length (signaturesTo party bytes) ≡ countIn fields
 unfolding signaturesTo
-counted party bytes fields e =
+signatures-counted party bytes fields e =
     let p = parsed party bytes fields e in
     let m = messageOf (p .taken) bytes in
     rw (p .decodes)
     (length-signatures bytes m ∙ entries-counted party bytes m (p .decodes) (p .framed) ∙ sym (all-signatures bytes fields (placed-reading party bytes fields e)))
 
-pub uncounted : (party : Party) (bytes : List ℕ) (n : ℕ) → reading party bytes ≡ refused n → length (signaturesTo party bytes) ≡ 0
+pub no-signatures : (party : Party) (bytes : List ℕ) (n : ℕ) → reading party bytes ≡ refused n → length (signaturesTo party bytes) ≡ 0
 unfolding signaturesTo
-uncounted party bytes n e = rw (decode-refused party bytes n e)
+no-signatures party bytes n e = rw (decode-refused party bytes n e)
 
 -- ---- The i-th
 
@@ -136,49 +136,49 @@ module _ {A : Type 0} where
   behind-all (x ∷ a) (suc i) h = behind-all a i (omega arith)
 
 -- Of both proofs.
-abbrev preparedIn : List ℕ → List Signature
-preparedIn proof = signaturesIfThere preparedSignatures (preparedPart proof)
+abbrev ofPrepared : List ℕ → List Signature
+ofPrepared proof = signaturesIfThere preparedSignatures (preparedPart proof)
 
-abbrev writtenIn : List ℕ → List Signature
-writtenIn proof = signaturesIfThere writtenSignatures (writtenPart proof)
+abbrev ofWritten : List ℕ → List Signature
+ofWritten proof = signaturesIfThere writtenSignatures (writtenPart proof)
 
-prepared-size : (proof : List ℕ) → length (preparedIn proof) ≡ countPart proof
+prepared-size : (proof : List ℕ) → length (ofPrepared proof) ≡ countPart proof
 unfolding countPart
 prepared-size [] = refl
 prepared-size (byte ∷ proof) = let p = preparedFrom (byte ∷ proof) in length-signed (λ id. PREPARED id (p .timestamp) (p .digest)) (p .entries) ∙ length-read _ _
 
-written-size : (proof : List ℕ) → length (writtenIn proof) ≡ writtenCount proof
+written-size : (proof : List ℕ) → length (ofWritten proof) ≡ writtenCount proof
 unfolding writtenCount
 written-size [] = refl
 written-size (byte ∷ proof) = let p = writtenFrom (byte ∷ proof) in length-signed (λ id. WRITTEN id (p .timestamp)) (p .entries) ∙ length-read _ _
 
-prepared-there : (proof : List ℕ) → 0 < countPart proof → preparedIn proof ≡ preparedSignatures (preparedFrom proof)
+prepared-there : (proof : List ℕ) → 0 < countPart proof → ofPrepared proof ≡ preparedSignatures (preparedFrom proof)
 unfolding countPart
 prepared-there [] h = absurd (omega arith)
 prepared-there (byte ∷ proof) h = refl
 
-written-there : (proof : List ℕ) → 0 < writtenCount proof → writtenIn proof ≡ writtenSignatures (writtenFrom proof)
+written-there : (proof : List ℕ) → 0 < writtenCount proof → ofWritten proof ≡ writtenSignatures (writtenFrom proof)
 unfolding writtenCount
 written-there [] h = absurd (omega arith)
 written-there (byte ∷ proof) h = refl
 
 module _ (prepared written : List ℕ) (i : ℕ) where
-  pub of-first : i < countPart prepared → getElem? (preparedSignatures (preparedFrom prepared)) i ≡ getElem? (preparedIn prepared ++ writtenIn written) i
+  pub of-first : i < countPart prepared → getElem? (preparedSignatures (preparedFrom prepared)) i ≡ getElem? (ofPrepared prepared ++ ofWritten written) i
   of-first h =
       let size = prepared-size prepared in
-      sym (in-first (preparedIn prepared) (writtenIn written) i (omega arith) ∙ rw (prepared-there prepared (omega arith)))
+      sym (in-first (ofPrepared prepared) (ofWritten written) i (omega arith) ∙ rw (prepared-there prepared (omega arith)))
 
   pub of-second : countPart prepared ≤ i → i - countPart prepared < writtenCount written
-      → getElem? (writtenSignatures (writtenFrom written)) (i - countPart prepared) ≡ getElem? (preparedIn prepared ++ writtenIn written) i
+      → getElem? (writtenSignatures (writtenFrom written)) (i - countPart prepared) ≡ getElem? (ofPrepared prepared ++ ofWritten written) i
   of-second past h =
       let size = prepared-size prepared in
-      sym (in-second (preparedIn prepared) (writtenIn written) i (omega arith) ∙ rw (size, written-there written (omega arith)))
+      sym (in-second (ofPrepared prepared) (ofWritten written) i (omega arith) ∙ rw (size, written-there written (omega arith)))
 
-  pub of-neither : countPart prepared ≤ i → writtenCount written ≤ i - countPart prepared → getElem? (preparedIn prepared ++ writtenIn written) i ≡ none
+  pub of-neither : countPart prepared ≤ i → writtenCount written ≤ i - countPart prepared → getElem? (ofPrepared prepared ++ ofWritten written) i ≡ none
   of-neither past h =
       let first = prepared-size prepared in
       let second = written-size written in
-      behind-all (preparedIn prepared ++ writtenIn written) i (rw length-append (omega arith))
+      behind-all (ofPrepared prepared ++ ofWritten written) i (rw length-append (omega arith))
 
 -- Of a message that was read.
 module _ (party : Party) (bytes : List ℕ) (fields : Fields) (e : reading party bytes ≡ accepted fields) where
@@ -189,7 +189,7 @@ module _ (party : Party) (bytes : List ℕ) (fields : Fields) (e : reading party
       let s = seen party bytes _ (p .decodes) in
       rw (p .decodes, s .sender, ← placed-reading party bytes fields e .sender)
 
-  pub entry-at : (i : ℕ) → signatureTo party bytes (suc i) ≡ accepted (getElem? (preparedIn (partAt bytes (fields .prepared)) ++ writtenIn (partAt bytes (fields .written))) i)
+  pub entry-at : (i : ℕ) → signatureTo party bytes (suc i) ≡ accepted (getElem? (ofPrepared (partAt bytes (fields .prepared)) ++ ofWritten (partAt bytes (fields .written))) i)
   unfolding signatureTo
   entry-at i =
       let p = parsed party bytes fields e in
@@ -218,25 +218,25 @@ unread-at party bytes i n e = rw (decode-refused party bytes n e)
 
 -- The bytes covered, stored in front of the output.
 pub answers : {found : Outcome (Option Signature)} {old covers : List ℕ} {sender : Sender} {signer : Signer} {most next : ℕ} {new : List ℕ}
-    → found ≡ accepted (some (record { signer = sender; covers = covers })) → signerOf signer ≡ sender → Put old 0 covers most next new → Answers found old (By signer next) new
+    → found ≡ accepted (some (record { signer = sender; covers = covers })) → signerOf signer ≡ sender → Put old 0 covers most next new → ShowsSignature found old (By signer next) new
 answers {found} {old} {covers} {sender} {signer} {most} {next} {new} e who a =
     let all : next ≡ length covers = omega (arith, a .behind) in
     let none : 0 + length covers ≡ length covers = omega arith in
     record { answered = rw (e, who, all); holds = a .holds ∙ rw (e, none) }
 
 -- The same, found otherwise.
-pub found-so : {found found′ : Outcome (Option Signature)} {old : List ℕ} {answer : Signed} {new : List ℕ} → found ≡ found′ → Answers found old answer new → Answers found′ old answer new
-found-so {old = old} {answer} {new} e a = subst (λ (f : Outcome (Option Signature)). Answers f old answer new) e a
+pub found-so : {found found′ : Outcome (Option Signature)} {old : List ℕ} {answer : Signed} {new : List ℕ} → found ≡ found′ → ShowsSignature found old answer new → ShowsSignature found′ old answer new
+found-so {old = old} {answer} {new} e a = subst (λ (f : Outcome (Option Signature)). ShowsSignature f old answer new) e a
 
 -- No signature, or no message: the output is as it was.
-pub no-answer : {found : Outcome (Option Signature)} {old : List ℕ} → found ≡ accepted none → Answers found old Nothing old
+pub no-answer : {found : Outcome (Option Signature)} {old : List ℕ} → found ≡ accepted none → ShowsSignature found old Nothing old
 no-answer e = record { answered = rw e; holds = rw e }
 
-pub refuses : {found : Outcome (Option Signature)} {old : List ℕ} {n : ℕ} → found ≡ refused n → Answers found old (Refused n) old
+pub refuses : {found : Outcome (Option Signature)} {old : List ℕ} {n : ℕ} → found ≡ refused n → ShowsSignature found old (Refused n) old
 refuses e = record { answered = rw e; holds = rw e }
 
 -- What is covered fits into the output that it stands in.
-pub covered-inside : (found : Outcome (Option Signature)) {old : List ℕ} {signer : Signer} {covered : ℕ} {new : List ℕ} → Answers found old (By signer covered) new → length new ≡ length old → covered ≤ length old
+pub covered-inside : (found : Outcome (Option Signature)) {old : List ℕ} {signer : Signer} {covered : ℕ} {new : List ℕ} → ShowsSignature found old (By signer covered) new → length new ≡ length old → covered ≤ length old
 covered-inside (accepted (some signature)) {old} {signer} {covered} {new} a same =
     let short : _≡_ {A = Sender × ℕ} (signerOf signer, covered) (signature .signer, length (signature .covers)) = cc (a .answered) in
     let all : covered ≡ length (signature .covers) = ap (λ (p : Sender × ℕ). p .1) short in

@@ -45,12 +45,12 @@ signaturesOf bytes message =
     ∷ (signaturesIfThere preparedSignatures (preparedOf message) ++ signaturesIfThere writtenSignatures (writtenOf message))
 
 -- The signatures of bytes that a party is handed; none if it cannot read them (2 to 5).
-abbrev pub listed : List ℕ → Outcome Message → List Signature
-listed bytes (accepted message) = signaturesOf bytes message
-listed bytes (refused number) = []
+abbrev pub signaturesIfRead : List ℕ → Outcome Message → List Signature
+signaturesIfRead bytes (accepted message) = signaturesOf bytes message
+signaturesIfRead bytes (refused number) = []
 
 unfoldable pub signaturesTo : Party → List ℕ → List Signature
-signaturesTo party bytes = listed bytes (decode party bytes)
+signaturesTo party bytes = signaturesIfRead bytes (decode party bytes)
 
 -- The i-th of them, counted from 0, if there are so many; or the refusal of the bytes.
 unfoldable pub signatureTo : Party → List ℕ → ℕ → Outcome (Option Signature)
@@ -77,7 +77,7 @@ coveredIn (accepted none) old = old
 coveredIn (refused number) old = old
 
 -- This signature was found, or none, or the refusal; the output was `old` and is now `new`.
-pub record Answers (found : Outcome (Option Signature)) (old : List ℕ) (answer : Signed) (new : List ℕ) : Type 0 where
+pub record ShowsSignature (found : Outcome (Option Signature)) (old : List ℕ) (answer : Signed) (new : List ℕ) : Type 0 where
   pub answered : signedOutcome answer ≡ found >>= λ signature. accepted (inShort signature)
   pub holds : new ≡ coveredIn found old
 

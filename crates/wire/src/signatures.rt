@@ -29,7 +29,7 @@ ghost use Rattle.wire.specs.Decode.{reading};
 ghost use Rattle.wire.specs.Message.{longest};
 ghost use Rattle.wire.specs.Parts.{countPart, writtenCount, preparedPart, writtenPart};
 ghost use Rattle.wire.specs.Proof.{preparedFrom, writtenFrom};
-ghost use Rattle.wire.specs.Signatures.{signaturesTo, signatureTo, signerOf, Answers, EntriesStand, signaturesIfThere, preparedSignatures, writtenSignatures};
+ghost use Rattle.wire.specs.Signatures.{signaturesTo, signatureTo, signerOf, ShowsSignature, EntriesStand, signaturesIfThere, preparedSignatures, writtenSignatures};
 ghost use Rattle.wire.specs.Writing.{roomy};
 
 // Whose a signature is.
@@ -94,7 +94,7 @@ fn sender(party: Party, number: u8) -> Signer
 // The message's own: its sender's, over all bytes before it.
 fn own(party: Party, number: u8, bytes: &[u8], out: &mut [u8]) -> Signed
     requires { ⌜ (64 ≤ length (now bytes)) × (length (now bytes) ≤ length (now out)) ⌝ }
-    ensures { λ r. ⌜ Answers
+    ensures { λ r. ⌜ ShowsSignature
         (accepted (some (record { signer = numbered party number; covers = take (length (now (bytes .entry)) - 64) (now (bytes .entry)) })))
         (now (out .entry)) r (now (out .exit)) ⌝ }
 {
@@ -106,7 +106,7 @@ fn own(party: Party, number: u8, bytes: &[u8], out: &mut [u8]) -> Signed
 // An entry's of a prepared proof: its replica's, over the PREPARED with the proof's timestamp and digest.
 fn of_prepared(proof: &[u8], i: usize, out: &mut [u8]) -> Signed
     requires { ⌜ EntriesStand 38 (now proof) × (i < countPart (now proof)) × (longest ≤ length (now out)) ⌝ }
-    ensures { λ r. ⌜ Answers (accepted (getElem? (preparedSignatures (preparedFrom (now (proof .entry)))) i)) (now (out .entry)) r (now (out .exit)) ⌝ }
+    ensures { λ r. ⌜ ShowsSignature (accepted (getElem? (preparedSignatures (preparedFrom (now (proof .entry)))) i)) (now (out .entry)) r (now (out .exit)) ⌝ }
 {
     let replica = ReplicaId(proof[PREPARED_HEAD + ENTRY * i]);
     let digest = digest_array(crate::parts::digest(proof));
@@ -117,7 +117,7 @@ fn of_prepared(proof: &[u8], i: usize, out: &mut [u8]) -> Signed
 // An entry's of a written proof: its replica's, over the WRITTEN with the proof's timestamp.
 fn of_written(proof: &[u8], i: usize, out: &mut [u8]) -> Signed
     requires { ⌜ EntriesStand 6 (now proof) × (i < writtenCount (now proof)) × (longest ≤ length (now out)) ⌝ }
-    ensures { λ r. ⌜ Answers (accepted (getElem? (writtenSignatures (writtenFrom (now (proof .entry)))) i)) (now (out .entry)) r (now (out .exit)) ⌝ }
+    ensures { λ r. ⌜ ShowsSignature (accepted (getElem? (writtenSignatures (writtenFrom (now (proof .entry)))) i)) (now (out .entry)) r (now (out .exit)) ⌝ }
 {
     let replica = ReplicaId(proof[WRITTEN_HEAD + ENTRY * i]);
     let covered = put_written_body(out, replica, crate::parts::timestamp(proof));
@@ -127,7 +127,7 @@ fn of_written(proof: &[u8], i: usize, out: &mut [u8]) -> Signed
 // An entry's, the prepared proof's entries first.
 fn of_entries(prepared: &[u8], written: &[u8], i: usize, out: &mut [u8]) -> Signed
     requires { ⌜ EntriesStand 38 (now prepared) × EntriesStand 6 (now written) × (longest ≤ length (now out)) ⌝ }
-    ensures { λ r. ⌜ Answers
+    ensures { λ r. ⌜ ShowsSignature
         (accepted (getElem? (signaturesIfThere preparedSignatures (preparedPart (now (prepared .entry))) ++ signaturesIfThere writtenSignatures (writtenPart (now (written .entry)))) i))
         (now (out .entry)) r (now (out .exit)) ⌝ }
 {
@@ -145,7 +145,7 @@ fn of_entries(prepared: &[u8], written: &[u8], i: usize, out: &mut [u8]) -> Sign
 // Of a message with these fields.
 fn of_fields(party: Party, bytes: &[u8], fields: Fields, i: usize, out: &mut [u8]) -> Signed
     requires { ⌜ (reading party (now bytes) ≡ accepted fields) × (longest ≤ length (now out)) ⌝ }
-    ensures { λ r. ⌜ Answers (signatureTo party (now (bytes .entry)) i) (now (out .entry)) r (now (out .exit)) ⌝ }
+    ensures { λ r. ⌜ ShowsSignature (signatureTo party (now (bytes .entry)) i) (now (out .entry)) r (now (out .exit)) ⌝ }
 {
     if i == 0 {
         return own(party, fields.sender, bytes, out);
@@ -157,7 +157,7 @@ fn of_fields(party: Party, bytes: &[u8], fields: Fields, i: usize, out: &mut [u8
 
 // Whose the i-th signature of a message is, the message's own being number 0, and which bytes it covers: they stand in front of the output, its old bytes behind.
 pub fn signature(party: Party, bytes: &[u8], i: usize, out: &mut [u8]) -> Signed
-    ensures { λ r. ⌜ Answers (guard 1 (roomy (now (out .entry))) (signatureTo party (now (bytes .entry)) i)) (now (out .entry)) r (now (out .exit)) ⌝ }
+    ensures { λ r. ⌜ ShowsSignature (guard 1 (roomy (now (out .entry))) (signatureTo party (now (bytes .entry)) i)) (now (out .entry)) r (now (out .exit)) ⌝ }
 {
     if out.len() < LONGEST_MESSAGE {
         return Signed::Refused(OUTPUT_TOO_SHORT);

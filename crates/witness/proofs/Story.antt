@@ -21,7 +21,6 @@ use Rattle.base.specs.declared.party.ReplicaId.{ReplicaId}
 use Rattle.base.specs.declared.timestamp.Timestamp.{Timestamp}
 use Rattle.protocol.specs.Client.{Answer, send, waits, done, ended}
 use Rattle.run.specs.Claims.{GoesOn, Begins, Finished, Genuine}
-use Rattle.wire.specs.Signatures.{Signature, signaturesOf, preparedSignatures}
 use Rattle.run.specs.Premises.{TrueVerdicts, TrueFor, TrueAt, cardOf, CardOfRun}
 use Rattle.wire.specs.Acceptance.{Sender, replica, client}
 use Rattle.run.specs.Run.{Event, begins-write, begins-read, to-replica, to-client, partyOf, HasBytes, CorrectIn, Run, event, answerTo, answerAt, At, Sent}
@@ -30,6 +29,7 @@ use Rattle.wire.specs.Message.{Message, body}
 use Rattle.wire.specs.Proof.{PreparedProof, preparedBytes, readPrepared}
 use Rattle.wire.specs.Checks.{proofOutcome}
 use Rattle.wire.specs.Sha256.{sha256}
+use Rattle.wire.specs.Signatures.{Signature, signaturesOf, preparedSignatures}
 use Rattle.wire.specs.declared.message.Party.the-variants.{Replica as AtReplica, Client as AtClient}
 use Rattle.base.proofs.Same.{same-equal}
 use Rattle.base.proofs.Booleans.{or-true}
