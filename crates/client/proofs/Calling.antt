@@ -24,7 +24,7 @@ use Rattle.client.specs.Stepping.{Calls}
 use Rattle.client.specs.declared.Stepped.{Stepped}
 use Rattle.client.proofs.Answering.{plain-call}
 use Rattle.base.proofs.Filling.{filled-zeros}
-use Rattle.client.proofs.Shorts.{Short, refuses, sends, counted, finishes, ends, short-write, short-read, short-step}
+use Rattle.client.proofs.Shorts.{Short, refuses, sends, waiting, finishes, ends, short-write, short-read, short-step}
 
 abbrev saysOf : ClientCall → Outcome Said
 saysOf made = clientOutcome (made .answer) (made .«card_length») (made .card) (made .output)
@@ -32,7 +32,7 @@ saysOf made = clientOutcome (made .answer) (made .«card_length») (made .card) 
 call-says : (client : Client) (old : List ℕ) (step : Outcome Turn) → Short step → saysOf (clientAnswers client old step) ≡ stepOutcome step
 call-says client old (refused number) refuses = refl
 call-says client old (accepted turn) (sends {message = m}) = rw (take-append-seam (unsigned m) (drop (length (unsigned m)) old))
-call-says client old (accepted turn) counted = refl
+call-says client old (accepted turn) waiting = refl
 call-says client old (accepted turn) (finishes {card = card} h) = rw (filled-zeros 17 card h, take-append-seam card)
 call-says client old (accepted turn) ends = refl
 

@@ -24,8 +24,8 @@ use Rattle.wire.specs.Layout.{mapIn, field}
 use Rattle.wire.specs.Message.{Message, PREPARED, WRITTEN, body}
 use Rattle.wire.specs.Parts.{partAt, preparedPart, writtenPart, timestampPart, digestPart, countPart, writtenCount}
 use Rattle.wire.specs.Proof.{Entry, PreparedProof, WrittenProof, preparedFrom, writtenFrom, readEntries}
-use Rattle.wire.specs.Putting.{Put}
 use Rattle.wire.specs.Signatures.{Signature, signedBy, preparedSignatures, writtenSignatures, signaturesIfThere, signaturesOf, signaturesTo, signatureTo, signerOf, ShowsSignature, EntriesStand}
+use Rattle.wire.specs.Putting.{Put}
 use Rattle.wire.specs.declared.message.Fields.{Fields}
 use Rattle.wire.specs.declared.message.Party.{Party}
 use Rattle.wire.specs.declared.signatures.Signed.{Signed}
