@@ -33,6 +33,7 @@ use Rattle.protocol.proofs.Calls.{long-output, replica-short}
 use Rattle.replica.specs.Kinds.{preparedWith, prepareWith}
 use Rattle.replica.specs.Stepping.{keeping, Changes, Leaves, Answers, Steps}
 use Rattle.replica.specs.declared.Stepped.{Stepped}
+use Rattle.replica.proofs.Replies.{unchanged}
 
 abbrev writtenIssued : Option WrittenProof → Bool
 writtenIssued last = ifThere (λ (proof : WrittenProof). issued (proof .timestamp)) last
@@ -131,4 +132,4 @@ module _ (replica : Replica) (bytes verdicts old : List ℕ) (stepped : Stepped)
       steps new (subst (λ (o : Outcome Reply). Leaves replica (replicaAnswers replica old o) stepped new) (sym same) l)
 
   pub steps-short : length old < longest → stepped ≡ keeping (Refused 1) replica → Steps replica bytes verdicts old (stepped .answer) (stepped .replica) old × Changes replica stepped
-  steps-short h r = steps old (subst (λ (c : ReplicaCall). Leaves replica c stepped old) (sym (replica-short replica bytes verdicts old h)) (rw r (record { answer = refl; next = refl; output = refl; changes = record { only = refl } })))
+  steps-short h r = steps old (subst (λ (c : ReplicaCall). Leaves replica c stepped old) (sym (replica-short replica bytes verdicts old h)) (rw r (record { answer = refl; next = refl; output = refl; changes = unchanged replica (Refused 1) })))

@@ -56,10 +56,20 @@ sends replica old new outcome message next encoded stepped o enough wrote e same
       changes = changes;
     })
 
+-- An answer that leaves the record as it was.
+pub unchanged : (replica : Replica) (answer : ReplicaAnswer) → Changes replica (keeping answer replica)
+unchanged replica answer = record { only = refl; first = omega arith; last = omega arith }
+
+pub sends-keeping : (replica : Replica) (old new : List ℕ) (outcome : Outcome Reply) (message : Message) (next : Replica) (encoded : Encoded) (answer : ReplicaAnswer) (stepped : Stepped)
+    → outcome ≡ answering message next → longest ≤ length old → Wrote old (unsigned message) encoded new
+    → answerOutcome answer ≡ encodedOutcome encoded → replica ≡ next → stepped ≡ keeping answer replica → Leaves replica (replicaAnswers replica old outcome) stepped new
+sends-keeping replica old new outcome message next encoded answer stepped o enough wrote e same s =
+    rw s (sends replica old new outcome message next encoded (keeping answer replica) o enough wrote e same (unchanged replica answer))
+
 -- A refusal: its number alone.
 pub refuses : (replica : Replica) (old : List ℕ) (outcome : Outcome Reply) (number : ℕ) (stepped : Stepped)
     → outcome ≡ refused number → stepped ≡ keeping (Refused number) replica → Leaves replica (replicaAnswers replica old outcome) stepped old
-refuses replica old outcome number stepped e s = rw (e, s) (record { answer = refl; next = refl; output = refl; changes = record { only = refl } })
+refuses replica old outcome number stepped e s = rw (e, s) (record { answer = refl; next = refl; output = refl; changes = unchanged replica (Refused number) })
 
 -- What the digest of a card says of test 14.
 module _ (card digest : List ℕ) (made : CardDigest) (e : made ≡ cardDigest card) where

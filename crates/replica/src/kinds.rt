@@ -1,12 +1,13 @@
 // The four requests on plain values, each with its reply in the output.
+use crate::Prepared;
 use crate::Stepped;
-use crate::register::Slot;
-use crate::register::digest_at;
+use crate::fresh_held;
 use crate::register::holding;
 use crate::register::is_kept;
 use crate::register::later;
-use crate::register::put_digest;
+use crate::register::put_slot;
 use crate::register::slot_admits;
+use crate::register::slot_is;
 use base::bytes::same;
 use base::party::ClientId;
 use base::refusal::BAD_CARD;
@@ -34,18 +35,39 @@ ghost use Rattle.wire.specs.Proof.{preparedFrom};
 ghost use Rattle.wire.specs.Writing.{encodedOutcome};
 ghost use Rattle.protocol.specs.Replica.{answerOutcome, isTimestamp, withSlots, withHeld, onReadStamp, onWrite, onRead, replicaAnswers};
 ghost use Rattle.replica.specs.Kinds.{ownOrMissing, standsFor, prepareWith};
-ghost use Rattle.replica.specs.Stepping.{keeping, Leaves};
+ghost use Rattle.replica.specs.Stepping.{nothingPrepared, keeping, Leaves};
+
+// In place of what was not prepared.
+fn nothing_prepared() -> Prepared
+    ensures { λ r. ⌜ r ≡ nothingPrepared ⌝ }
+{
+    Prepared {
+        client: ClientId(1),
+        count: 0,
+        digest: [0; DIGEST],
+        written: Timestamp::start(),
+    }
+}
+
+// An answer that leaves the record as it was.
+fn keep(replica: Replica, answer: ReplicaAnswer) -> Stepped
+    ensures { λ r. ⌜ r ≡ keeping answer replica ⌝ }
+{
+    Stepped {
+        answer: answer,
+        holds: false,
+        prepares: false,
+        replica: replica,
+        prepared: nothing_prepared(),
+        held: fresh_held(),
+    }
+}
 
 // A refusal, which leaves the record as it was.
 pub(super) fn refuse(replica: Replica, number: u8) -> Stepped
     ensures { λ r. ⌜ r ≡ keeping (ReplicaAnswer.Refused number) replica ⌝ }
 {
-    Stepped {
-        answer: ReplicaAnswer::Refused(number),
-        holds: false,
-        prepares: false,
-        replica: replica,
-    }
+    keep(replica, ReplicaAnswer::Refused(number))
 }
 
 fn answer_of(encoded: Encoded) -> ReplicaAnswer
@@ -101,12 +123,7 @@ pub(super) fn read_stamp(replica: Replica, client: ClientId, nonce: u64, out: &m
         &entries,
         client,
     );
-    Stepped {
-        answer: answer_of(encoded),
-        holds: false,
-        prepares: false,
-        replica: replica,
-    }
+    keep(replica, answer_of(encoded))
 }
 
 // READ
@@ -130,12 +147,7 @@ pub(super) fn read(replica: Replica, client: ClientId, nonce: u64, out: &mut [u8
         &entries,
         client,
     );
-    Stepped {
-        answer: answer_of(encoded),
-        holds: false,
-        prepares: false,
-        replica: replica,
-    }
+    keep(replica, answer_of(encoded))
 }
 
 // Test 12, with 0.0 for a missing written proof.
@@ -177,36 +189,35 @@ pub(super) fn prepare(
     if !is_successor(timestamp, shown, client) {
         return refuse(replica, NOT_SUCCESSOR);
     }
-    let at = client.0 as usize - 1;
-    let mut slots = replica.register.slots;
-    let before = slots.written;
+    let before = replica.register.slots.written;
     let written = later(before, last);
-    let slot = Slot {
-        count: slots.counts[at],
-        digest: digest_at(&slots.digests, 32 * at),
-    };
-    if !slot_admits(slot, client, timestamp, digest, written) {
+    let counts = replica.register.slots.counts;
+    let count = counts[client.0 as usize - 1];
+    let digests = replica.register.slots.digests;
+    let again = slot_is(count, digests, client, timestamp, digest);
+    if !slot_admits(again, count, client, timestamp, written) {
         // A refused PREPARE leaves the written timestamp too as it was.
         return refuse(replica, NOT_TAKEN);
     }
     let encoded = wire::writer::write_prepared(out, replica.id, timestamp, digest);
     let answer = answer_of(encoded);
-    if is_kept(slot, client, timestamp, digest, before, written) {
-        return Stepped {
-            answer: answer,
-            holds: false,
-            prepares: false,
-            replica: replica,
-        };
+    if is_kept(again, before, written) {
+        return keep(replica, answer);
     }
-    slots.counts[at] = timestamp.count;
-    put_digest(&mut slots.digests, 32 * at, digest);
-    slots.written = written;
+    let prepared = Prepared {
+        client: client,
+        count: timestamp.count,
+        digest: *digest,
+        written: written,
+    };
+    let slots = put_slot(replica.register.slots, prepared);
     Stepped {
         answer: answer,
         holds: false,
         prepares: true,
         replica: with_slots(replica, slots),
+        prepared: prepared,
+        held: fresh_held(),
     }
 }
 
@@ -236,12 +247,7 @@ pub(super) fn write(replica: Replica, card: &[u8], proof: &[u8], out: &mut [u8])
     let answer = answer_of(encoded);
     let current = replica.register.held.timestamp;
     if !current.is_before(timestamp) {
-        return Stepped {
-            answer: answer,
-            holds: false,
-            prepares: false,
-            replica: replica,
-        };
+        return keep(replica, answer);
     }
     let next = holding(card, proof);
     Stepped {
@@ -249,5 +255,7 @@ pub(super) fn write(replica: Replica, card: &[u8], proof: &[u8], out: &mut [u8])
         holds: true,
         prepares: false,
         replica: with_held(replica, next),
+        prepared: nothing_prepared(),
+        held: next,
     }
 }

@@ -4,6 +4,7 @@ mod kinds;
 mod register;
 mod requests;
 
+use base::party::ClientId;
 use base::party::ReplicaId;
 use base::party::Setup;
 use base::party::replica_setup;
@@ -34,12 +35,36 @@ pub struct NewReplica {
     pub replica: Replica,
 }
 
-// What a step leaves. Of the record it changes what is held only if `holds`, and the slots only if `prepares`.
+// What a PREPARE puts: its client's slot, and the written timestamp.
+pub struct Prepared {
+    pub client: ClientId,
+    pub count: u32,
+    pub digest: [u8; DIGEST],
+    pub written: Timestamp,
+}
+
+// What a step leaves. Of the record it changes what is held, to `held`, only if `holds`, and the slots, by `prepared`, only if
+// `prepares`. So the thin step needs no part of the record that is left.
 pub struct Stepped {
     pub answer: ReplicaAnswer,
     pub holds: bool,
     pub prepares: bool,
     pub replica: Replica,
+    pub prepared: Prepared,
+    pub held: Held,
+}
+
+fn fresh_held() -> Held
+    ensures { λ r. ⌜ r ≡ freshRegister .held ⌝ }
+{
+    Held {
+        timestamp: Timestamp::start(),
+        card_length: 2,
+        card: [0; CARD_ROOM],
+        digest: [0; DIGEST],
+        entry_count: 0,
+        entries: [0; ENTRIES_ROOM],
+    }
 }
 
 fn fresh_register() -> Register
@@ -51,14 +76,7 @@ fn fresh_register() -> Register
             digests: [0; SLOT_DIGESTS],
             written: Timestamp::start(),
         },
-        held: Held {
-            timestamp: Timestamp::start(),
-            card_length: 2,
-            card: [0; CARD_ROOM],
-            digest: [0; DIGEST],
-            entry_count: 0,
-            entries: [0; ENTRIES_ROOM],
-        },
+        held: fresh_held(),
     }
 }
 
@@ -114,9 +132,9 @@ pub fn step_in_place(
     let before = *replica;
     let stepped = step(before, message, verdicts, out);
     if stepped.holds {
-        replica.register.held = stepped.replica.register.held;
+        replica.register.held = stepped.held;
     } else if stepped.prepares {
-        replica.register.slots = stepped.replica.register.slots;
+        replica.register.slots = register::put_slot(replica.register.slots, stepped.prepared);
     }
     stepped.answer
 }

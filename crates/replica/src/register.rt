@@ -1,10 +1,12 @@
 // What PREPARE and WRITE do to the parts of a register.
+use crate::Prepared;
 use base::bytes::put;
 use base::bytes::same;
 use base::party::ClientId;
 use base::timestamp::Timestamp;
 use protocol::replica::Held;
 use protocol::replica::SLOT_DIGESTS;
+use protocol::replica::Slots;
 use wire::arrays::card_array;
 use wire::arrays::digest_array;
 use wire::arrays::entries_array;
@@ -14,33 +16,46 @@ ghost use mathlib.Core.Path.{_≡_};
 ghost use mathlib.Core.Bool.{_&&_, _||_};
 ghost use lib.Dec.{eqb};
 ghost use mathlib.Core.List.{_++_};
-ghost use Prim.Native.Nat.{_+_, _≤_, max};
+ghost use Prim.Native.Nat.{_+_, _-_, _*_, _≤_, max};
 ghost use lib.ListN.{length, take, drop};
+ghost use Rattle.base.specs.Same.{same};
 ghost use Rattle.base.specs.Timestamp.{number};
 ghost use Rattle.protocol.specs.Replica.{holding};
 ghost use Rattle.wire.specs.Parts.{Whole};
 ghost use Rattle.wire.specs.Proof.{preparedFrom};
 ghost use Rattle.replica.specs.Kinds.{isSlot, takesSlot};
+ghost use Rattle.replica.specs.Stepping.{putting};
 
-// A client's slot, copied out once, so that all that a PREPARE asks is asked of a small value.
-pub struct Slot {
-    pub count: u32,
-    pub digest: [u8; DIGEST],
+// Whether a client's slot has this digest. The digests are copied here, where they are read.
+fn has_digest(digests: [u8; SLOT_DIGESTS], client: ClientId, digest: &[u8; DIGEST]) -> bool
+    requires { ⌜ (1 ≤ client .0) × (client .0 ≤ 64) ⌝ }
+    ensures { λ r. ⌜ r ≡ same (take 32 (drop (32 * (client .0 - 1)) digests)) (now (digest .entry)) ⌝ }
+{
+    let all = &digests[..];
+    let at = 32 * (client.0 as usize - 1);
+    let end = at + DIGEST;
+    same(&all[at..end], digest)
 }
 
 // Whether a client's slot has this timestamp and digest.
-fn slot_is(slot: Slot, client: ClientId, timestamp: Timestamp, digest: &[u8; DIGEST]) -> bool
-    ensures { λ r. ⌜ r ≡ isSlot (slot .count) (slot .digest) client (number timestamp) (now (digest .entry)) ⌝ }
+pub(super) fn slot_is(
+    count: u32,
+    digests: [u8; SLOT_DIGESTS],
+    client: ClientId,
+    timestamp: Timestamp,
+    digest: &[u8; DIGEST],
+) -> bool
+    requires { ⌜ (1 ≤ client .0) × (client .0 ≤ 64) ⌝ }
+    ensures { λ r. ⌜ r ≡ isSlot count (take 32 (drop (32 * (client .0 - 1)) digests)) client (number timestamp) (now (digest .entry)) ⌝ }
 {
     let held = Timestamp {
-        count: slot.count,
+        count: count,
         client: client,
     };
     if !held.is(timestamp) {
         return false;
     }
-    let bytes = slot.digest;
-    same(&bytes, digest)
+    has_digest(digests, client, digest)
 }
 
 // Whether a client's slot with this count takes a new timestamp.
@@ -62,18 +77,18 @@ fn slot_takes(count: u32, client: ClientId, timestamp: Timestamp, written: Times
 
 // Whether a PREPARE is taken: the slot has its timestamp and digest, or takes them.
 pub(super) fn slot_admits(
-    slot: Slot,
+    again: bool,
+    count: u32,
     client: ClientId,
     timestamp: Timestamp,
-    digest: &[u8; DIGEST],
     written: Timestamp,
 ) -> bool
-    ensures { λ r. ⌜ r ≡ (isSlot (slot .count) (slot .digest) client (number timestamp) (now (digest .entry)) || takesSlot (slot .count) client (number timestamp) (number written)) ⌝ }
+    ensures { λ r. ⌜ r ≡ (again || takesSlot count client (number timestamp) (number written)) ⌝ }
 {
-    if slot_is(slot, client, timestamp, digest) {
+    if again {
         return true;
     }
-    slot_takes(slot.count, client, timestamp, written)
+    slot_takes(count, client, timestamp, written)
 }
 
 pub(super) fn later(a: Timestamp, b: Timestamp) -> Timestamp
@@ -83,37 +98,36 @@ pub(super) fn later(a: Timestamp, b: Timestamp) -> Timestamp
 }
 
 // Whether a PREPARE that is taken leaves all as it was: the slot has its timestamp and digest, and no written proof is later.
-pub(super) fn is_kept(
-    slot: Slot,
-    client: ClientId,
-    timestamp: Timestamp,
-    digest: &[u8; DIGEST],
-    before: Timestamp,
-    written: Timestamp,
-) -> bool
-    ensures { λ r. ⌜ r ≡ (eqb (number before) (number written) && isSlot (slot .count) (slot .digest) client (number timestamp) (now (digest .entry))) ⌝ }
+pub(super) fn is_kept(again: bool, before: Timestamp, written: Timestamp) -> bool
+    ensures { λ r. ⌜ r ≡ (eqb (number before) (number written) && again) ⌝ }
 {
     if !before.is(written) {
         return false;
     }
-    slot_is(slot, client, timestamp, digest)
+    again
 }
 
-// A slot's digest among those of all slots: read, and stored.
-pub(super) fn digest_at(digests: &[u8; SLOT_DIGESTS], at: usize) -> [u8; DIGEST]
-    requires { ⌜ at + 32 ≤ 2048 ⌝ }
-    ensures { λ r. ⌜ r ≡ take 32 (drop at (now (digests .entry))) ⌝ }
-{
-    let all = &digests[..];
-    let end = at + DIGEST;
-    digest_array(&all[at..end])
-}
-
-pub(super) fn put_digest(digests: &mut [u8; SLOT_DIGESTS], at: usize, digest: &[u8; DIGEST])
+// A slot's digest stored among those of all slots.
+fn put_digest(digests: &mut [u8; SLOT_DIGESTS], at: usize, digest: &[u8; DIGEST])
     requires { ⌜ at + 32 ≤ 2048 ⌝ }
     ensures { λ _. ⌜ now (digests .exit) ≡ take at (now (digests .entry)) ++ (now (digest .entry) ++ drop (at + 32) (now (digests .entry))) ⌝ }
 {
     put(digests, at, digest);
+}
+
+// The slots with what a PREPARE puts.
+pub(super) fn put_slot(slots: Slots, prepared: Prepared) -> Slots
+    requires { ⌜ (1 ≤ prepared .client .0) × (prepared .client .0 ≤ 64) ⌝ }
+    ensures { λ r. ⌜ r ≡ putting prepared slots ⌝ }
+{
+    let at = prepared.client.0 as usize - 1;
+    let digest = prepared.digest;
+    let mut next = slots;
+    next.counts[at] = prepared.count;
+    put_digest(&mut next.digests, 32 * at, &digest);
+    let written = prepared.written;
+    next.written = written;
+    next
 }
 
 // A card and its prepared proof, as they are held.

@@ -6,7 +6,7 @@ use Rattle.replica.proofs.fresh_register.Tie as tie
 
 returns : tie.Need-returns
 unfolding freshRegister
-returns c = rw (c .before .start .ensures, c .start2 .ensures)
+returns c = rw (c .before .start .ensures, c .fresh-held .ensures)
 
 pub fresh-register-spec : {M : Type 1} → statement M
 fresh-register-spec = tie.close (tie.spec (λ c κs. search needs) (λ c κs. search needs) returns)

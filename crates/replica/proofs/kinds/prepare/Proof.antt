@@ -1,7 +1,7 @@
 -- `replica::kinds::prepare` meets its contract. Assumes nothing.
 use mathlib.Core.Path.{_≡_, refl, sym, ap, _∙_}
 use mathlib.Core.Bool.{true, _||_}
-use Prim.Native.Nat.{_+_, _-_, _*_, _/_, max}
+use Prim.Native.Nat.{_/_, max}
 use native.Mathlib.Omega.{arith}
 use borrow.Author.Tests.{not-true, not-false}
 use borrow.Author.Needs.{needs}
@@ -9,13 +9,13 @@ use Rattle.base.specs.Timestamp.{number, ofNumber, successor}
 use Rattle.base.proofs.Timestamps.{ofNumber-number}
 use Rattle.protocol.specs.Replica.{isTimestamp, slotIs, slotTakes, withSlots}
 use Rattle.replica.specs.Kinds.{ownOrMissing}
-use Rattle.replica.proofs.Replies.{sends, refuses, not-own, not-successor, not-taken, is-taken}
+use Rattle.replica.proofs.Replies.{sends, sends-keeping, refuses, not-own, not-successor, not-taken, is-taken}
 use Rattle.replica.proofs.Slots.{kept}
 use Rattle.replica.proofs.kinds.prepare.Statement.{statement}
 use Rattle.replica.proofs.kinds.prepare.Tie as tie
 
 abbrev start : tie.After-slot-admits → tie.Start
-start c = c .before .before .before .before .before .before .before .before .before .before .before .before .before .before
+start c = c .before .before .before .before .before .before .before .before .before .before .before .before
 
 own : (c : tie.Else1) → ownOrMissing (c .before .before .before .args .client) (number (c .before .before .before .args .last)) ≡ true
 own c = sym (c .before .is-own .ensures) ∙ not-false _ (c .if1 .left)
@@ -30,7 +30,7 @@ asked : (c : tie.After-slot-admits)
     → c .slot-admits .result
     ≡ (slotIs (start c .args .client) (number (start c .args .timestamp)) (start c .args .digest .now) (start c .args .replica .register .slots)
     || slotTakes (start c .args .client) (number (start c .args .timestamp)) (max (number (start c .args .replica .register .slots .written)) (number (start c .args .last))) (start c .args .replica .register .slots))
-asked c = rw (c .before .digest-at .ensures, c .before .before .before .before .before .later .ensures) at (c .slot-admits .ensures)
+asked c = rw (c .before .slot-is .ensures, c .before .before .before .before .before .later .ensures) at (c .slot-admits .ensures)
 
 returns : tie.Need-returns
 returns c =
@@ -53,43 +53,37 @@ returns-3 c =
     let s = start x in
     let a = s .args in
     refuses (a .replica) (a .out .now) _ 15 _
-    (not-taken (a .replica) (a .client) (number (a .timestamp)) (a .digest .now) (number (a .shown)) (number (a .last)) (own (x .before .before .before .before .before .before .before .before .before .before .before)) (follows (x .before .before .before .before .before .before .before .before .before)) (s .pre .0 .0) (omega (arith, s .pre .0 .1)) (x .slot-admits .result) (asked x) (not-true _ (c .before .if3 .taken)))
+    (not-taken (a .replica) (a .client) (number (a .timestamp)) (a .digest .now) (number (a .shown)) (number (a .last)) (own (x .before .before .before .before .before .before .before .before .before)) (follows (x .before .before .before .before .before .before .before)) (s .pre .0 .0) (omega (arith, s .pre .0 .1)) (x .slot-admits .result) (asked x) (not-true _ (c .before .if3 .taken)))
     (c .refuse3 .ensures)
 
 -- Nothing is stored.
 returns-4 : tie.Need-returns-4
 returns-4 c =
-    let w = c .before .before .before .before .before in
+    let w = c .before .before .before .before .before .before in
     let x = w .before .before .before in
     let s = start x in
     let a = s .args in
-    let is-kept = rw (x .before .digest-at .ensures, x .before .before .before .before .before .later .ensures) at (c .before .is-kept .ensures) in
-    let same = kept (a .client) (number (a .timestamp)) (a .digest .now) (a .replica .register .slots) (s .pre .0 .0) (omega (arith, s .pre .0 .1)) (max (number (a .replica .register .slots .written)) (number (a .last))) (omega (arith, s .good .0)) (sym is-kept ∙ c .if4 .taken) in
-    sends (a .replica) (a .out .now) _ _ _ _ _ _
-    (is-taken (a .replica) (a .client) (number (a .timestamp)) (a .digest .now) (number (a .shown)) (number (a .last)) (own (x .before .before .before .before .before .before .before .before .before .before .before)) (follows (x .before .before .before .before .before .before .before .before .before)) (s .pre .0 .0) (omega (arith, s .pre .0 .1)) (x .slot-admits .result) (asked x) (not-false _ (w .before .before .if3 .left)))
-    (s .pre .1) (w .write-prepared .ensures) (c .before .before .answer-of .ensures) (ap (withSlots (a .replica)) same) (record { only = refl })
-
-element-write-slots : tie.Need-element-write-slots
-element-write-slots c = let s = start (c .before .before .before .before .before .before .before .before) in omega (arith, s .pre .0 .0, s .pre .0 .1)
-
-put-digest-requires : tie.Need-put-digest-requires
-put-digest-requires c κs = let s = start (c .before .before .before .before .before .before .before .before .before) in omega (arith, s .pre .0 .0, s .pre .0 .1)
+    let is-kept = rw (x .before .slot-is .ensures, x .before .before .before .before .before .later .ensures) at (c .before .before .is-kept .ensures) in
+    let same = kept (a .client) (number (a .timestamp)) (a .digest .now) (a .replica .register .slots) (s .pre .0 .0) (omega (arith, s .pre .0 .1)) (max (number (a .replica .register .slots .written)) (number (a .last))) (omega (arith, s .good .0)) (sym is-kept ∙ c .before .if4 .taken) in
+    sends-keeping (a .replica) (a .out .now) _ _ _ _ _ _ _
+    (is-taken (a .replica) (a .client) (number (a .timestamp)) (a .digest .now) (number (a .shown)) (number (a .last)) (own (x .before .before .before .before .before .before .before .before .before)) (follows (x .before .before .before .before .before .before .before)) (s .pre .0 .0) (omega (arith, s .pre .0 .1)) (x .slot-admits .result) (asked x) (not-false _ (w .before .before .if3 .left)))
+    (s .pre .1) (w .write-prepared .ensures) (c .before .before .before .answer-of .ensures) (ap (withSlots (a .replica)) same) (c .keep .ensures)
 
 -- The slot is put, and the written timestamp.
 returns-5 : tie.Need-returns-5
 returns-5 c =
-    let w = c .before .before .before .before .before .before .before .before in
+    let w = c .before .before .before .before .before .before .before .before .before in
     let x = w .before .before .before in
     let s = start x in
     let a = s .args in
+    let slots = c .before .before .put-slot .ensures in
     let count : number (a .timestamp) / 256 ≡ a .timestamp .count = omega (arith, s .good .1 .1 .0) in
-    let wide : 32 * (a .client .0 - 1) + 32 ≡ 32 * a .client .0 = omega (arith, s .pre .0 .0) in
     let written : ofNumber (max (number (a .replica .register .slots .written)) (number (a .last))) ≡ x .before .before .before .before .before .later .result = rw (← x .before .before .before .before .before .later .ensures) (ofNumber-number (x .before .before .before .before .before .later .result) (omega (arith, x .before .before .before .before .before .later .ok))) in
     sends (a .replica) (a .out .now) _ _ _ _ _ _
-    (is-taken (a .replica) (a .client) (number (a .timestamp)) (a .digest .now) (number (a .shown)) (number (a .last)) (own (x .before .before .before .before .before .before .before .before .before .before .before)) (follows (x .before .before .before .before .before .before .before .before .before)) (s .pre .0 .0) (omega (arith, s .pre .0 .1)) (x .slot-admits .result) (asked x) (not-false _ (w .before .before .if3 .left)))
-    (s .pre .1) (w .write-prepared .ensures) (c .before .before .before .before .before .answer-of .ensures)
-    (c .with-slots .ensures ∙ rw (c .before .put-digest .ensures, written, count, wide))
-    (record { only = rw (c .with-slots .ensures) })
+    (is-taken (a .replica) (a .client) (number (a .timestamp)) (a .digest .now) (number (a .shown)) (number (a .last)) (own (x .before .before .before .before .before .before .before .before .before)) (follows (x .before .before .before .before .before .before .before)) (s .pre .0 .0) (omega (arith, s .pre .0 .1)) (x .slot-admits .result) (asked x) (not-false _ (w .before .before .if3 .left)))
+    (s .pre .1) (w .write-prepared .ensures) (c .before .before .before .before .before .before .answer-of .ensures)
+    (c .before .with-slots .ensures ∙ rw (slots, written, count))
+    (record { only = c .before .with-slots .ensures ∙ ap (withSlots (a .replica)) slots; first = s .pre .0 .0; last = s .pre .0 .1 })
 
 pub prepare-spec : {M : Type 1} → statement M
 prepare-spec =
@@ -101,9 +95,8 @@ prepare-spec =
     (λ c κs. search needs)
     (λ c κs. search needs)
     returns-2
-    (λ c. search needs)
-    (λ c. search needs)
     (λ c κs. search needs)
+    (λ c. search needs)
     (λ c. search needs)
     (λ c. search needs)
     (λ c. search needs)
@@ -114,12 +107,11 @@ prepare-spec =
     (λ c κs. search needs)
     (λ c κs. search needs)
     (λ c κs. search needs)
+    (λ c κs. search needs)
     (λ c. search needs)
     returns-4
-    (λ c. search needs)
-    element-write-slots
-    (λ c. search needs)
-    put-digest-requires
+    (λ c κs. search needs)
+    (λ c κs. search needs)
     (λ c κs. search needs)
     (λ c. search needs)
     returns-5)

@@ -2,6 +2,7 @@
 use mathlib.Core.Path.{_≡_, refl, sym, ap, _∙_}
 use mathlib.Core.Bool.{true}
 use Prim.Native.Nat.{ℕ}
+use native.Mathlib.Omega.{arith}
 use borrow.Author.Tests.{not-true, not-false}
 use borrow.Author.Needs.{needs}
 use lib.Dec.{ltb}
@@ -11,7 +12,7 @@ use Rattle.wire.specs.Proof.{preparedFrom}
 use Rattle.wire.proofs.Handed.{ByParts, by-parts}
 use Rattle.protocol.specs.Replica.{heldTimestamp, afterWrite, answering, onWrite, withHeld}
 use Rattle.replica.specs.Kinds.{standsFor}
-use Rattle.replica.proofs.Replies.{sends, refuses, wrong-card, right-card, not-later, is-later, standing-short}
+use Rattle.replica.proofs.Replies.{sends, sends-keeping, refuses, wrong-card, right-card, not-later, is-later, standing-short}
 use Rattle.replica.proofs.kinds.write.Statement.{statement}
 use Rattle.replica.proofs.kinds.write.Tie as tie
 
@@ -51,13 +52,13 @@ replies c =
 
 returns-2 : tie.Need-returns-2
 returns-2 c =
-    let w = c .before .before .before .before .before .before in
+    let w = c .before .before .before .before .before .before .before in
     let x = w .before .before in
     let s = x .before .before .before .before .before .before .before in
     let a = s .args in
-    let later = ap (ltb (heldTimestamp (a .replica .register .held))) (stamp x) ∙ sym (c .before .is-before .ensures .by-number) ∙ not-true _ (c .if2 .taken) in
-    sends (a .replica) (a .out .now) _ _ _ _ _ _ (replies x) (s .pre .1) (w .write-written .ensures) (c .before .before .before .answer-of .ensures)
-    (sym (not-later (a .replica) (a .card .now) (preparedFrom (a .proof .now)) later)) (record { only = refl })
+    let later = ap (ltb (heldTimestamp (a .replica .register .held))) (stamp x) ∙ sym (c .before .before .is-before .ensures .by-number) ∙ not-true _ (c .before .if2 .taken) in
+    sends-keeping (a .replica) (a .out .now) _ _ _ _ _ _ _ (replies x) (s .pre .1) (w .write-written .ensures) (c .before .before .before .before .answer-of .ensures)
+    (sym (not-later (a .replica) (a .card .now) (preparedFrom (a .proof .now)) later)) (c .keep .ensures)
 
 holding-requires : tie.Need-holding-requires
 holding-requires c κs =
@@ -67,14 +68,14 @@ holding-requires c κs =
 
 returns-3 : tie.Need-returns-3
 returns-3 c =
-    let w = c .before .before .before .before .before .before .before .before in
+    let w = c .before .before .before .before .before .before .before .before .before in
     let x = w .before .before in
     let s = x .before .before .before .before .before .before .before in
     let a = s .args in
-    let later = ap (ltb (heldTimestamp (a .replica .register .held))) (stamp x) ∙ sym (c .before .before .before .is-before .ensures .by-number) ∙ not-false _ (c .before .before .if2 .left) in
-    sends (a .replica) (a .out .now) _ _ _ _ _ _ (replies x) (s .pre .1) (w .write-written .ensures) (c .before .before .before .before .before .answer-of .ensures)
-    (c .with-held .ensures ∙ ap (withHeld (a .replica)) (c .before .holding .ensures ∙ sym (is-later (a .replica) (a .card .now) (preparedFrom (a .proof .now)) later)))
-    (record { only = rw (c .with-held .ensures) })
+    let later = ap (ltb (heldTimestamp (a .replica .register .held))) (stamp x) ∙ sym (c .before .before .before .before .is-before .ensures .by-number) ∙ not-false _ (c .before .before .before .if2 .left) in
+    sends (a .replica) (a .out .now) _ _ _ _ _ _ (replies x) (s .pre .1) (w .write-written .ensures) (c .before .before .before .before .before .before .answer-of .ensures)
+    (c .before .with-held .ensures ∙ ap (withHeld (a .replica)) (c .before .before .holding .ensures ∙ sym (is-later (a .replica) (a .card .now) (preparedFrom (a .proof .now)) later)))
+    (record { only = c .before .with-held .ensures; first = rw (c .nothing-prepared .ensures) (omega arith); last = rw (c .nothing-prepared .ensures) (omega arith) })
 
 pub write-spec : {M : Type 1} → statement M
 write-spec =
@@ -88,9 +89,11 @@ write-spec =
     (λ c κs. search needs)
     (λ c κs. search needs)
     (λ c κs. search needs)
+    (λ c κs. search needs)
     (λ c. search needs)
     returns-2
     holding-requires
+    (λ c κs. search needs)
     (λ c κs. search needs)
     (λ c. search needs)
     returns-3)

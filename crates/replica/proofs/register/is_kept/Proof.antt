@@ -9,7 +9,7 @@ returns : tie.Need-returns
 returns c = rw (sym (c .before .is .ensures) ∙ not-true _ (c .if1 .taken))
 
 returns-2 : tie.Need-returns-2
-returns-2 c = rw (sym (c .before .before .is .ensures) ∙ not-false _ (c .before .if1 .left)) (c .slot-is .ensures)
+returns-2 c = rw (sym (c .before .is .ensures) ∙ not-false _ (c .if1 .left))
 
 pub is-kept-spec : {M : Type 1} → statement M
-is-kept-spec = tie.close (tie.spec (λ c κs. search needs) returns (λ c κs. search needs) returns-2)
+is-kept-spec = tie.close (tie.spec (λ c κs. search needs) returns returns-2)

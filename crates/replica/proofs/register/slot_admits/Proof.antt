@@ -5,10 +5,10 @@ use Rattle.replica.proofs.register.slot_admits.Statement.{statement}
 use Rattle.replica.proofs.register.slot_admits.Tie as tie
 
 returns : tie.Need-returns
-returns c = rw (sym (c .before .slot-is .ensures) ∙ c .if1 .taken)
+returns c = rw (c .if1 .taken)
 
 returns-2 : tie.Need-returns-2
-returns-2 c = rw (sym (c .before .before .slot-is .ensures) ∙ c .before .if1 .left) (c .slot-takes .ensures)
+returns-2 c = rw (c .before .if1 .left) (c .slot-takes .ensures)
 
 pub slot-admits-spec : {M : Type 1} → statement M
-slot-admits-spec = tie.close (tie.spec (λ c κs. search needs) returns (λ c κs. search needs) returns-2)
+slot-admits-spec = tie.close (tie.spec returns (λ c κs. search needs) returns-2)

@@ -1,0 +1,10 @@
+-- `replica::kinds::keep` meets its contract. Assumes nothing.
+use borrow.Author.Needs.{needs}
+use Rattle.replica.proofs.kinds.keep.Statement.{statement}
+use Rattle.replica.proofs.kinds.keep.Tie as tie
+
+returns : tie.Need-returns
+returns c = rw (c .before .nothing-prepared .ensures, c .fresh-held .ensures)
+
+pub keep-spec : {M : Type 1} → statement M
+keep-spec = tie.close (tie.spec (λ c κs. search needs) (λ c κs. search needs) returns)
