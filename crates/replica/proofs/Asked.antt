@@ -31,7 +31,8 @@ use Rattle.protocol.specs.declared.replica.Replica.{Replica}
 use Rattle.protocol.specs.declared.replica.ReplicaAnswer.the-variants.{Refused}
 use Rattle.protocol.proofs.Calls.{long-output, replica-short}
 use Rattle.replica.specs.Kinds.{preparedWith, prepareWith}
-use Rattle.replica.specs.Stepping.{keeping, Changes, Leaves, Answers, Steps}
+use Rattle.replica.specs.Leaving.{keeping, Leaves, Answers}
+use Rattle.replica.specs.Stepping.{Changes, Steps}
 use Rattle.replica.specs.declared.Stepped.{Stepped}
 use Rattle.replica.proofs.Replies.{unchanged}
 

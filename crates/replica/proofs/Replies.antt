@@ -6,9 +6,7 @@ use Prim.Native.Nat.{ℕ, _-_, _≤_, _<_, max}
 use native.Mathlib.Omega.{arith}
 use borrow.Author.Tests.{le-leb}
 use lib.Dec.{eqb, leb, ltb}
-use lib.ListN.{length, getD, take, drop, length-drop}
-use lib.Seq.{take-all, take-take}
-use Rattle.base.specs.BigEndian.{fromBytes}
+use lib.ListN.{length}
 use Rattle.base.specs.Outcome.{Outcome, accepted, refused, guard}
 use Rattle.base.specs.Same.{same}
 use Rattle.base.specs.Timestamp.{number, ofNumber, successor, successorOf}
@@ -18,11 +16,10 @@ use Rattle.base.specs.declared.timestamp.Successor.the-variants.{Next, Missing}
 use Rattle.base.specs.declared.timestamp.Timestamp.{Timestamp}
 use Rattle.base.proofs.Booleans.{and-true-both}
 use Rattle.base.proofs.Outcome.{guard-passes}
-use Rattle.base.proofs.Timestamps.{ofNumber-number, number-ofNumber}
-use Rattle.base.specs.Bytes.{between}
+use Rattle.base.proofs.Timestamps.{ofNumber-number}
 use Rattle.wire.specs.Card.{isCard, cardDigest, digestAnswer}
 use Rattle.wire.specs.Message.{Message, PREPARED, WRITTEN, longest}
-use Rattle.wire.specs.Proof.{PreparedProof, preparedFrom}
+use Rattle.wire.specs.Proof.{PreparedProof}
 use Rattle.wire.specs.Sha256.{sha256}
 use Rattle.wire.specs.Writing.{Wrote, encodedOutcome, unsigned}
 use Rattle.wire.specs.declared.card.CardCheck.the-variants.{Good, Refused as Bad}
@@ -34,7 +31,8 @@ use Rattle.protocol.specs.declared.replica.Replica.{Replica}
 use Rattle.protocol.specs.declared.replica.ReplicaAnswer.{ReplicaAnswer}
 use Rattle.protocol.specs.declared.replica.ReplicaAnswer.the-variants.{Send, Refused}
 use Rattle.replica.specs.Kinds.{ownOrMissing, prepareWith, standsFor}
-use Rattle.replica.specs.Stepping.{keeping, Changes, Leaves}
+use Rattle.replica.specs.Leaving.{keeping, Leaves}
+use Rattle.replica.specs.Stepping.{Changes}
 use Rattle.replica.specs.declared.Stepped.{Stepped}
 use Rattle.replica.proofs.Slots.{admitted, not-admitted}
 

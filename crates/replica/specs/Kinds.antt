@@ -1,18 +1,14 @@
 -- PREPARE and WRITE on plain values, as the code reads them: once 2 to 11 are passed, what a replica makes of them.
-use mathlib.Core.Path.{_≡_}
 use mathlib.Core.Bool.{Bool, _&&_, _||_, cond}
 use mathlib.Core.List.{List}
-use Prim.Native.Nat.{ℕ, _+_, _*_, _%_, _≤_, max}
+use Prim.Native.Nat.{ℕ, _+_, _*_, _%_, max}
 use lib.Dec.{eqb, leb, ltb}
-use lib.ListN.{length}
 use Rattle.base.specs.Outcome.{Outcome, accepted, guard, _>>=_}
 use Rattle.base.specs.Same.{same}
 use Rattle.base.specs.Timestamp.{number, ofNumber, successor}
 use Rattle.base.specs.declared.party.ClientId.{ClientId}
-use Rattle.base.specs.declared.timestamp.Timestamp.{Timestamp}
 use Rattle.wire.specs.Card.{isCard}
 use Rattle.wire.specs.Message.{PREPARED}
-use Rattle.wire.specs.Proof.{PreparedProof, readEntries}
 use Rattle.wire.specs.Sha256.{sha256}
 use Rattle.protocol.specs.Replica.{withWritten, withSlot, slotIs, slotTakes, isTimestamp, Reply, answering, withSlots}
 use Rattle.protocol.specs.declared.replica.Replica.{Replica}

@@ -1,3 +1,4 @@
 pub mod Exported
 pub mod Kinds
+pub mod Leaving
 pub mod Stepping

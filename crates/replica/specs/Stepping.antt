@@ -1,15 +1,10 @@
--- The contracts of a step and of its parts: what a call leaves.
+-- The contract of a step: what a call leaves, and what of the record it says that it changed.
 use mathlib.Core.Path.{_≡_}
-use mathlib.Core.Bool.{false, cond}
+use mathlib.Core.Bool.{cond}
 use mathlib.Core.List.{List, _++_}
 use Prim.Native.Nat.{ℕ, _-_, _*_, _≤_}
-use lib.ListN.{take, drop, set, replicate}
-use Rattle.base.specs.Outcome.{accepted}
-use Rattle.base.specs.Timestamp.{start}
-use Rattle.wire.specs.Acceptance.{acceptance}
-use Rattle.wire.specs.declared.message.Fields.{Fields}
-use Rattle.wire.specs.declared.message.Party.the-variants.{Replica as AtReplica}
-use Rattle.protocol.specs.Replica.{replicaStep, ReplicaCall, answerOutcome, sentLength, replicaAnswers, withOutput, withSlots, withHeld, replicaCall, freshRegister}
+use lib.ListN.{take, drop, set}
+use Rattle.protocol.specs.Replica.{replicaStep, answerOutcome, sentLength, withOutput, withSlots, withHeld, replicaCall}
 use Rattle.protocol.specs.declared.replica.Replica.{Replica}
 use Rattle.protocol.specs.declared.replica.ReplicaAnswer.{ReplicaAnswer}
 use Rattle.protocol.specs.declared.replica.Slots.{Slots}
@@ -25,14 +20,6 @@ putting prepared slots =
       written = prepared .written;
     }
 
--- What stands in the place of what was not prepared, and of what is not held.
-abbrev pub nothingPrepared : Prepared
-nothingPrepared = record { client = record { 0 = 1 }; count = 0; digest = replicate 32 0; written = start }
-
--- An answer that leaves the record as it was.
-abbrev pub keeping : ReplicaAnswer → Replica → Stepped
-keeping answer replica = record { answer = answer; holds = false; prepares = false; replica = replica; prepared = nothingPrepared; held = freshRegister .held }
-
 -- What a step says that it changed: what is held, else the slots, else nothing.
 abbrev pub changed : Stepped → Replica → Replica
 changed stepped replica =
@@ -43,23 +30,6 @@ pub record Changes (replica : Replica) (stepped : Stepped) : Type 0 where
   pub only : stepped .replica ≡ changed stepped replica
   pub first : 1 ≤ stepped .prepared .client .0
   pub last : stepped .prepared .client .0 ≤ 64
-
--- What a call leaves: its answer and record, and the output.
-pub record Leaves (replica : Replica) (call : ReplicaCall) (stepped : Stepped) (new : List ℕ) : Type 0 where
-  pub answer : stepped .answer ≡ call .answer
-  pub next : stepped .replica ≡ call .replica
-  pub output : new ≡ call .output
-  pub changes : Changes replica stepped
-
--- A message that tests 2 to 11 let through, with some verdicts.
-pub record Passes (replica : Replica) (bytes : List ℕ) (fields : Fields) : Type 0 where
-  pub verdicts : List ℕ
-  pub passes : acceptance AtReplica (replica .f) bytes verdicts ≡ accepted fields
-
--- What a call on such a message leaves, whichever verdicts let it through.
-pub record Answers (replica : Replica) (bytes : List ℕ) (fields : Fields) (old : List ℕ) (stepped : Stepped) (new : List ℕ) : Type 0 where
-  pub leaves : (verdicts : List ℕ) → acceptance AtReplica (replica .f) bytes verdicts ≡ accepted fields
-      → Leaves replica (replicaAnswers replica old (replicaStep replica bytes verdicts)) stepped new
 
 -- The contract of a step, by value and on a lent record alike: its answer, and the record and the output afterwards.
 -- `outcome` says the answer by document 01's numbers: the length of the message to send, or the refusal.

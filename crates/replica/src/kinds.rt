@@ -35,7 +35,7 @@ ghost use Rattle.wire.specs.Proof.{preparedFrom};
 ghost use Rattle.wire.specs.Writing.{encodedOutcome};
 ghost use Rattle.protocol.specs.Replica.{answerOutcome, isTimestamp, withSlots, withHeld, onReadStamp, onWrite, onRead, replicaAnswers};
 ghost use Rattle.replica.specs.Kinds.{ownOrMissing, standsFor, prepareWith};
-ghost use Rattle.replica.specs.Stepping.{nothingPrepared, keeping, Leaves};
+ghost use Rattle.replica.specs.Leaving.{nothingPrepared, keeping, Leaves};
 
 // In place of what was not prepared.
 fn nothing_prepared() -> Prepared

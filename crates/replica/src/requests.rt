@@ -10,7 +10,7 @@ ghost use mathlib.Core.Path.{_≡_};
 ghost use Prim.Native.Nat.{_≤_};
 ghost use lib.ListN.{length};
 ghost use Rattle.wire.specs.Message.{longest};
-ghost use Rattle.replica.specs.Stepping.{Passes, Answers};
+ghost use Rattle.replica.specs.Leaving.{Passes, Answers};
 
 fn on_prepare(replica: Replica, message: &[u8], fields: Fields, out: &mut [u8]) -> Stepped
     requires { ⌜ Passes replica (now message) fields × (fields .kind ≡ 2) × (longest ≤ length (now out)) ⌝ }

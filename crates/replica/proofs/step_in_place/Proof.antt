@@ -3,7 +3,7 @@
 -- Assumes nothing.
 use mathlib.Core.Path.{_≡_, refl, sym, ap, subst, _∙_}
 use Prim.Native.Nat.{ℕ, _≤_}
-use mathlib.Core.Bool.{Bool, true, false, not, cond}
+use mathlib.Core.Bool.{Bool, true, false, not}
 use mathlib.Core.List.{[], _∷_, List}
 use lib.Dec.{T as Holds}
 use lib.ListN.{length}
@@ -27,10 +27,8 @@ use types.SemTy.{Body}
 use sound.WpLaws.{FmC, fmOf, WpFn-mono}
 use denote.RattleType.{owns}
 use denote.Memory.{mem, cellAt}
-use denote.Array.{array-lawful}
-use denote.Plain.{uint-lawful}
 use denote.Laws.{Is, shows}
-use denote.Builtin.{u8, u32}
+use denote.Builtin.{u8}
 use denote.Ref.{RefT, MutRef, ptr-vals, mut-tells}
 use denote.Slice.{sliceVal, MutSlice, ShrSlice, finally, slice-vals, mut-slice-tells, shr-slice-tells, mut-slice-lawful, shr-slice-lawful, shr-slice-copy}
 use denote.Signature.{plain}

@@ -1,5 +1,5 @@
 -- `replica::kinds::prepare` meets its contract. Assumes nothing.
-use mathlib.Core.Path.{_≡_, refl, sym, ap, _∙_}
+use mathlib.Core.Path.{_≡_, sym, ap, _∙_}
 use mathlib.Core.Bool.{true, _||_}
 use Prim.Native.Nat.{_/_, max}
 use native.Mathlib.Omega.{arith}

@@ -4,7 +4,7 @@ use native.Mathlib.Omega.{arith}
 use borrow.Author.Needs.{needs}
 use Rattle.base.proofs.Filling.{filled-whole}
 use Rattle.base.proofs.Timestamps.{ofNumber-number}
-use Rattle.wire.specs.Parts.{digestPart, timestampPart}
+use Rattle.wire.specs.Parts.{digestPart}
 use Rattle.wire.proofs.Handed.{by-parts}
 use Rattle.replica.proofs.register.holding.Statement.{statement}
 use Rattle.replica.proofs.register.holding.Tie as tie

@@ -1,5 +1,4 @@
 -- `replica::register::slot_admits` meets its contract. Assumes nothing.
-use mathlib.Core.Path.{sym, _∙_}
 use borrow.Author.Needs.{needs}
 use Rattle.replica.proofs.register.slot_admits.Statement.{statement}
 use Rattle.replica.proofs.register.slot_admits.Tie as tie

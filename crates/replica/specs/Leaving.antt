@@ -1,0 +1,42 @@
+-- What the replica's private functions leave, and what they know of a message.
+use mathlib.Core.Path.{_≡_}
+use mathlib.Core.Bool.{false}
+use mathlib.Core.List.{List}
+use Prim.Native.Nat.{ℕ}
+use lib.ListN.{replicate}
+use Rattle.base.specs.Outcome.{accepted}
+use Rattle.base.specs.Timestamp.{start}
+use Rattle.wire.specs.Acceptance.{acceptance}
+use Rattle.wire.specs.declared.message.Fields.{Fields}
+use Rattle.wire.specs.declared.message.Party.the-variants.{Replica as AtReplica}
+use Rattle.protocol.specs.Replica.{replicaStep, ReplicaCall, replicaAnswers, freshRegister}
+use Rattle.protocol.specs.declared.replica.Replica.{Replica}
+use Rattle.protocol.specs.declared.replica.ReplicaAnswer.{ReplicaAnswer}
+use Rattle.replica.specs.Stepping.{Changes}
+use Rattle.replica.specs.declared.Prepared.{Prepared}
+use Rattle.replica.specs.declared.Stepped.{Stepped}
+
+-- What stands in the place of what was not prepared, and of what is not held.
+abbrev pub nothingPrepared : Prepared
+nothingPrepared = record { client = record { 0 = 1 }; count = 0; digest = replicate 32 0; written = start }
+
+-- An answer that leaves the record as it was.
+abbrev pub keeping : ReplicaAnswer → Replica → Stepped
+keeping answer replica = record { answer = answer; holds = false; prepares = false; replica = replica; prepared = nothingPrepared; held = freshRegister .held }
+
+-- What a call leaves: its answer and record, and the output.
+pub record Leaves (replica : Replica) (call : ReplicaCall) (stepped : Stepped) (new : List ℕ) : Type 0 where
+  pub answer : stepped .answer ≡ call .answer
+  pub next : stepped .replica ≡ call .replica
+  pub output : new ≡ call .output
+  pub changes : Changes replica stepped
+
+-- A message that tests 2 to 11 let through, with some verdicts.
+pub record Passes (replica : Replica) (bytes : List ℕ) (fields : Fields) : Type 0 where
+  pub verdicts : List ℕ
+  pub passes : acceptance AtReplica (replica .f) bytes verdicts ≡ accepted fields
+
+-- What a call on such a message leaves, whichever verdicts let it through.
+pub record Answers (replica : Replica) (bytes : List ℕ) (fields : Fields) (old : List ℕ) (stepped : Stepped) (new : List ℕ) : Type 0 where
+  pub leaves : (verdicts : List ℕ) → acceptance AtReplica (replica .f) bytes verdicts ≡ accepted fields
+      → Leaves replica (replicaAnswers replica old (replicaStep replica bytes verdicts)) stepped new
