@@ -2,7 +2,7 @@
 use base::big_endian::from_four;
 ghost use mathlib.Core.Path.{_≡_};
 ghost use Prim.Native.Nat.{_+_, _-_, _*_, _/_, _%_, _≤_, _<_, min};
-ghost use lib.ListN.{length, take, drop};
+ghost use lib.ListN.{length, take, drop, replicate};
 ghost use Rattle.base.specs.BigEndian.{fromBytes};
 ghost use Rattle.wire.specs.Sha256.{longestInput, padded, block, blockCount, words};
 
@@ -44,7 +44,7 @@ fn padding_word(message: &[u8], at: usize, total: usize) -> u32
 // The first words of block i, which the message fills.
 fn load_message(message: &[u8], i: usize, full: usize, w: &mut [u32; 64])
     requires { ⌜ (4 * full ≤ length (now message) - 64 * i) × (full ≤ 16) × (length (now w) ≡ 64) ⌝ }
-    ensures { λ _. ⌜ (length (now (w .exit)) ≡ 64) × (take full (now (w .exit)) ≡ words (block (padded (now (message .entry))) i) full) ⌝ }
+    ensures { λ _. ⌜ (length (now (w .exit)) ≡ 64) × (take full (now (w .exit)) ≡ words (block (padded (now (message .entry))) i) full) × (drop full (now (w .exit)) ≡ drop full (now (w .entry))) ⌝ }
 {
     let mut j: usize = 0;
     while j < full {
@@ -59,21 +59,23 @@ fn load_message(message: &[u8], i: usize, full: usize, w: &mut [u32; 64])
     }
 }
 
-// The other words of block i, of `blocks` blocks.
+// The other words of block i, of `blocks` blocks. All but the first and the last of them are zero, as they were made.
 fn load_padding(message: &[u8], i: usize, blocks: usize, full: usize, w: &mut [u32; 64])
-    requires { ⌜ (length (now message) ≤ longestInput) × (i < blocks) × (blocks ≡ blockCount (length (now message))) × (full ≡ min 16 ((length (now message) - 64 * i) / 4)) × (length (now w) ≡ 64) × (take full (now w) ≡ words (block (padded (now message)) i) full) ⌝ }
+    requires { ⌜ (length (now message) ≤ longestInput) × (i < blocks) × (blocks ≡ blockCount (length (now message))) × (full ≡ min 16 ((length (now message) - 64 * i) / 4)) × (length (now w) ≡ 64) × (take full (now w) ≡ words (block (padded (now message)) i) full) × (drop full (now w) ≡ drop full (replicate 64 0)) ⌝ }
     ensures { λ _. ⌜ (length (now (w .exit)) ≡ 64) × (take 16 (now (w .exit)) ≡ words (block (padded (now (message .entry))) i) 16) ⌝ }
 {
-    let mut j: usize = full;
-    while j < 16 {
-        w[j] = padding_word(message, 64 * i + 4 * j, 64 * blocks);
-        j += 1;
+    if full == 16 {
+        return;
+    }
+    w[full] = padding_word(message, 64 * i + 4 * full, 64 * blocks);
+    if full < 15 {
+        w[15] = padding_word(message, 64 * i + 60, 64 * blocks);
     }
 }
 
-// The 16 words of block i, of `blocks` blocks, at the front of w.
+// The 16 words of block i, of `blocks` blocks, at the front of w, which is zero.
 pub(super) fn load(message: &[u8], i: usize, blocks: usize, w: &mut [u32; 64])
-    requires { ⌜ (length (now message) ≤ longestInput) × (i < blocks) × (blocks ≡ blockCount (length (now message))) × (length (now w) ≡ 64) ⌝ }
+    requires { ⌜ (length (now message) ≤ longestInput) × (i < blocks) × (blocks ≡ blockCount (length (now message))) × (now w ≡ replicate 64 0) ⌝ }
     ensures { λ _. ⌜ (length (now (w .exit)) ≡ 64) × (take 16 (now (w .exit)) ≡ words (block (padded (now (message .entry))) i) 16) ⌝ }
 {
     let full = full_words(message.len(), 64 * i);

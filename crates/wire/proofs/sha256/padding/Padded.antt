@@ -4,8 +4,8 @@ use mathlib.Core.List.{List, [], _∷_, _++_, append-assoc}
 use Prim.Native.Nat.{ℕ, zero, suc, _+_, _-_, _*_, _%_, _≤_, _<_}
 use native.Mathlib.Omega.{arith}
 use native.Mathlib.Numerals.{add-one}
-use lib.ListN.{length, getD, take, drop, set, replicate, length-append, length-replicate, getD-replicate, replicate-append-replicate, List·getD-append}
-use lib.Seq.{getD-append-seam, getD-append-add, drop-cons, drop-drop, drop-at, take-all, take-nil, take-take}
+use lib.ListN.{length, getD, take, drop, set, replicate, length-append, length-replicate, getD-replicate, length-set, replicate-append-replicate, List·getD-append}
+use lib.Seq.{take-suc, getD-drop, getD-set-other, getD-append-seam, getD-append-add, drop-cons, drop-drop, drop-at, take-all, take-nil, take-take}
 use Rattle.base.specs.BigEndian.{fromBytes, toBytes}
 use Rattle.base.proofs.BigEndian.{length-toBytes, toBytes-zeros, fromBytes-toBytes}
 use Rattle.wire.specs.Sha256.{longestInput, paddingZeros, padded, block, blockCount, wordOf, words}
@@ -139,3 +139,40 @@ pub load-next : (m w : List ℕ) (i j v : ℕ) → j < 16 → j < length w → t
 unfolding words
 load-next m w i j v h l e x =
     store-next w j v (words (block (padded m) i) j) l e ∙ rw (add-one j, x, block-word (padded m) i j h)
+
+-- One more word of the block stands there already.
+word-there : (m w : List ℕ) (i j : ℕ) → j < 16 → j < length w → take j w ≡ words (block (padded m) i) j → getD w j 0 ≡ wordAt m (64 * i + 4 * j)
+    → take (suc j) w ≡ words (block (padded m) i) (suc j)
+unfolding words
+word-there m w i j h l e x = rw (take-suc w j 0 l, e, x, block-word (padded m) i j h)
+
+-- Words behind the end of the message and before the last that are zero need no store.
+module _ (m : List ℕ) (small : length m ≤ longestInput) (i : ℕ) (inside : i < blockCount (length m)) (w : List ℕ) (wide : length w ≡ 64) (j : ℕ)
+    (ended : length m < 64 * i + 4 * j) (zeros : (p : ℕ) → j ≤ p → p < 64 → getD w p 0 ≡ 0) where
+  zeros-there : (k : ℕ) → j + k ≤ 15 → take j w ≡ words (block (padded m) i) j → take (j + k) w ≡ words (block (padded m) i) (j + k)
+  zeros-there zero h e = let z : j + 0 ≡ j = omega arith in rw z e
+  zeros-there (suc k) h e =
+      let s : j + suc k ≡ suc (j + k) = omega arith in
+      let p = 64 * i + 4 * (j + k) in
+      let zero-word : 0 ≡ wordAt m p = word-zero m small p (omega arith) (omega arith) (omega arith) (omega arith) in
+      rw s
+      (word-there m w i (j + k) (omega arith) (omega arith) (zeros-there k (omega arith) e) (zeros (j + k) (omega arith) (omega arith) ∙ zero-word))
+
+-- The words of the padding: the first is stored, the zeros behind it stand there, and the last is stored.
+pub padding-there : (m : List ℕ) → length m ≤ longestInput → (i : ℕ) → i < blockCount (length m) → (w : List ℕ) → length w ≡ 64 → (full v x : ℕ) → full < 15
+    → length m < 64 * i + 4 * full + 4 → drop full w ≡ drop full (replicate 64 0) → take full w ≡ words (block (padded m) i) full → v ≡ wordAt m (64 * i + 4 * full)
+    → x ≡ wordAt m (64 * i + 60) → take 16 (set (set w full v) 15 x) ≡ words (block (padded m) i) 16
+padding-there m small i inside w wide full v x h ended made front ev ex =
+    let w₁ = set w full v in
+    let wide₁ : length w₁ ≡ 64 = simp length-set wide in
+    let first : take (full + 1) w₁ ≡ words (block (padded m) i) (full + 1) = load-next m w i full v (omega arith) (omega arith) front ev in
+    let zeros : (p : ℕ) → full + 1 ≤ p → p < 64 → getD w₁ p 0 ≡ 0 =
+    λ p l u.
+    let q : p ≡ full + (p - full) = omega arith in
+    getD-set-other w full p v 0 (λ e. omega arith)
+    ∙ rw (q, ← getD-drop {A = ℕ} full w (p - full) 0, made, getD-drop {A = ℕ} full (replicate 64 0) (p - full) 0)
+    (getD-replicate 64 (full + (p - full)) 0 0 (omega arith)) in
+    let k = 14 - full in
+    let s : full + 1 + k ≡ 15 = omega arith in
+    let most : take 15 w₁ ≡ words (block (padded m) i) 15 = rw s at (zeros-there m small i inside w₁ wide₁ (full + 1) (omega arith) zeros k (omega arith) first) in
+    load-next m w₁ i 15 x (omega arith) (omega arith) most ex
