@@ -18,7 +18,7 @@ use Rattle.wire.specs.Card.{table, readFields, goodCardMap, readCard}
 use Rattle.wire.specs.Checks.{entriesOf, all, oneEach}
 use Rattle.wire.specs.Message.{PREPARE, WRITE, PREPARED, WRITTEN}
 use Rattle.wire.specs.Proof.{PreparedProof, WrittenProof}
-use Rattle.protocol.specs.Examples.{two, 1·2, 2·2, SlotHolds, Closed, first, genuine, handed, Passes, WrittenFits, Examples}
+use Rattle.protocol.specs.Examples.{two, 1·2, 2·2, SlotHolds, Closed, first, oneGenuine, handed, Passes, WrittenClientFits, Examples}
 use Rattle.protocol.specs.Parts.{cardStands}
 use Rattle.protocol.specs.Replica.{heldTimestamp, slotCount, slotTimestamp, withWritten, withSlot, raised, slotIs, slotTakes, afterPrepare, afterWrite, isOwn, isTimestamp, withSlots, withHeld, answering, onRequest}
 use Rattle.protocol.specs.declared.replica.Held.{Held}
@@ -62,10 +62,10 @@ write-tested replica verdicts client card proof passed stands = rw (passed, stan
 
 -- ---- The slot 1.2 of client 2
 
-first-passed : (replica : Replica) (digest : List ℕ) → Passes replica genuine (first digest)
+first-passed : (replica : Replica) (digest : List ℕ) → Passes replica oneGenuine (first digest)
 unfolding oneEach all entriesOf within
 first-passed replica digest =
-    passed-admits (replica .f) genuine (first digest) refl
+    passed-admits (replica .f) oneGenuine (first digest) refl
     (record {
       one-each = refl;
       own = refl;
@@ -78,12 +78,12 @@ first-passed replica digest =
     })
 
 first-answered : (replica : Replica) (digest : List ℕ) (after : Outcome Slots) → afterPrepare two 1·2 digest none (replica .register .slots) ≡ after
-    → handed replica genuine (first digest) ≡ (after >>= λ slots. answering (PREPARED (replica .id) 1·2 digest) (withSlots replica slots))
+    → handed replica oneGenuine (first digest) ≡ (after >>= λ slots. answering (PREPARED (replica .id) 1·2 digest) (withSlots replica slots))
 unfolding within
-first-answered replica digest after e = prepare-tested replica genuine two 1·2 digest none none after (first-passed replica digest) refl refl e
+first-answered replica digest after e = prepare-tested replica oneGenuine two 1·2 digest none none after (first-passed replica digest) refl refl e
 
 module _ (replica : Replica) (a : List ℕ) (holds : SlotHolds (replica .register .slots) a) where
-  again : WrittenFits replica → handed replica genuine (first a) ≡ answering (PREPARED (replica .id) 1·2 a) replica
+  again : WrittenClientFits replica → handed replica oneGenuine (first a) ≡ answering (PREPARED (replica .id) 1·2 a) replica
   again fits =
       let old = replica .register .slots in
       let is : slotIs two 1·2 a old ≡ true = rw (eq-eqb (slotTimestamp old two) 1·2 (holds .timestamp), holds .digest-is) (same-itself a) in
@@ -94,7 +94,7 @@ module _ (replica : Replica) (a : List ℕ) (holds : SlotHolds (replica .registe
       written-at : Timestamp → Slots
       written-at written = record { counts = replica .register .slots .counts; digests = replica .register .slots .digests; written = written }
 
-  other-refused : (b : List ℕ) → (a ≡ b → ⊥) → handed replica genuine (first b) ≡ refused 15
+  other-refused : (b : List ℕ) → (a ≡ b → ⊥) → handed replica oneGenuine (first b) ≡ refused 15
   other-refused b apart =
       let old = replica .register .slots in
       let stands = holds .timestamp in

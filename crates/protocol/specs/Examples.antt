@@ -47,8 +47,8 @@ Closed slots = slotTimestamp slots two ≤ number (slots .written)
 abbrev pub first : List ℕ → Message
 first digest = PREPARE two 1·2 digest none none
 
-abbrev pub genuine : List ℕ
-genuine = 1 ∷ []
+abbrev pub oneGenuine : List ℕ
+oneGenuine = 1 ∷ []
 
 -- A replica is handed a message: 6 to 11, and what follows.
 abbrev pub handed : Replica → List ℕ → Message → Outcome Reply
@@ -59,8 +59,8 @@ abbrev pub Passes : Replica → List ℕ → Message → Type 0
 Passes replica verdicts message = admits (replica .f) verdicts message ≡ accepted message
 
 -- The written timestamp's client is a byte, as it is in the record of the code.
-abbrev pub WrittenFits : Replica → Type 0
-WrittenFits replica = replica .register .slots .written .client .0 < 256
+abbrev pub WrittenClientFits : Replica → Type 0
+WrittenClientFits replica = replica .register .slots .written .client .0 < 256
 
 pub record Examples : Type 0 where
   -- "f = 1 gives n 4, q 3; f = 5 gives 16, 11."
@@ -80,15 +80,15 @@ pub record Examples : Type 0 where
   -- "`00 20 04` good, `00 20 05` bad."
   pub H : (isCard (0x00 ∷ 0x20 ∷ 0x04 ∷ []) ≡ true) × (isCard (0x00 ∷ 0x20 ∷ 0x05 ∷ []) ≡ false)
   -- "line 1.2 open with digest a: 1.2 a PREPARED, 1.2 b refused 15."
-  pub I : (replica : Replica) (a b : List ℕ) → (a ≡ b → ⊥) → WrittenFits replica → SlotHolds (replica .register .slots) a → Open (replica .register .slots)
-      → (handed replica genuine (first a) ≡ answering (PREPARED (replica .id) 1·2 a) replica) × (handed replica genuine (first b) ≡ refused 15)
+  pub I : (replica : Replica) (a b : List ℕ) → (a ≡ b → ⊥) → WrittenClientFits replica → SlotHolds (replica .register .slots) a → Open (replica .register .slots)
+      → (handed replica oneGenuine (first a) ≡ answering (PREPARED (replica .id) 1·2 a) replica) × (handed replica oneGenuine (first b) ≡ refused 15)
   -- "the same line closed: 2.2 taken, 1.2 b still 15." 2.2 comes with a prepared proof of a timestamp of count 1, which passed 6 to 12.
   pub J : (replica : Replica) (a b : List ℕ) → (a ≡ b → ⊥) → SlotHolds (replica .register .slots) a → Closed (replica .register .slots)
       → ((digest : List ℕ) (proof : PreparedProof) (last : Option WrittenProof) (verdicts : List ℕ) → proof .timestamp / 256 ≡ 1
       → Passes replica verdicts (PREPARE two 2·2 digest (some proof) last) → isOwn two last ≡ true
       → handed replica verdicts (PREPARE two 2·2 digest (some proof) last)
       ≡ answering (PREPARED (replica .id) 2·2 digest) (withSlots replica (withWritten (raised last (replica .register .slots)) (withSlot two 2·2 digest (replica .register .slots)))))
-      × (handed replica genuine (first b) ≡ refused 15)
+      × (handed replica oneGenuine (first b) ≡ refused 15)
   -- "WRITE of the held stamp: WRITTEN, record kept." From any client, with a proof and a card that passed 6 to 11 and 14.
   pub K : (replica : Replica) (client : ClientId) (card : List ℕ) (proof : PreparedProof) (verdicts : List ℕ)
       → Passes replica verdicts (WRITE client card proof) → cardStands card (some proof) ≡ true → proof .timestamp ≡ heldTimestamp (replica .register .held)

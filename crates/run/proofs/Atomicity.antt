@@ -9,7 +9,7 @@ use Rattle.base.specs.Timestamp.{number}
 use Rattle.wire.specs.Acceptance.{client}
 use Rattle.protocol.specs.Parts.{startCard}
 use Rattle.run.specs.ReadsFrom.{Write}
-use Rattle.run.specs.Atomicity.{Operation, read, write, faulty-write, isWrite, placedAt, valueOf, BeginsAt, EndsAt, Same, doneAt, Precedes, LastWrite, Atomic}
+use Rattle.run.specs.Atomicity.{Operation, read, write, faulty-write, isWrite, placedAt, operationCard, BeginsAt, EndsAt, Same, doneAt, Precedes, LastWrite, Atomic}
 use Rattle.run.specs.Claims.{Finished, Before}
 use Rattle.run.specs.Premises.{Premises}
 use Rattle.run.specs.Run.{Run}
@@ -66,7 +66,7 @@ module _ (R : Run) (P : Premises R) where
 
   -- ---- The order
 
-  same : (a b : Operation R) → Same R a b → (placedAt R a ≡ placedAt R b) × (valueOf R a ≡ valueOf R b)
+  same : (a b : Operation R) → Same R a b → (placedAt R a ≡ placedAt R b) × (operationCard R a ≡ operationCard R b)
   same (read o r) (read o′ r′) e = let one = same-operation R o o′ e in (ap number (one .same-timestamp), one .same-card)
   same (read o r) (write w) e = absurd e
   same (read o r) (faulty-write o′ r′ p f) e = absurd e
@@ -148,10 +148,10 @@ module _ (R : Run) (P : Premises R) where
           by (inr (inr (inl l))) = let same = k .0 in absurd (omega arith)
           by (inr (inr (inr x))) = absurd (rw (is, is′) at (x .1))
 
-  reads-last : (o : Finished R) (r : o .is-write ≡ false) → 1 ≤ number (o .timestamp) → (w : Operation R) × LastWrite R w (read o r) × (valueOf R w ≡ o .card)
+  reads-last : (o : Finished R) (r : o .is-write ≡ false) → 1 ≤ number (o .timestamp) → (w : Operation R) × LastWrite R w (read o r) × (operationCard R w ≡ o .card)
   reads-last o r p = go (R .correct-client (o .timestamp .client)) refl
     where
-      go : (b : Bool) → R .correct-client (o .timestamp .client) ≡ b → (w : Operation R) × LastWrite R w (read o r) × (valueOf R w ≡ o .card)
+      go : (b : Bool) → R .correct-client (o .timestamp .client) ≡ b → (w : Operation R) × LastWrite R w (read o r) × (operationCard R w ≡ o .card)
       go true c = let (w, id-is, timestamp-is, card-is, before) = reads-from R P o c in (write w, last-at (write w) o r refl timestamp-is, card-is)
       go false f = (faulty-write o r p f, last-at (faulty-write o r p f) o r refl refl, refl)
 

@@ -17,7 +17,7 @@ use Rattle.protocol.specs.Parts.{startCard}
 use Rattle.protocol.specs.declared.client.Client.{Client}
 use Rattle.protocol.specs.declared.client.Phase.the-variants.{Idle}
 use Rattle.run.specs.Claims.{Begins, GoesOn, Finished, SameOperation, FinishedBefore, AtOneTimestamp, LiesBefore, Before}
-use Rattle.run.specs.Premises.{Accepted, CardOfRun, cardOf, Premises}
+use Rattle.run.specs.Premises.{Accepted, CardOfRun, eventCard, Premises}
 use Rattle.wire.specs.Acceptance.{client}
 use Rattle.run.specs.Run.{Event, begins-write, begins-read, to-client, Run, partyOf, event, clientAt, answerAt, At, Correct}
 use Rattle.run.proofs.Turns.{apart, same-client, Silent, ClientTurn, rested, wrote, asked, heard, client-turn}
@@ -39,7 +39,7 @@ module _ (R : Run) where
   begins-at false id t b = (begins-read id, b, refl)
 
   begun-card : (w : Bool) (id : ClientId) (t : ℕ) (b : Begins R w id (event R t)) → Accepted R t → w ≡ true → CardOfRun R (begunWith w id (event R t) b)
-  begun-card true id t b a w = record { time = t; carried = ap (cardOf R) (b .1); not-refused = a }
+  begun-card true id t b a w = record { time = t; carried = ap (eventCard R) (b .1); not-refused = a }
   begun-card false id t b a w = apart (cc)
 
   module _ (id : ClientId) (c : R .correct-client id ≡ true) where

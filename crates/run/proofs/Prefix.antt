@@ -16,7 +16,7 @@ use Rattle.wire.specs.Signatures.{Signature, signaturesOf}
 use Rattle.wire.specs.declared.message.Party.the-variants.{Replica as AtReplica, Client as AtClient}
 use Rattle.run.specs.Claims.{Claims}
 use Rattle.run.specs.Prefix.{prefix}
-use Rattle.run.specs.Premises.{TrueVerdicts, TrueFor, TrueAt, cardOf, CardOfRun, Premises}
+use Rattle.run.specs.Premises.{TrueVerdicts, TrueFor, TrueAt, eventCard, CardOfRun, Premises}
 use Rattle.run.specs.Run.{Event, begins-write, begins-read, to-replica, to-client, Run, afterAtReplica, afterAtClient, event, replicaAt, clientAt, answerTo, answerAt, Sent}
 use Rattle.run.proofs.Demand3.{demand-3}
 use Rattle.run.proofs.Slots.{order}
@@ -104,10 +104,10 @@ module _ (R : Run) (n : ℕ) where
   card-same card k = ⊎-elim (λ l. absurd (no l)) here (order n (k .time))
     where
       no : n ≤ k .time → ⊥
-      no l = let e : cardOf S (event S (k .time)) ≡ none = ap (cardOf S) (behind n (R .events) (k .time) l) in let c = k .carried in apart (cc)
+      no l = let e : eventCard S (event S (k .time)) ≡ none = ap (eventCard S) (behind n (R .events) (k .time) l) in let c = k .carried in apart (cc)
 
       here : k .time < n → CardOfRun R card
-      here l = record { time = k .time; carried = ap (cardOf R) (sym (event-same (k .time) l)) ∙ k .carried; not-refused = (k .not-refused .0, sym (answer-same (k .time) l) ∙ k .not-refused .1) }
+      here l = record { time = k .time; carried = ap (eventCard R) (sym (event-same (k .time) l)) ∙ k .carried; not-refused = (k .not-refused .0, sym (answer-same (k .time) l) ∙ k .not-refused .1) }
 
   -- A prefix of a run that meets the premises meets them.
   pub prefix-premises : Premises R → Premises S

@@ -20,7 +20,7 @@ use Rattle.protocol.specs.declared.client.Phase.{Phase}
 use Rattle.protocol.specs.declared.client.Phase.the-variants.{Idle, Stamps, Prepareds, Writtens, Cards, WriteBack}
 use Rattle.run.specs.ReadsFrom.{Write}
 use Rattle.run.specs.Claims.{Begins, GoesOn, Finished}
-use Rattle.run.specs.Premises.{Accepted, CardOfRun, cardOf, Premises}
+use Rattle.run.specs.Premises.{Accepted, CardOfRun, eventCard, Premises}
 use Rattle.run.specs.Run.{begins-write, to-client, Run, event, clientAt, answerAt, At, Correct}
 use Rattle.run.proofs.Turns.{apart, Silent, Heard, ClientTurn, rested, wrote, asked, heard, client-turn}
 use Rattle.run.proofs.Stages.{isStamping, preparedFor, isPrepare, isOver, Stage, stamping, prepares, keeps, finishes, others, stage}
@@ -163,7 +163,7 @@ module _ (R : Run) where
   -- ---- A write from its PREPARE on
 
   pub write-in-run : (w : Write R) → CardOfRun R (w .card)
-  write-in-run w = record { time = w .begun; carried = ap (cardOf R) (w .begins); not-refused = w .not-refused }
+  write-in-run w = record { time = w .begun; carried = ap (eventCard R) (w .begins); not-refused = w .not-refused }
 
   pub correct-writer : (w : Write R) → R .correct-client (w .id) ≡ true
   correct-writer w = subst (Correct R) (w .at-client .2) (R .at-correct (w .prepared) (w .at-client .0) (w .at-client .1))

@@ -32,10 +32,10 @@ module _ (R : Run) where
   placedAt (write w) = w .timestamp
   placedAt (faulty-write o r p f) = number (o .timestamp)
 
-  abbrev pub valueOf : Operation → List ℕ
-  valueOf (read o r) = o .card
-  valueOf (write w) = w .card
-  valueOf (faulty-write o r p f) = o .card
+  abbrev pub operationCard : Operation → List ℕ
+  operationCard (read o r) = o .card
+  operationCard (write w) = w .card
+  operationCard (faulty-write o r p f) = o .card
 
   -- It begins with event t, and ends with event t. A write that is under way does not end; a faulty client has no events.
   abbrev pub BeginsAt : Operation → ℕ → Type 0
@@ -80,7 +80,7 @@ module _ (R : Run) where
     pub has-write : (o : Finished R) → o .is-write ≡ true
         → (w : Write R) × (w .id ≡ o .id) × (w .begun ≡ o .begun) × (w .timestamp ≡ number (o .timestamp)) × (w .card ≡ o .card)
     -- two that are one agree,
-    pub same : (a b : Operation) → Same a b → (placedAt a ≡ placedAt b) × (valueOf a ≡ valueOf b)
+    pub same : (a b : Operation) → Same a b → (placedAt a ≡ placedAt b) × (operationCard a ≡ operationCard b)
     -- in a total order
     pub irreflexive : (a : Operation) → Precedes a a → ⊥
     pub transitive : (a b c : Operation) → Precedes a b → Precedes b c → Precedes a c
@@ -88,7 +88,7 @@ module _ (R : Run) where
     -- that extends "ended before the other began",
     pub extends : (a b : Operation) (t t′ : ℕ) → EndsAt a t → BeginsAt b t′ → t < t′ → Precedes a b
     -- in which a read shows the card of the last write before it,
-    pub reads-last : (o : Finished R) (r : o .is-write ≡ false) → 1 ≤ number (o .timestamp) → (w : Operation) × LastWrite w (read o r) × (valueOf w ≡ o .card)
+    pub reads-last : (o : Finished R) (r : o .is-write ≡ false) → 1 ≤ number (o .timestamp) → (w : Operation) × LastWrite w (read o r) × (operationCard w ≡ o .card)
     -- or the starting card where no write lies before it.
     pub reads-start : (o : Finished R) (r : o .is-write ≡ false) → number (o .timestamp) ≡ 0
         → (o .card ≡ startCard) × ((w : Operation) → isWrite w ≡ true → Precedes w (read o r) → ⊥)

@@ -30,8 +30,8 @@ pub record Given : Type 0 where
   pub output : List ℕ
 
 -- No card stands beside an answer other than Done.
-abbrev pub plain : ClientAnswer → List ℕ → Given
-plain answer output = record { answer = answer; card-length = 0; card = filled 17 []; output = output }
+abbrev pub withoutCard : ClientAnswer → List ℕ → Given
+withoutCard answer output = record { answer = answer; card-length = 0; card = filled 17 []; output = output }
 
 -- A replica's answer is Send or Refused, and no card stands beside it.
 abbrev pub asAnswer : ReplicaAnswer → ClientAnswer
@@ -39,7 +39,7 @@ asAnswer (ReplicaSend n) = Send n
 asAnswer (ReplicaRefused number) = Refused number
 
 abbrev pub givenByReplica : ReplicaCall → Given
-givenByReplica call = plain (asAnswer (call .answer)) (call .output)
+givenByReplica call = withoutCard (asAnswer (call .answer)) (call .output)
 
 abbrev pub givenByClient : ClientCall → Given
 givenByClient call = record { answer = call .answer; card-length = call .«card_length»; card = call .card; output = call .output }
@@ -48,11 +48,11 @@ givenByClient call = record { answer = call .answer; card-length = call .«card_
 -- old bytes behind (only old bytes where nothing is sent)"; "A refusal is its number alone; record and lent bytes keep their
 -- old contents."
 abbrev pub givenFor : List ℕ → Outcome Answer → Given
-givenFor old (accepted (send message)) = plain (Send (length (unsigned message))) (inFront (unsigned message) old)
-givenFor old (accepted waits) = plain Counted old
+givenFor old (accepted (send message)) = withoutCard (Send (length (unsigned message))) (inFront (unsigned message) old)
+givenFor old (accepted waits) = withoutCard Counted old
 givenFor old (accepted (done timestamp card)) = record { answer = Done timestamp; card-length = length card; card = filled 17 card; output = old }
-givenFor old (accepted ended) = plain Ended old
-givenFor old (refused number) = plain (Refused number) old
+givenFor old (accepted ended) = withoutCard Ended old
+givenFor old (refused number) = withoutCard (Refused number) old
 
 -- The record that the call of an event leaves to its party; another party's event leaves it.
 abbrev pub calledAtReplica : ReplicaId → Option Event → List ℕ → Replica → Replica

@@ -8,11 +8,11 @@ use lib.ListN.{take, getElem?}
 use Rattle.run.specs.Run.{Run}
 
 -- What stands among the first elements stands in the list.
-pub taken : {A : Type 0} (n : ℕ) (xs : List A) (t : ℕ) (x : A) → getElem? (take n xs) t ≡ some x → getElem? xs t ≡ some x
-taken zero xs t x e = let z : _≡_ {A = ℕ} 0 1 = cc in absurd (omega arith)
-taken (suc n) [] t x e = let z : _≡_ {A = ℕ} 0 1 = cc in absurd (omega arith)
-taken (suc n) (y ∷ xs) zero x e = e
-taken (suc n) (y ∷ xs) (suc t) x e = taken n xs t x e
+pub in-prefix : {A : Type 0} (n : ℕ) (xs : List A) (t : ℕ) (x : A) → getElem? (take n xs) t ≡ some x → getElem? xs t ≡ some x
+in-prefix zero xs t x e = let z : _≡_ {A = ℕ} 0 1 = cc in absurd (omega arith)
+in-prefix (suc n) [] t x e = let z : _≡_ {A = ℕ} 0 1 = cc in absurd (omega arith)
+in-prefix (suc n) (y ∷ xs) zero x e = e
+in-prefix (suc n) (y ∷ xs) (suc t) x e = in-prefix n xs t x e
 
 -- The first n events, or all if there are fewer.
 abbrev pub prefix : Run → ℕ → Run
@@ -26,6 +26,6 @@ prefix R n =
       f-in-range = R .f-in-range;
       replicas-in-range = R .replicas-in-range;
       clients-in-range = R .clients-in-range;
-      have-bytes = λ t e q. R .have-bytes t e (taken n (R .events) t e q);
-      at-correct = λ t e q. R .at-correct t e (taken n (R .events) t e q);
+      have-bytes = λ t e q. R .have-bytes t e (in-prefix n (R .events) t e q);
+      at-correct = λ t e q. R .at-correct t e (in-prefix n (R .events) t e q);
     }

@@ -47,12 +47,12 @@ module _ (R : Run) where
   carriedBy (accepted (WRITTEN id timestamp)) = none
   carriedBy (refused number) = none
 
-  abbrev pub cardOf : Option Event → Option (List ℕ)
-  cardOf none = none
-  cardOf (some (begins-write id card)) = some card
-  cardOf (some (begins-read id)) = none
-  cardOf (some (to-replica id bytes verdicts)) = carriedBy (decode AtReplica bytes)
-  cardOf (some (to-client id bytes verdicts)) = carriedBy (decode AtClient bytes)
+  abbrev pub eventCard : Option Event → Option (List ℕ)
+  eventCard none = none
+  eventCard (some (begins-write id card)) = some card
+  eventCard (some (begins-read id)) = none
+  eventCard (some (to-replica id bytes verdicts)) = carriedBy (decode AtReplica bytes)
+  eventCard (some (to-client id bytes verdicts)) = carriedBy (decode AtClient bytes)
 
   -- Event t is not refused.
   abbrev pub Accepted : ℕ → Type 0
@@ -60,7 +60,7 @@ module _ (R : Run) where
 
   pub record CardOfRun (card : List ℕ) : Type 0 where
     pub time : ℕ
-    pub carried : cardOf (event R time) ≡ some card
+    pub carried : eventCard (event R time) ≡ some card
     pub not-refused : Accepted time
 
   -- "The rule-followers are all holders but f at most"

@@ -12,14 +12,14 @@ lineLength [] = 0
 lineLength (byte ∷ text) = cond (eqb byte 10) 0 (suc (lineLength text))
 
 -- A byte in front of the first line.
-abbrev pub inFront : ℕ → List (List ℕ) → List (List ℕ)
-inFront byte [] = (byte ∷ []) ∷ []
-inFront byte (line ∷ later) = (byte ∷ line) ∷ later
+abbrev pub toFirstLine : ℕ → List (List ℕ) → List (List ℕ)
+toFirstLine byte [] = (byte ∷ []) ∷ []
+toFirstLine byte (line ∷ later) = (byte ∷ line) ∷ later
 
 -- The lines, without their newlines. A last line may lack its newline, and behind a final newline there is none.
 unfoldable pub lines : List ℕ → List (List ℕ)
 lines [] = []
-lines (byte ∷ text) = cond (eqb byte 10) ([] ∷ lines text) (inFront byte (lines text))
+lines (byte ∷ text) = cond (eqb byte 10) ([] ∷ lines text) (toFirstLine byte (lines text))
 
 -- The place behind the line that starts at `from`. The second and the third follow from the first, for callers that index.
 pub record LineEnd (text : List ℕ) (from end : ℕ) : Type 0 where

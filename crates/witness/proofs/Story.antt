@@ -21,7 +21,7 @@ use Rattle.base.specs.declared.party.ReplicaId.{ReplicaId}
 use Rattle.base.specs.declared.timestamp.Timestamp.{Timestamp}
 use Rattle.protocol.specs.Client.{Answer, send, waits, done, ended}
 use Rattle.run.specs.Claims.{GoesOn, Begins, Finished, Genuine}
-use Rattle.run.specs.Premises.{TrueVerdicts, TrueFor, TrueAt, cardOf, CardOfRun}
+use Rattle.run.specs.Premises.{TrueVerdicts, TrueFor, TrueAt, eventCard, CardOfRun}
 use Rattle.wire.specs.Acceptance.{Sender, replica, client}
 use Rattle.run.specs.Run.{Event, begins-write, begins-read, to-replica, to-client, partyOf, HasBytes, CorrectIn, Run, event, answerTo, answerAt, At, Sent}
 use Rattle.wire.specs.Decode.{decode}
@@ -234,7 +234,7 @@ AllBetween lines good party begun finished = each (goodBetween good party begun 
 module _ (R : Run) (lines : List Line) where
   -- The run has no other cards than these; those of refused events do not count.
   abbrev isKnownOrRefused : List Known → ℕ → Line → Bool
-  isKnownOrRefused cards t line = isRefused (line .answer) || isKnownIfThere cards (cardOf R (some (line .event)))
+  isKnownOrRefused cards t line = isRefused (line .answer) || isKnownIfThere cards (eventCard R (some (line .event)))
 
   abbrev pub NoOtherCards : List Known → Type 0
   NoOtherCards cards = each (isKnownOrRefused cards) 0 lines ≡ true
@@ -346,8 +346,8 @@ module _ (R : Run) (lines : List Line) (told : Told R lines) where
   known : (cards : List Known) (card : List ℕ) → NoOtherCards R lines cards → CardOfRun R card → isKnown cards card ≡ true
   known cards card no-other of-run = go (getElem? lines (of-run .time)) refl
     where
-      carried : (line : Option Line) → getElem? lines (of-run .time) ≡ line → cardOf R (eventIn line) ≡ some card
-      carried line at = sym (ap (cardOf R) (event-is (of-run .time) ∙ ap eventIn at)) ∙ of-run .carried
+      carried : (line : Option Line) → getElem? lines (of-run .time) ≡ line → eventCard R (eventIn line) ≡ some card
+      carried line at = sym (ap (eventCard R) (event-is (of-run .time) ∙ ap eventIn at)) ∙ of-run .carried
 
       go : (line : Option Line) → getElem? lines (of-run .time) ≡ line → isKnown cards card ≡ true
       go none at =
@@ -358,7 +358,7 @@ module _ (R : Run) (lines : List Line) (told : Told R lines) where
           let (answer, answered) = of-run .not-refused in
           ⊎-elim (λ is-refused. absurd (not-refused answer (line .answer) (sym (ap code answered) ∙ answer-told (of-run .time) line at) is-refused))
           (λ is-known. subst (λ (c : Option (List ℕ)). isKnownIfThere cards c ≡ true) (carried (some line) at) is-known)
-          (or-true (isRefused (line .answer)) (isKnownIfThere cards (cardOf R (some (line .event)))) test)
+          (or-true (isRefused (line .answer)) (isKnownIfThere cards (eventCard R (some (line .event)))) test)
 
   pub different-digests : (cards : List Known) → NoOtherCards R lines cards → rightDigests cards ≡ true → differentDigests cards ≡ true → (card card′ : List ℕ) → CardOfRun R card → CardOfRun R card′ → sha256 card ≡ sha256 card′ → card ≡ card′
   different-digests cards no-other right all card card′ of-run of-run′ e =
