@@ -1,5 +1,5 @@
 -- Document 01, "Parties and stamps": the fault bound (allowance) f, the numbers of replicas (holders) and clients (desks), the quorum.
-use mathlib.Core.Bool.{Bool}
+use mathlib.Core.Bool.{Bool, _&&_, not}
 use Prim.Native.Nat.{ℕ, _+_, _*_, min}
 use lib.Dec.{leb}
 use Rattle.base.specs.Outcome.{Outcome, accepted, refused, guard}
@@ -25,16 +25,31 @@ quorumSize f = 2 * min f 5 + 1
 abbrev pub isReplica : ℕ → ReplicaId → Bool
 isReplica f id = within 1 (replicaCount f) (id .0)
 
--- "desks 1 to 64"
+-- Document 02, #101: "Sender and addressed-desk fields take 1 to 96"
 abbrev pub isClient : ClientId → Bool
-isClient id = within 1 64 (id .0)
+isClient id = within 1 96 (id .0)
+
+-- "desks 1 to 64": the clients that write; "stamps still take desks 1 to 64".
+abbrev pub isWriter : ClientId → Bool
+isWriter id = within 1 64 (id .0)
+
+-- "Numbers 65 to 96 become viewing desks": the other clients.
+abbrev pub isViewer : ClientId → Bool
+isViewer id = isClient id && not (isWriter id)
 
 -- Refusal 16: "A party is set up with f, number or first nonce (0) out of range."
 abbrev pub replicaSetup : ℕ → ReplicaId → Outcome (Unit {0})
 replicaSetup f id = guard 16 (isFaultBound f) (guard 16 (isReplica f id) (accepted tt))
 
+-- The same of a client, by whether its number is in its range.
+abbrev pub clientSetupIf : Bool → ℕ → ℕ → Outcome (Unit {0})
+clientSetupIf inRange f nonce = guard 16 (isFaultBound f) (guard 16 inRange (guard 16 (leb 1 nonce) (accepted tt)))
+
 abbrev pub clientSetup : ℕ → ClientId → ℕ → Outcome (Unit {0})
-clientSetup f id nonce = guard 16 (isFaultBound f) (guard 16 (isClient id) (guard 16 (leb 1 nonce) (accepted tt)))
+clientSetup f id nonce = clientSetupIf (isWriter id) f nonce
+
+abbrev pub viewerSetup : ℕ → ClientId → ℕ → Outcome (Unit {0})
+viewerSetup f id nonce = clientSetupIf (isViewer id) f nonce
 
 -- What an answer of the code stands for.
 abbrev pub setupOutcome : Setup → Outcome (Unit {0})

@@ -4,7 +4,7 @@ use mathlib.Core.Bool.{Bool, _&&_, _||_, cond}
 use mathlib.Core.Option.{Option, none, some}
 use Prim.Native.Nat.{ℕ, _+_, _*_, _/_, _%_}
 use lib.Dec.{leb, ltb, eqb}
-use Rattle.base.specs.Range.{within}
+use Rattle.base.specs.Party.{isWriter}
 use Rattle.base.specs.declared.party.ClientId.{ClientId}
 use Rattle.base.specs.declared.timestamp.Timestamp.{Timestamp}
 use Rattle.base.specs.declared.timestamp.Successor.{Successor}
@@ -45,4 +45,4 @@ successorOf Missing = none
 
 -- Refusal 11 of a timestamp: "A stamp present has count 0 or a desk outside 1 to 64."
 abbrev pub isIssued : Timestamp → Bool
-isIssued t = leb 1 (t .count) && within 1 64 (t .client .0)
+isIssued t = leb 1 (t .count) && isWriter (t .client)

@@ -3,7 +3,7 @@ use crate::refusal::SET_UP;
 ghost use mathlib.Core.Path.{_≡_};
 ghost use Prim.Native.Nat.{min};
 ghost use Rattle.base.specs.Range.{within};
-ghost use Rattle.base.specs.Party.{replicaCount, quorumSize, isFaultBound, isReplica, isClient, replicaSetup, clientSetup, setupOutcome};
+ghost use Rattle.base.specs.Party.{replicaCount, quorumSize, isFaultBound, isReplica, isClient, isWriter, isViewer, replicaSetup, clientSetupIf, clientSetup, viewerSetup, setupOutcome};
 
 // A replica's number (document 01: holder number).
 #[repr(C)]
@@ -21,7 +21,9 @@ pub enum Setup {
 
 const LARGEST_FAULT_BOUND: u8 = 5;
 
-const CLIENTS: u8 = 64;
+const CLIENTS: u8 = 96;
+
+const WRITERS: u8 = 64;
 
 // The fault bound that counts: no larger than the largest.
 fn bounded(f: u8) -> u8
@@ -75,6 +77,21 @@ pub fn is_client(id: ClientId) -> bool
     within(1, CLIENTS, id.0)
 }
 
+pub fn is_writer(id: ClientId) -> bool
+    ensures { λ r. ⌜ r ≡ isWriter id ⌝ }
+{
+    within(1, WRITERS, id.0)
+}
+
+pub fn is_viewer(id: ClientId) -> bool
+    ensures { λ r. ⌜ r ≡ isViewer id ⌝ }
+{
+    if !is_client(id) {
+        return false;
+    }
+    !is_writer(id)
+}
+
 // Whether a replica can be set up with these numbers.
 pub fn replica_setup(f: u8, id: ReplicaId) -> Setup
     ensures { λ r. ⌜ setupOutcome r ≡ replicaSetup f id ⌝ }
@@ -88,18 +105,32 @@ pub fn replica_setup(f: u8, id: ReplicaId) -> Setup
     Setup::Good
 }
 
-// Whether a client can be set up with these numbers.
-pub fn client_setup(f: u8, id: ClientId, first_nonce: u64) -> Setup
-    ensures { λ r. ⌜ setupOutcome r ≡ clientSetup f id «first_nonce» ⌝ }
+// The same of a client, by whether its number is in its range.
+fn client_setup_if(in_range: bool, f: u8, first_nonce: u64) -> Setup
+    ensures { λ r. ⌜ setupOutcome r ≡ clientSetupIf «in_range» f «first_nonce» ⌝ }
 {
     if !is_fault_bound(f) {
         return Setup::Refused(SET_UP);
     }
-    if !is_client(id) {
+    if !in_range {
         return Setup::Refused(SET_UP);
     }
     if first_nonce == 0 {
         return Setup::Refused(SET_UP);
     }
     Setup::Good
+}
+
+// Whether a client that writes can be set up with these numbers.
+pub fn client_setup(f: u8, id: ClientId, first_nonce: u64) -> Setup
+    ensures { λ r. ⌜ setupOutcome r ≡ clientSetup f id «first_nonce» ⌝ }
+{
+    client_setup_if(is_writer(id), f, first_nonce)
+}
+
+// Whether a viewing client can be set up with these numbers.
+pub fn viewer_setup(f: u8, id: ClientId, first_nonce: u64) -> Setup
+    ensures { λ r. ⌜ setupOutcome r ≡ viewerSetup f id «first_nonce» ⌝ }
+{
+    client_setup_if(is_viewer(id), f, first_nonce)
 }

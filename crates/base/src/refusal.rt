@@ -1,4 +1,4 @@
-// The refusals by name, each with document 01's number ("Turned down, in checking order"). What each tests, the definitions say.
+// The refusals by name, each with its number in document 01 ("Turned down, in checking order") or document 02. What each tests, the definitions say.
 pub const OUTPUT_TOO_SHORT: u8 = 1;
 
 pub const MESSAGE_LENGTH: u8 = 2;
@@ -34,3 +34,5 @@ pub const SET_UP: u8 = 16;
 pub const BUSY: u8 = 17;
 
 pub const NOT_AWAITED: u8 = 18;
+
+pub const NOT_FOR_VIEWERS: u8 = 19;

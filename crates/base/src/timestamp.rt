@@ -20,8 +20,6 @@ pub enum Successor {
 
 const LAST_COUNT: u32 = 4_294_967_295;
 
-const LAST_WRITER: u8 = 64;
-
 impl Timestamp {
     // 0.0, at which every replica starts.
     pub fn start() -> Self
@@ -71,7 +69,8 @@ impl Timestamp {
         if self.count == 0 {
             return false;
         }
-        crate::party::within(1, LAST_WRITER, self.client.0)
+        let client = self.client;
+        crate::party::is_writer(client)
     }
 
     pub fn to_bytes(self) -> [u8; 5]

@@ -10,12 +10,12 @@ use lib.ListN.{length, drop}
 use Rattle.base.specs.Outcome.{Outcome, accepted, refused, guard, _>>=_}
 use Rattle.base.proofs.Booleans.{and-true-both}
 use Rattle.base.proofs.Outcome.{guard-accepted, guard-then, guard-alike}
-use Rattle.wire.specs.Acceptance.{senderOf, inItsRange, admits, admitted, acceptance}
+use Rattle.wire.specs.Acceptance.{senderOf, inItsRange, maySend, admits, admitted, acceptance}
 use Rattle.wire.specs.Accepting.{opening, opened, signatureCount, Ready, Judges}
 use Rattle.wire.specs.Checks.{oneEach, ownGenuine, all, proven, checked}
 use Rattle.wire.specs.Decode.{decode, reading, fieldsIn}
 use Rattle.wire.specs.Judging.{proofCheckOutcome}
-use Rattle.wire.specs.Message.{Message}
+use Rattle.wire.specs.Message.{Message, kindOf}
 use Rattle.wire.specs.declared.checks.ProofCheck.{ProofCheck}
 use Rattle.wire.specs.declared.checks.ProofCheck.the-variants.{Good, Refused}
 use Rattle.wire.specs.declared.message.Fields.{Fields}
@@ -57,8 +57,9 @@ module _ (party : Party) (f : ℕ) (bytes verdicts : List ℕ) where
           let last : Outcome Fields = accepted (fieldsIn bytes) in
           let eight = guard 8 (ownGenuine verdicts) last in
           let seven = guard 7 (oneEach m verdicts) eight in
-          let six = guard-accepted 6 (inItsRange f (senderOf m)) seven fields (rw d at e) in
-          let fit = guard-accepted 7 (oneEach m verdicts) eight fields (six .1) in
+          let six = guard-accepted 6 (inItsRange f (senderOf m)) (guard 19 (maySend (kindOf m) (senderOf m)) seven) fields (rw d at e) in
+          let may = guard-accepted 19 (maySend (kindOf m) (senderOf m)) seven fields (six .1) in
+          let fit = guard-accepted 7 (oneEach m verdicts) eight fields (may .1) in
           let own = guard-accepted 8 (ownGenuine verdicts) last fields (fit .1) in
           let reads : reading party bytes ≡ accepted fields = decode-accepted party bytes m d ∙ own .1 in
           let whole = parsed party bytes fields reads .framed in
@@ -67,7 +68,7 @@ module _ (party : Party) (f : ℕ) (bytes verdicts : List ℕ) where
             reads = reads;
             message = m;
             decodes = d;
-            passes = λ A next. unfold guard in rw (d, six .0, fit .0, own .0);
+            passes = λ A next. unfold guard in rw (d, six .0, may .0, fit .0, own .0);
             ready =
                 record {
                   whole = framed-passes bytes last whole ∙ own .1;
@@ -79,16 +80,18 @@ module _ (party : Party) (f : ℕ) (bytes verdicts : List ℕ) where
   unfolding opened
   opened-refused n e A next = go (decode party bytes) e
     where
-      go : (o : Outcome Message) → (o >>= λ m. guard 6 (inItsRange f (senderOf m)) (guard 7 (oneEach m verdicts) (guard 8 (ownGenuine verdicts) (accepted (fieldsIn bytes))))) ≡ refused n
-          → (o >>= λ m. guard 6 (inItsRange f (senderOf m)) (guard 7 (oneEach m verdicts) (guard 8 (ownGenuine verdicts) (next m)))) ≡ refused n
+      go : (o : Outcome Message) → (o >>= λ m. guard 6 (inItsRange f (senderOf m)) (guard 19 (maySend (kindOf m) (senderOf m)) (guard 7 (oneEach m verdicts) (guard 8 (ownGenuine verdicts) (accepted (fieldsIn bytes)))))) ≡ refused n
+          → (o >>= λ m. guard 6 (inItsRange f (senderOf m)) (guard 19 (maySend (kindOf m) (senderOf m)) (guard 7 (oneEach m verdicts) (guard 8 (ownGenuine verdicts) (next m))))) ≡ refused n
       go (refused k) d = cc
       go (accepted m) d =
           let x : Outcome Fields = accepted (fieldsIn bytes) in
           let y = next m in
           let own = ownGenuine verdicts in
           let fit = oneEach m verdicts in
-          guard-alike n 6 (inItsRange f (senderOf m)) (guard 7 fit (guard 8 own x)) (guard 7 fit (guard 8 own y))
-          (guard-alike n 7 fit (guard 8 own x) (guard 8 own y) (guard-alike n 8 own x y (λ z. absurd (no-both (fieldsIn bytes) n z)))) d
+          let may = maySend (kindOf m) (senderOf m) in
+          guard-alike n 6 (inItsRange f (senderOf m)) (guard 19 may (guard 7 fit (guard 8 own x))) (guard 19 may (guard 7 fit (guard 8 own y)))
+          (guard-alike n 19 may (guard 7 fit (guard 8 own x)) (guard 7 fit (guard 8 own y))
+          (guard-alike n 7 fit (guard 8 own x) (guard 8 own y) (guard-alike n 8 own x y (λ z. absurd (no-both (fieldsIn bytes) n z))))) d
 
   -- Acceptance is 2 to 8, then 9 to 11.
   acceptance-opening : acceptance party f bytes verdicts ≡ opening party f bytes verdicts (λ message. proven f message (drop 1 verdicts) (accepted (fieldsIn bytes)))
@@ -96,12 +99,12 @@ module _ (party : Party) (f : ℕ) (bytes verdicts : List ℕ) where
   acceptance-opening = go (decode party bytes)
     where
       halves : (m : Message) → (admits f verdicts m >>= λ message. accepted (fieldsIn bytes))
-          ≡ guard 6 (inItsRange f (senderOf m)) (guard 7 (oneEach m verdicts) (guard 8 (ownGenuine verdicts) (proven f m (drop 1 verdicts) (accepted (fieldsIn bytes)))))
+          ≡ guard 6 (inItsRange f (senderOf m)) (guard 19 (maySend (kindOf m) (senderOf m)) (guard 7 (oneEach m verdicts) (guard 8 (ownGenuine verdicts) (proven f m (drop 1 verdicts) (accepted (fieldsIn bytes))))))
       halves m =
-          rw (guard-then 6 (inItsRange f (senderOf m)), guard-then 7 (oneEach m verdicts), guard-then 8 (ownGenuine verdicts), proven-instead f m (drop 1 verdicts) (fieldsIn bytes))
+          rw (guard-then 6 (inItsRange f (senderOf m)), guard-then 19 (maySend (kindOf m) (senderOf m)), guard-then 7 (oneEach m verdicts), guard-then 8 (ownGenuine verdicts), proven-instead f m (drop 1 verdicts) (fieldsIn bytes))
 
       go : (o : Outcome Message) → ((o >>= admits f verdicts) >>= λ message. accepted (fieldsIn bytes))
-          ≡ (o >>= λ m. guard 6 (inItsRange f (senderOf m)) (guard 7 (oneEach m verdicts) (guard 8 (ownGenuine verdicts) (proven f m (drop 1 verdicts) (accepted (fieldsIn bytes))))))
+          ≡ (o >>= λ m. guard 6 (inItsRange f (senderOf m)) (guard 19 (maySend (kindOf m) (senderOf m)) (guard 7 (oneEach m verdicts) (guard 8 (ownGenuine verdicts) (proven f m (drop 1 verdicts) (accepted (fieldsIn bytes)))))))
       go (refused n) = refl
       go (accepted m) = halves m
 

@@ -16,13 +16,13 @@ use Rattle.base.specs.Timestamp.{number, ofNumber, isIssued}
 use Rattle.base.specs.declared.timestamp.Timestamp.{Timestamp}
 use Rattle.base.proofs.Timestamps.{number-ofNumber}
 use Rattle.base.specs.Bytes.{between}
-use Rattle.wire.specs.Acceptance.{senderOf, numbered, inItsRange}
+use Rattle.wire.specs.Acceptance.{senderOf, numbered, inItsRange, maySend}
 use Rattle.wire.specs.Accepting.{opened, entryCount, countIn, signatureCount, proofBetween, Ready}
 use Rattle.wire.specs.Checks.{preparedOf, writtenOf, timestampOf, ifThere, entriesIfThere, entriesOf, oneEach, ownGenuine, issued, all, proven, proofOutcome}
-use Rattle.wire.specs.Decode.{decode, reading, spanOf, fieldsIn, framed, timestampIn, readingOutcome}
+use Rattle.wire.specs.Decode.{decode, kindIn, reading, spanOf, fieldsIn, framed, timestampIn, readingOutcome}
 use Rattle.wire.specs.Judging.{entriesIn, proofCheckOutcome, smallest, preparedOutcome, writtenOutcome}
 use Rattle.wire.specs.Layout.{rules, mapIn, place, field}
-use Rattle.wire.specs.Message.{Message}
+use Rattle.wire.specs.Message.{Message, kindOf}
 use Rattle.wire.specs.Places.{Room}
 use Rattle.wire.specs.Proof.{PreparedProof, WrittenProof, preparedFrom, writtenFrom, readEntries}
 use Rattle.wire.specs.declared.checks.ProofCheck.{ProofCheck}
@@ -46,6 +46,7 @@ timestampAt bytes = cond (bit (mapIn bytes) 3) (some (timestampIn bytes)) none
 -- What the tests look at, in the message and in its bytes.
 pub record Seen (party : Party) (bytes : List ℕ) (message : Message) : Type 0 where
   pub sender : senderOf message ≡ numbered party (fromBytes (field bytes 1))
+  pub kind : kindOf message ≡ kindIn bytes
   pub prepared : preparedOf message ≡ preparedAt bytes
   pub written : writtenOf message ≡ writtenAt bytes
   pub timestamp : timestampOf message ≡ timestampAt bytes
@@ -63,26 +64,38 @@ module _ (bytes : List ℕ) where
   with-timestamp : bit (mapIn bytes) 3 ≡ true → some (timestampIn bytes) ≡ timestampAt bytes
   with-timestamp e = rw e
 
-  seen-taken : {kind : ℕ} {party : Party} (t : Taken (mapIn bytes) kind party) → Seen party bytes (messageOf t bytes)
-  seen-taken (read-stamp e) = record { sender = refl; prepared = no-prepared (cc); written = no-written (cc); timestamp = no-timestamp (cc) }
-  seen-taken (prepare e) = record { sender = refl; prepared = refl; written = refl; timestamp = with-timestamp (cc) }
-  seen-taken (write e) = record { sender = refl; prepared = let set : bit (mapIn bytes) 6 ≡ true = cc in rw set; written = no-written (cc); timestamp = no-timestamp (cc) }
-  seen-taken (read e) = record { sender = refl; prepared = no-prepared (cc); written = no-written (cc); timestamp = no-timestamp (cc) }
-  seen-taken (stamp e) = record { sender = refl; prepared = refl; written = no-written (cc); timestamp = no-timestamp (cc) }
-  seen-taken (prepared e) = record { sender = refl; prepared = no-prepared (cc); written = no-written (cc); timestamp = with-timestamp (cc) }
-  seen-taken (written e) = record { sender = refl; prepared = no-prepared (cc); written = no-written (cc); timestamp = with-timestamp (cc) }
-  seen-taken (card e) = record { sender = refl; prepared = refl; written = no-written (cc); timestamp = no-timestamp (cc) }
+  kind-taken : {kind : ℕ} {party : Party} (t : Taken (mapIn bytes) kind party) → kindOf (messageOf t bytes) ≡ kind
+  kind-taken (read-stamp e) = refl
+  kind-taken (prepare e) = refl
+  kind-taken (write e) = refl
+  kind-taken (read e) = refl
+  kind-taken (stamp e) = refl
+  kind-taken (prepared e) = refl
+  kind-taken (written e) = refl
+  kind-taken (card e) = refl
+
+  seen-taken : {kind : ℕ} {party : Party} (t : Taken (mapIn bytes) kind party) → kindOf (messageOf t bytes) ≡ kindIn bytes → Seen party bytes (messageOf t bytes)
+  seen-taken (read-stamp e) k = record { sender = refl; kind = k; prepared = no-prepared (cc); written = no-written (cc); timestamp = no-timestamp (cc) }
+  seen-taken (prepare e) k = record { sender = refl; kind = k; prepared = refl; written = refl; timestamp = with-timestamp (cc) }
+  seen-taken (write e) k = record { sender = refl; kind = k; prepared = let set : bit (mapIn bytes) 6 ≡ true = cc in rw set; written = no-written (cc); timestamp = no-timestamp (cc) }
+  seen-taken (read e) k = record { sender = refl; kind = k; prepared = no-prepared (cc); written = no-written (cc); timestamp = no-timestamp (cc) }
+  seen-taken (stamp e) k = record { sender = refl; kind = k; prepared = refl; written = no-written (cc); timestamp = no-timestamp (cc) }
+  seen-taken (prepared e) k = record { sender = refl; kind = k; prepared = no-prepared (cc); written = no-written (cc); timestamp = with-timestamp (cc) }
+  seen-taken (written e) k = record { sender = refl; kind = k; prepared = no-prepared (cc); written = no-written (cc); timestamp = with-timestamp (cc) }
+  seen-taken (card e) k = record { sender = refl; kind = k; prepared = refl; written = no-written (cc); timestamp = no-timestamp (cc) }
 
 pub seen : (party : Party) (bytes : List ℕ) (message : Message) → decode party bytes ≡ accepted message → Seen party bytes message
+unfolding fieldsIn
 seen party bytes message e =
     let p = parsed party bytes (fieldsIn bytes) (decode-accepted party bytes message e) in
     let same : messageOf (p .taken) bytes ≡ message = cc (p .decodes) in
-    subst (λ (m : Message). Seen party bytes m) same (seen-taken bytes (p .taken))
+    subst (λ (m : Message). Seen party bytes m) same (seen-taken bytes (p .taken) (kind-taken bytes (p .taken)))
 
 -- Where the proofs stand, by the fields.
 pub record Placed (bytes : List ℕ) (fields : Fields) : Type 0 where
   pub whole : Framed bytes
   pub map : fields .map ≡ mapIn bytes
+  pub kind : fields .kind ≡ kindIn bytes
   pub sender : fields .sender ≡ fromBytes (field bytes 1)
   pub timestamp : fields .timestamp ≡ ofNumber (timestampIn bytes)
   pub prepared : fields .prepared ≡ spanOf bytes 6
@@ -102,6 +115,7 @@ placed bytes fields e =
         record {
           whole = f;
           map = refl;
+          kind = refl;
           sender = refl;
           timestamp = refl;
           prepared = refl;
@@ -238,14 +252,14 @@ judged f party bytes message first second e whole first-size second-size =
 
 -- Tests 2 to 8 by the bytes.
 pub opened-read : (party : Party) (f : ℕ) (bytes verdicts : List ℕ) (fields : Fields) → reading party bytes ≡ accepted fields
-    → opened party f bytes verdicts ≡ guard 6 (inItsRange f (numbered party (fields .sender))) (guard 7 (eqb (length verdicts) (signatureCount bytes) && all (λ v. leb v 1) verdicts) (guard 8 (ownGenuine verdicts) (accepted fields)))
+    → opened party f bytes verdicts ≡ guard 6 (inItsRange f (numbered party (fields .sender))) (guard 19 (maySend (fields .kind) (numbered party (fields .sender))) (guard 7 (eqb (length verdicts) (signatureCount bytes) && all (λ v. leb v 1) verdicts) (guard 8 (ownGenuine verdicts) (accepted fields))))
 unfolding opened
 opened-read party f bytes verdicts fields e =
     let p = parsed party bytes fields e in
     let m = messageOf (p .taken) bytes in
     let s = seen party bytes m (p .decodes) in
     let at = placed-reading party bytes fields e in
-    rw (p .decodes, s .sender, ← at .sender, one-each party bytes m verdicts (p .decodes) (p .framed), p .same)
+    rw (p .decodes, s .sender, s .kind, ← at .sender, ← at .kind, one-each party bytes m verdicts (p .decodes) (p .framed), p .same)
 
 pub opened-unread : (party : Party) (f : ℕ) (bytes verdicts : List ℕ) (n : ℕ) → reading party bytes ≡ refused n → opened party f bytes verdicts ≡ refused n
 unfolding opened

@@ -4,28 +4,30 @@ use mathlib.Core.Bool.{true}
 use mathlib.Core.List.{List}
 use Prim.Native.Nat.{ℕ}
 use native.Mathlib.Omega.{arith}
-use Rattle.base.specs.Outcome.{Outcome, accepted, refused, _>>=_}
+use Rattle.base.specs.Outcome.{Outcome, accepted, refused, guard, _>>=_}
 use Rattle.base.proofs.Outcome.{guard-accepted, guard-passes}
-use Rattle.wire.specs.Acceptance.{senderOf, inItsRange, admits, admitted, acceptance}
+use Rattle.wire.specs.Acceptance.{senderOf, inItsRange, maySend, admits, admitted, acceptance}
 use Rattle.wire.specs.Checks.{checked}
 use Rattle.wire.specs.Decode.{decode, reading, fieldsIn}
-use Rattle.wire.specs.Message.{Message}
+use Rattle.wire.specs.Message.{Message, kindOf}
 use Rattle.wire.specs.declared.message.Fields.{Fields}
 use Rattle.wire.specs.declared.message.Party.{Party}
 use Rattle.wire.proofs.Parsed.{decode-accepted}
 use Rattle.wire.proofs.Passed.{Passed, checked-passed, passed-checked}
 
--- The bytes are this message, its sender is in range, and it passed 7 to 11.
+-- The bytes are this message, its sender is in range and may send its kind, and it passed 7 to 11.
 pub record Admitted (party : Party) (f : ℕ) (bytes verdicts : List ℕ) (message : Message) : Type 0 where
   pub decodes : decode party bytes ≡ accepted message
   pub ranged : inItsRange f (senderOf message) ≡ true
+  pub may-send : maySend (kindOf message) (senderOf message) ≡ true
   pub passed : Passed f message verdicts
 
 -- A message that meets 6 to 11 is let through.
-pub passed-admits : (f : ℕ) (verdicts : List ℕ) (message : Message) → inItsRange f (senderOf message) ≡ true → Passed f message verdicts → admits f verdicts message ≡ accepted message
+pub passed-admits : (f : ℕ) (verdicts : List ℕ) (message : Message) → inItsRange f (senderOf message) ≡ true → maySend (kindOf message) (senderOf message) ≡ true
+    → Passed f message verdicts → admits f verdicts message ≡ accepted message
 unfolding admits
-passed-admits f verdicts message ranged passed =
-    guard-passes 6 (inItsRange f (senderOf message)) (checked f message verdicts (accepted message)) ranged ∙ passed-checked f message verdicts (accepted message) passed
+passed-admits f verdicts message ranged may passed =
+    guard-passes 6 (inItsRange f (senderOf message)) _ ranged ∙ guard-passes 19 (maySend (kindOf message) (senderOf message)) _ may ∙ passed-checked f message verdicts (accepted message) passed
 
 module _ (party : Party) (f : ℕ) (bytes verdicts : List ℕ) where
   pub admitted-passed : (message : Message) → admitted party f bytes verdicts ≡ accepted message → Admitted party f bytes verdicts message
@@ -35,11 +37,12 @@ module _ (party : Party) (f : ℕ) (bytes verdicts : List ℕ) where
       go : (o : Outcome Message) → decode party bytes ≡ o → (o >>= admits f verdicts) ≡ accepted message → Admitted party f bytes verdicts message
       go (refused n) d e = let z : _≡_ {A = ℕ} 0 1 = cc in absurd (omega arith)
       go (accepted m) d e =
-          let sixth = guard-accepted 6 (inItsRange f (senderOf m)) (checked f m verdicts (accepted m)) message e in
-          let others = checked-passed f m verdicts (accepted m) message (sixth .1) in
+          let sixth = guard-accepted 6 (inItsRange f (senderOf m)) (guard 19 (maySend (kindOf m) (senderOf m)) (checked f m verdicts (accepted m))) message e in
+          let may = guard-accepted 19 (maySend (kindOf m) (senderOf m)) (checked f m verdicts (accepted m)) message (sixth .1) in
+          let others = checked-passed f m verdicts (accepted m) message (may .1) in
           let last = others .1 in
           let same : m ≡ message = cc in
-          rw (← same) (record { decodes = d; ranged = sixth .0; passed = others .0 })
+          rw (← same) (record { decodes = d; ranged = sixth .0; may-send = may .0; passed = others .0 })
 
   -- What is accepted behind 2 to 11 is what follows for a message that they let through.
   pub admitted-then : {A : Type 0} (next : Message → Outcome A) (a : A) → (admitted party f bytes verdicts >>= next) ≡ accepted a

@@ -18,12 +18,12 @@ use Rattle.base.specs.Rising.{rising}
 use Rattle.base.specs.Timestamp.{number, ofNumber}
 use Rattle.base.proofs.Booleans.{and-true-both}
 use Rattle.base.proofs.Timestamps.{number-ofNumber}
-use Rattle.wire.specs.Acceptance.{senderOf, inItsRange, admitted, acceptance}
+use Rattle.wire.specs.Acceptance.{senderOf, inItsRange, maySend, admitted, acceptance}
 use Rattle.wire.specs.Checks.{ifThere, shaped}
 use Rattle.wire.specs.Decode.{decode, reading, fieldsIn}
 use Rattle.wire.specs.Judging.{signers}
 use Rattle.wire.specs.Layout.{rules, mapIn, place, field, signature}
-use Rattle.wire.specs.Message.{Message, READ-STAMP, PREPARE, WRITE, READ, STAMP, PREPARED, WRITTEN, CARD}
+use Rattle.wire.specs.Message.{Message, kindOf, READ-STAMP, PREPARE, WRITE, READ, STAMP, PREPARED, WRITTEN, CARD}
 use Rattle.wire.specs.Parts.{partAt, cardAt, preparedPart, writtenPart, preparedTimestamp, writtenTimestamp, timestampPart, digestPart, countPart, entriesPart, Whole, WholeIfThere}
 use Rattle.wire.specs.Proof.{PreparedProof, entriesBytes, preparedFrom, writtenFrom}
 use Rattle.wire.specs.declared.message.Fields.{Fields}
@@ -138,6 +138,7 @@ pub record Handed (party : Party) (f : ℕ) (bytes verdicts : List ℕ) (message
   pub decodes : decode party bytes ≡ accepted message
   pub admits : admitted party f bytes verdicts ≡ accepted message
   pub ranged : inItsRange f (senderOf message) ≡ true
+  pub may-send : maySend (kindOf message) (senderOf message) ≡ true
   pub passed : Passed f message verdicts
 
 module _ (party : Party) (f : ℕ) (bytes verdicts : List ℕ) (fields : Fields) (e : acceptance party f bytes verdicts ≡ accepted fields) where
@@ -152,7 +153,7 @@ module _ (party : Party) (f : ℕ) (bytes verdicts : List ℕ) (fields : Fields)
       let a = acceptance-accepted party f bytes verdicts fields e in
       let h = admitted-passed party f bytes verdicts (a .0) (a .1) in
       let same : a .0 ≡ m = cc (h .decodes) in
-      subst (λ (m : Message). Handed party f bytes verdicts m) same (record { decodes = h .decodes; admits = a .1; ranged = h .ranged; passed = h .passed })
+      subst (λ (m : Message). Handed party f bytes verdicts m) same (record { decodes = h .decodes; admits = a .1; ranged = h .ranged; may-send = h .may-send; passed = h .passed })
 
   digest-is : partAt bytes (fields .digest) ≡ field bytes 4
   unfolding fieldsIn field

@@ -1,14 +1,15 @@
--- Document 01, "Turned down", 2 to 11 in their order: the message that a party is handed, or its refusal. The steps of replica and client begin with it.
-use mathlib.Core.Bool.{Bool}
+-- Document 01, "Turned down", 2 to 11 in their order, with 19 of document 02: the message that a party is handed, or its refusal. The steps of replica and client begin with it.
+use mathlib.Core.Bool.{Bool, true, _||_}
 use mathlib.Core.List.{List}
 use Prim.Native.Nat.{ℕ}
+use lib.Dec.{eqb}
 use Rattle.base.specs.Outcome.{Outcome, accepted, guard, _>>=_}
-use Rattle.base.specs.Party.{isClient, isReplica}
+use Rattle.base.specs.Party.{isClient, isWriter, isReplica}
 use Rattle.base.specs.declared.party.ClientId.{ClientId}
 use Rattle.base.specs.declared.party.ReplicaId.{ReplicaId}
 use Rattle.wire.specs.Checks.{checked}
 use Rattle.wire.specs.Decode.{decode, fieldsIn}
-use Rattle.wire.specs.Message.{Message, READ-STAMP, PREPARE, WRITE, READ, STAMP, PREPARED, WRITTEN, CARD}
+use Rattle.wire.specs.Message.{Message, kindOf, READ-STAMP, PREPARE, WRITE, READ, STAMP, PREPARED, WRITTEN, CARD}
 use Rattle.wire.specs.declared.message.Fields.{Fields}
 use Rattle.wire.specs.declared.message.Party.{Party}
 use Rattle.wire.specs.declared.message.Party.the-variants.{Replica, Client}
@@ -38,12 +39,18 @@ abbrev pub inItsRange : ℕ → Sender → Bool
 inItsRange f (client id) = isClient id
 inItsRange f (replica id) = isReplica f id
 
+-- 19: "a viewing desk sends a kind other than READ; tested right after 6". The other kinds are a writer's to send.
+abbrev pub maySend : ℕ → Sender → Bool
+maySend kind (client id) = eqb kind 4 || isWriter id
+maySend kind (replica id) = true
+
 -- 6 to 11 of a message with its verdicts (marks).
 unfoldable pub admits : ℕ → List ℕ → Message → Outcome Message
 admits f verdicts message =
     guard 6 (inItsRange f (senderOf message))
+    (guard 19 (maySend (kindOf message) (senderOf message))
     (checked f message verdicts
-    (accepted message))
+    (accepted message)))
 
 -- 2 to 11 of bytes.
 unfoldable pub admitted : Party → ℕ → List ℕ → List ℕ → Outcome Message

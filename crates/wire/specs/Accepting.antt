@@ -8,11 +8,11 @@ use lib.ListN.{length, take, drop}
 use Rattle.base.specs.BigEndian.{fromBytes}
 use Rattle.base.specs.Bytes.{between}
 use Rattle.base.specs.Outcome.{Outcome, accepted, guard, _>>=_}
-use Rattle.wire.specs.Acceptance.{senderOf, inItsRange}
+use Rattle.wire.specs.Acceptance.{senderOf, inItsRange, maySend}
 use Rattle.wire.specs.Checks.{oneEach, ownGenuine, proven, proofOutcome}
 use Rattle.wire.specs.Decode.{decode, fieldsIn, framed}
 use Rattle.wire.specs.Judging.{entriesIn, proofCheckOutcome}
-use Rattle.wire.specs.Message.{Message}
+use Rattle.wire.specs.Message.{Message, kindOf}
 use Rattle.wire.specs.declared.checks.ProofCheck.{ProofCheck}
 use Rattle.wire.specs.declared.message.Fields.{Fields}
 use Rattle.wire.specs.declared.message.Party.{Party}
@@ -23,9 +23,10 @@ abbrev pub opening : {A : Type 0} → Party → ℕ → List ℕ → List ℕ �
 opening party f bytes verdicts next =
     decode party bytes >>= λ message.
     guard 6 (inItsRange f (senderOf message))
+    (guard 19 (maySend (kindOf message) (senderOf message))
     (guard 7 (oneEach message verdicts)
     (guard 8 (ownGenuine verdicts)
-    (next message)))
+    (next message))))
 
 unfoldable pub opened : Party → ℕ → List ℕ → List ℕ → Outcome Fields
 opened party f bytes verdicts = opening party f bytes verdicts (λ message. accepted (fieldsIn bytes))

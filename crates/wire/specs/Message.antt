@@ -21,6 +21,16 @@ pub data Message : Type 0 where
   WRITTEN : ReplicaId → ℕ → Message  -- sender, timestamp
   CARD : ReplicaId → ℕ → List ℕ → Option PreparedProof → ClientId → Message  -- sender, nonce, card, proof, client addressed
 
+abbrev pub kindOf : Message → ℕ
+kindOf (READ-STAMP client nonce) = 1
+kindOf (PREPARE client timestamp digest proof last) = 2
+kindOf (WRITE client card proof) = 3
+kindOf (READ client nonce) = 4
+kindOf (STAMP replica nonce proof client) = 5
+kindOf (PREPARED replica timestamp digest) = 6
+kindOf (WRITTEN replica timestamp) = 7
+kindOf (CARD replica nonce card proof client) = 8
+
 -- A field that is there: a number of so many bytes, a card behind its length, an optional proof.
 abbrev pub numberField : ℕ → ℕ → Option (List ℕ)
 numberField width n = some (toBytes width n)

@@ -15,6 +15,8 @@ use base::party::ClientId;
 use base::party::ReplicaId;
 use base::party::is_client;
 use base::party::is_replica;
+use base::party::is_writer;
+use base::refusal::NOT_FOR_VIEWERS;
 use base::refusal::NOT_GENUINE;
 use base::refusal::SENDER;
 use base::refusal::VERDICTS;
@@ -24,7 +26,7 @@ ghost use mathlib.Core.Bool.{true, cond};
 ghost use Prim.Native.Nat.{_≤_};
 ghost use Rattle.base.specs.BitMap.{bit};
 ghost use Rattle.base.specs.Timestamp.{isIssued};
-ghost use Rattle.wire.specs.Acceptance.{numbered, inItsRange, acceptance};
+ghost use Rattle.wire.specs.Acceptance.{numbered, inItsRange, maySend, acceptance};
 ghost use Rattle.wire.specs.Accepting.{opened, proofBetween, Ready, Judges};
 ghost use Rattle.wire.specs.Decode.{readingOutcome};
 ghost use Rattle.wire.specs.Judging.{proofCheckOutcome};
@@ -40,6 +42,19 @@ fn in_range(party: Party, f: u8, sender: u8) -> bool
     }
 }
 
+// Test 19: a client that is no writer sends READ alone.
+fn may_send(party: Party, kind: u8, sender: u8) -> bool
+    ensures { λ r. ⌜ r ≡ maySend kind (numbered party sender) ⌝ }
+{
+    let Party::Replica = party else {
+        return true;
+    };
+    if kind == 4 {
+        return true;
+    }
+    is_writer(ClientId(sender))
+}
+
 // Tests 2 to 8.
 fn open(party: Party, f: u8, bytes: &[u8], verdicts: &[u8]) -> Reading
     ensures { λ r. ⌜ readingOutcome r ≡ opened party f (now (bytes .entry)) (now (verdicts .entry)) ⌝ }
@@ -48,6 +63,9 @@ fn open(party: Party, f: u8, bytes: &[u8], verdicts: &[u8]) -> Reading
         Reading::Message(fields) => {
             if !in_range(party, f, fields.sender) {
                 return Reading::Refused(SENDER);
+            }
+            if !may_send(party, fields.kind, fields.sender) {
+                return Reading::Refused(NOT_FOR_VIEWERS);
             }
             if !verdicts_fit(verdicts, count_in(fields)) {
                 return Reading::Refused(VERDICTS);

@@ -1,32 +1,13 @@
 -- `base::party::client_setup` meets its contract. Assumes nothing.
-use mathlib.Core.Path.{sym, _∙_}
-use native.Mathlib.Omega.{arith}
+use mathlib.Core.Path.{_∙_, ap}
+use mathlib.Core.Bool.{Bool}
 use borrow.Author.Needs.{needs}
-use borrow.Author.Tests.{not-true, not-false, le-leb, lt-leb}
-use Rattle.base.proofs.Outcome.{guard-passes, guard-refuses}
+use Rattle.base.specs.Party.{clientSetupIf}
 use Rattle.base.proofs.party.client_setup.Statement.{statement}
 use Rattle.base.proofs.party.client_setup.Tie as tie
 
 returns : tie.Need-returns
-returns c = let bound = sym (c .before .is-fault-bound .ensures) ∙ not-true _ (c .if1 .taken) in rw (guard-refuses _ _ _ bound)
-
-returns-2 : tie.Need-returns-2
-returns-2 c =
-    let bound = sym (c .before .before .before .is-fault-bound .ensures) ∙ not-false _ (c .before .before .if1 .left) in
-    let id = sym (c .before .is-client .ensures) ∙ not-true _ (c .if2 .taken) in
-    rw (guard-passes _ _ _ bound, guard-refuses _ _ _ id)
-
-returns-3 : tie.Need-returns-3
-returns-3 c =
-    let bound = sym (c .before .before .before .before .is-fault-bound .ensures) ∙ not-false _ (c .before .before .before .if1 .left) in
-    let id = sym (c .before .before .is-client .ensures) ∙ not-false _ (c .before .if2 .left) in
-    rw (guard-passes _ _ _ bound, guard-passes _ _ _ id, guard-refuses _ _ _ (lt-leb 1 (c .before .before .before .before .before .args .first-nonce) (omega arith)))
-
-returns-4 : tie.Need-returns-4
-returns-4 c =
-    let bound = sym (c .before .before .before .before .is-fault-bound .ensures) ∙ not-false _ (c .before .before .before .if1 .left) in
-    let id = sym (c .before .before .is-client .ensures) ∙ not-false _ (c .before .if2 .left) in
-    rw (guard-passes _ _ _ bound, guard-passes _ _ _ id, guard-passes _ _ _ (le-leb 1 (c .before .before .before .before .before .args .first-nonce) (omega arith)))
+returns c = let a = c .before .before .args in c .client-setup-if .ensures ∙ ap (λ (b : Bool). clientSetupIf b (a .f) (a .first-nonce)) (c .before .is-writer .ensures)
 
 pub client-setup-spec : {M : Type 1} → statement M
-client-setup-spec = tie.close (tie.spec (λ c κs. search needs) returns (λ c κs. search needs) returns-2 returns-3 returns-4)
+client-setup-spec = tie.close (tie.spec (λ c κs. search needs) (λ c κs. search needs) returns)

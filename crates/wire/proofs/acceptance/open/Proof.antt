@@ -8,9 +8,10 @@ use lib.Dec.{eqb, leb}
 use lib.ListN.{length, getD}
 use Rattle.base.specs.Outcome.{accepted, guard}
 use Rattle.base.proofs.Booleans.{and-true-both}
-use Rattle.wire.specs.Acceptance.{numbered, inItsRange}
-use Rattle.wire.specs.Accepting.{signatureCount}
-use Rattle.wire.specs.Checks.{all}
+use Rattle.base.proofs.Outcome.{guard-passes, guard-refuses}
+use Rattle.wire.specs.Acceptance.{numbered, inItsRange, maySend}
+use Rattle.wire.specs.Accepting.{opened, signatureCount}
+use Rattle.wire.specs.Checks.{ownGenuine, all}
 use Rattle.wire.specs.Decode.{reading}
 use Rattle.wire.proofs.Accepting.{Placed, placed-reading, all-signatures, opened-read, opened-unread, answered, turned-down}
 use borrow.Author.Needs.{needs}
@@ -30,44 +31,75 @@ at-places c = placed-reading (start c .args .party) (start c .args .bytes .now) 
 ranged : (c : tie.After-in-range) → inItsRange (start (c .before) .args .f) (numbered (start (c .before) .args .party) (c .before .before .fields .given .0 .0 .sender)) ≡ c .in-range .result
 ranged c = sym (c .in-range .ensures)
 
+abbrev told : tie.After-may-send → tie.After-known-told
+told c = c .before .before .before
+
+-- Test 19.
+may : (c : tie.After-may-send) → maySend (told c .before .fields .given .0 .0 .kind) (numbered (start (told c) .args .party) (told c .before .fields .given .0 .0 .sender)) ≡ c .may-send .result
+may c = sym (c .may-send .ensures)
+
+-- Tests 7 and 8 are left.
+sent : (c : tie.Else2) → opened (start (told (c .before)) .args .party) (start (told (c .before)) .args .f) (start (told (c .before)) .args .bytes .now) (start (told (c .before)) .args .verdicts .now)
+    ≡ guard 7 (eqb (length (start (told (c .before)) .args .verdicts .now)) (signatureCount (start (told (c .before)) .args .bytes .now)) && all (λ v. leb v 1) (start (told (c .before)) .args .verdicts .now))
+    (guard 8 (ownGenuine (start (told (c .before)) .args .verdicts .now)) (accepted (told (c .before) .before .fields .given .0 .0)))
+sent c =
+    let m = c .before in
+    let k = told m in
+    let a = start k .args in
+    opened-read (a .party) (a .f) (a .bytes .now) (a .verdicts .now) (k .before .fields .given .0 .0) (known k)
+    ∙ guard-passes 6 _ _ (ranged (m .before .before) ∙ not-false _ (m .before .if1 .left))
+    ∙ guard-passes 19 _ _ (may m ∙ not-false _ (c .if2 .left))
+
 -- Test 7.
 fits : (c : tie.After-verdicts-fit)
     → c .verdicts-fit .result
-    ≡ (eqb (length (start (c .before .before .before .before) .args .verdicts .now)) (signatureCount (start (c .before .before .before .before) .args .bytes .now)) && all (λ v. leb v 1) (start (c .before .before .before .before) .args .verdicts .now))
+    ≡ (eqb (length (start (told (c .before .before .before)) .args .verdicts .now)) (signatureCount (start (told (c .before .before .before)) .args .bytes .now)) && all (λ v. leb v 1) (start (told (c .before .before .before)) .args .verdicts .now))
 fits c =
-    let k = c .before .before .before .before in
+    let k = told (c .before .before .before) in
     rw (c .before .count-in .ensures, all-signatures (start k .args .bytes .now) (k .before .fields .given .0 .0) (at-places k)) at (c .verdicts-fit .ensures)
 
-some-verdict : (c : tie.Else2) → 1 ≤ length (start (c .before .before .before .before .before) .args .verdicts .now)
+some-verdict : (c : tie.Else3) → 1 ≤ length (start (told (c .before .before .before .before)) .args .verdicts .now)
 some-verdict c =
-    let v = start (c .before .before .before .before .before) .args .verdicts .now in
+    let v = start (told (c .before .before .before .before)) .args .verdicts .now in
     let b = c .before in
     let n = b .before .count-in .result in
-    let good : (eqb (length v) n && all (λ x. leb x 1) v) ≡ true = sym (b .verdicts-fit .ensures) ∙ not-false (b .verdicts-fit .result) (c .if2 .left) in
+    let good : (eqb (length v) n && all (λ x. leb x 1) v) ≡ true = sym (b .verdicts-fit .ensures) ∙ not-false (b .verdicts-fit .result) (c .if3 .left) in
     let size : length v ≡ n = eqb-true (length v) n (and-true-both (eqb (length v) n) (all (λ x. leb x 1) v) good .0) in
     omega (arith, b .before .count-in .ensures)
 
 returns : tie.Need-returns
-unfolding guard
-returns c = let k = c .before .before in let a = start k .args in rw (opened-read (a .party) (a .f) (a .bytes .now) (a .verdicts .now) (k .before .fields .given .0 .0) (known k), ranged (c .before), not-true (c .before .in-range .result) (c .if1 .taken))
+returns c =
+    let k = c .before .before in
+    let a = start k .args in
+    rw (opened-read (a .party) (a .f) (a .bytes .now) (a .verdicts .now) (k .before .fields .given .0 .0) (known k), guard-refuses 6 _ _ (ranged (c .before) ∙ not-true _ (c .if1 .taken)))
 
 returns-2 : tie.Need-returns-2
-unfolding guard
-returns-2 c = let k = c .before .before .before .before .before in let a = start k .args in rw (opened-read (a .party) (a .f) (a .bytes .now) (a .verdicts .now) (k .before .fields .given .0 .0) (known k), ranged (c .before .before .before .before), not-false (c .before .before .before .before .in-range .result) (c .before .before .before .if1 .left), ← fits (c .before), not-true (c .before .verdicts-fit .result) (c .if2 .taken))
-
-shared-slice-read-if3 : tie.Need-shared-slice-read-if3
-shared-slice-read-if3 c = let h = some-verdict (c .before) in omega arith
+returns-2 c =
+    let m = c .before in
+    let k = told m in
+    let a = start k .args in
+    rw (opened-read (a .party) (a .f) (a .bytes .now) (a .verdicts .now) (k .before .fields .given .0 .0) (known k), guard-passes 6 _ _ (ranged (m .before .before) ∙ not-false _ (m .before .if1 .left)), guard-refuses 19 _ _ (may m ∙ not-true _ (c .if2 .taken)))
 
 returns-3 : tie.Need-returns-3
-unfolding guard
-returns-3 c = let k = c .before .before .before .before .before .before .before in let a = start k .args in rw (opened-read (a .party) (a .f) (a .bytes .now) (a .verdicts .now) (k .before .fields .given .0 .0) (known k), ranged (c .before .before .before .before .before .before), not-false (c .before .before .before .before .before .before .in-range .result) (c .before .before .before .before .before .if1 .left), ← fits (c .before .before .before), not-false (c .before .before .before .verdicts-fit .result) (c .before .before .if2 .left), ne-eqb (getD (a .verdicts .now) 0 0) 1 (c .if3 .taken))
+returns-3 c = rw (sent (c .before .before .before), guard-refuses 7 _ _ (sym (fits (c .before)) ∙ not-true _ (c .if3 .taken)))
+
+shared-slice-read-if4 : tie.Need-shared-slice-read-if4
+shared-slice-read-if4 c = let h = some-verdict (c .before) in omega arith
 
 returns-4 : tie.Need-returns-4
-unfolding guard
-returns-4 c = let k = c .before .before .before .before .before .before .before in let a = start k .args in rw (opened-read (a .party) (a .f) (a .bytes .now) (a .verdicts .now) (k .before .fields .given .0 .0) (known k), ranged (c .before .before .before .before .before .before), not-false (c .before .before .before .before .before .before .in-range .result) (c .before .before .before .before .before .if1 .left), ← fits (c .before .before .before), not-false (c .before .before .before .verdicts-fit .result) (c .before .before .if2 .left), eq-eqb (getD (a .verdicts .now) 0 0) 1 (c .if3 .left))
+returns-4 c =
+    let e = c .before .before in
+    let v = start (told (e .before .before .before .before)) .args .verdicts .now in
+    rw (sent (e .before .before .before), guard-passes 7 _ _ (sym (fits (e .before)) ∙ not-false _ (e .if3 .left)), guard-refuses 8 _ _ (ne-eqb (getD v 0 0) 1 (c .if4 .taken)))
 
 returns-5 : tie.Need-returns-5
-returns-5 c = let a = c .before .before .before .before .before .before .args in sym (opened-unread (a .party) (a .f) (a .bytes .now) (a .verdicts .now) (c .before .number .given .0 .0) (turned-down (reading (a .party) (a .bytes .now)) (c .before .before .before .read .result) (c .before .number .given .0 .0) (c .before .before .before .read .ensures) (c .before .number .given .1)))
+returns-5 c =
+    let e = c .before .before in
+    let v = start (told (e .before .before .before .before)) .args .verdicts .now in
+    rw (sent (e .before .before .before), guard-passes 7 _ _ (sym (fits (e .before)) ∙ not-false _ (e .if3 .left)), guard-passes 8 _ _ (eq-eqb (getD v 0 0) 1 (c .if4 .left)))
+
+returns-6 : tie.Need-returns-6
+returns-6 c = let a = c .before .before .before .before .before .before .args in sym (opened-unread (a .party) (a .f) (a .bytes .now) (a .verdicts .now) (c .before .number .given .0 .0) (turned-down (reading (a .party) (a .bytes .now)) (c .before .before .before .read .result) (c .before .number .given .0 .0) (c .before .before .before .read .ensures) (c .before .number .given .1)))
 
 pub open-spec : {M : Type 1} → statement M
 open-spec =
@@ -78,10 +110,12 @@ open-spec =
     (λ c κs. search needs)
     returns
     (λ c κs. search needs)
-    (λ c κs. search needs)
     returns-2
-    shared-slice-read-if3
+    (λ c κs. search needs)
+    (λ c κs. search needs)
     returns-3
-    (λ c. search needs)
+    shared-slice-read-if4
     returns-4
-    returns-5)
+    (λ c. search needs)
+    returns-5
+    returns-6)

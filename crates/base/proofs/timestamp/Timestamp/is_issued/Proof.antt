@@ -9,7 +9,7 @@ returns : tie.Need-returns
 returns c = rw (lt-leb 1 (c .before .before .args .self .count) (omega arith))
 
 returns-2 : tie.Need-returns-2
-returns-2 c = rw (le-leb 1 (c .before .before .before .args .self .count) (omega arith)) (c .within .ensures)
+returns-2 c = rw (le-leb 1 (c .before .before .before .before .args .self .count) (omega arith)) (c .is-writer .ensures)
 
 pub is-issued-spec : {M : Type 1} → statement M
 is-issued-spec = tie.close (tie.spec returns (λ c κs. search needs) returns-2)
