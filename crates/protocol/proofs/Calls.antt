@@ -10,6 +10,7 @@ use Rattle.base.proofs.Outcome.{guard-passes, guard-refuses}
 use Rattle.wire.specs.Message.{longest}
 use Rattle.protocol.specs.Client.{clientAnswers, beginWrite, beginRead, clientStep, beginWriteCall, beginReadCall, clientCall}
 use Rattle.protocol.specs.Replica.{replicaAnswers, withOutput, replicaStep, replicaCall}
+use Rattle.protocol.specs.Viewer.{viewerStep, viewerCall}
 use Rattle.protocol.specs.declared.client.Client.{Client}
 use Rattle.protocol.specs.declared.replica.Replica.{Replica}
 use Rattle.protocol.specs.declared.replica.ReplicaAnswer.the-variants.{Refused}
@@ -33,7 +34,7 @@ module _ (replica : Replica) (bytes verdicts old : List ℕ) where
   unfolding replicaCall
   replica-short h = ap (replicaAnswers replica old) (short-output old (replicaStep replica bytes verdicts) h)
 
--- ---- A client, each of its three calls
+-- ---- A client, each of its three calls, and what a viewing client hears
 
 module _ (client : Client) (old : List ℕ) (long : longest ≤ length old) where
   pub begin-write-takes : (card : List ℕ) → beginWriteCall client card old ≡ clientAnswers client old (beginWrite client card)
@@ -47,3 +48,7 @@ module _ (client : Client) (old : List ℕ) (long : longest ≤ length old) wher
   pub client-step-takes : (bytes verdicts : List ℕ) → clientCall client bytes verdicts old ≡ clientAnswers client old (clientStep client bytes verdicts)
   unfolding clientCall
   client-step-takes bytes verdicts = ap (clientAnswers client old) (long-output old (clientStep client bytes verdicts) long)
+
+  pub viewer-step-takes : (bytes verdicts : List ℕ) → viewerCall client bytes verdicts old ≡ clientAnswers client old (viewerStep client bytes verdicts)
+  unfolding viewerCall
+  viewer-step-takes bytes verdicts = ap (clientAnswers client old) (long-output old (viewerStep client bytes verdicts) long)

@@ -5,7 +5,7 @@ use mathlib.Core.List.{List}
 use mathlib.Core.Option.{Option, some}
 use Prim.Native.Nat.{ℕ, _+_, _^_, _<_}
 use lib.Dec.{ltb}
-use Rattle.base.specs.Party.{isReplica}
+use Rattle.base.specs.Party.{isWriter, isReplica}
 use Rattle.base.specs.ReplicaSet.{empty, has, with, isQuorum}
 use Rattle.base.specs.Timestamp.{number, successor}
 use Rattle.base.specs.declared.party.ReplicaId.{ReplicaId}
@@ -14,7 +14,8 @@ use Rattle.base.specs.declared.timestamp.Timestamp.{Timestamp}
 use Rattle.wire.specs.Message.{Message, PREPARE, WRITE, STAMP, PREPARED, WRITTEN, CARD, Legal}
 use Rattle.wire.specs.Proof.{PreparedProof, WrittenProof}
 use Rattle.wire.specs.Sha256.{sha256}
-use Rattle.protocol.specs.Client.{Answer, send, waits, done, ended, Turn, currentCard, bestOf, showedBy}
+use Rattle.protocol.specs.Client.{Answer, send, waits, done, ended, Turn, currentCard, bestOf, showedBy, AfterCards, afterCard}
+use Rattle.protocol.specs.Viewer.{afterView}
 use Rattle.protocol.specs.Parts.{cardStands}
 use Rattle.protocol.specs.declared.client.Client.{Client}
 use Rattle.protocol.specs.declared.client.Phase.{Phase}
@@ -91,6 +92,11 @@ pub data ClientCase (before : Client) (message : Message) (turn : Turn) : Type 0
       → message ≡ CARD sender nonce card proof (before .id) → before .phase ≡ Cards nonce best counted showed → NewFrom before sender counted
       → cardStands card proof ≡ true → isQuorum (before .f) (with counted sender) ≡ true → isQuorum (before .f) (showedBy best proof sender showed) ≡ true
       → Leaves turn (done (bestOf best proof) (betterCard best proof card before)) Idle → ClientCase before message turn
+  -- A viewing client alone.
+  cards-viewed : (sender : ReplicaId) (nonce : ℕ) (card : List ℕ) (proof : Option PreparedProof) (best : Timestamp) (counted showed : ReplicaSet)
+      → message ≡ CARD sender nonce card proof (before .id) → before .phase ≡ Cards nonce best counted showed → NewFrom before sender counted
+      → cardStands card proof ≡ true → isQuorum (before .f) (with counted sender) ≡ true → isWriter (before .id) ≡ false
+      → Leaves turn (done (bestOf best proof) (betterCard best proof card before)) Idle → ClientCase before message turn
   cards-differ : (sender : ReplicaId) (nonce : ℕ) (card : List ℕ) (proof : Option PreparedProof) (best : Timestamp) (counted showed : ReplicaSet) (shown : PreparedProof)
       → message ≡ CARD sender nonce card proof (before .id) → before .phase ≡ Cards nonce best counted showed → NewFrom before sender counted
       → cardStands card proof ≡ true → isQuorum (before .f) (with counted sender) ≡ true
@@ -120,6 +126,11 @@ PhaseFits (Prepareds timestamp counted) = TimestampFits timestamp
 PhaseFits (Writtens timestamp counted) = TimestampFits timestamp
 PhaseFits (Cards nonce best counted showed) = TimestampFits best
 PhaseFits (WriteBack timestamp counted) = TimestampFits timestamp
+
+-- What follows q CARDs at this client: a viewing client alone is done with whatever they show.
+pub data Follows (before : Client) : AfterCards → Type 0 where
+  reads : Follows before afterCard
+  views : isWriter (before .id) ≡ false → Follows before afterView
 
 pub record ClientFacts (before : Client) (verdicts : List ℕ) (message : Message) (turn : Turn) : Type 0 where
   pub same-f : turn .next .f ≡ before .f

@@ -1,6 +1,6 @@
 -- What one step of a client does: how it begins, and one case for each way in which a message is taken. Assumes nothing.
 use mathlib.Core.Path.{_≡_, refl}
-use mathlib.Core.Bool.{true}
+use mathlib.Core.Bool.{true, false}
 use mathlib.Core.List.{List}
 use Prim.Native.Nat.{ℕ, _+_, _^_, _≤_, _<_}
 use native.Mathlib.Omega.{arith}
@@ -9,6 +9,7 @@ use lib.Dec.{ltb}
 use lib.ListN.{length}
 use Rattle.base.specs.BigEndian.{Bytes}
 use Rattle.base.specs.Outcome.{accepted}
+use Rattle.base.specs.Party.{isWriter}
 use Rattle.base.specs.ReplicaSet.{empty}
 use Rattle.base.specs.Timestamp.{start}
 use Rattle.base.proofs.Booleans.{and-true-both}
@@ -16,6 +17,7 @@ use Rattle.wire.specs.Acceptance.{senderOf, inItsRange}
 use Rattle.wire.specs.Message.{Message, READ-STAMP, PREPARE, WRITE, READ, STAMP, PREPARED, WRITTEN, CARD, Fits, size, Legal, IsSignature}
 use Rattle.protocol.specs.Client.{send, Turn, isIdle, mayBegin, beginning, beginWrite, beginRead, onReply}
 use Rattle.protocol.specs.Parts.{startCard}
+use Rattle.protocol.specs.Viewer.{onViewerReply}
 use Rattle.protocol.specs.declared.client.Client.{Client}
 use Rattle.protocol.specs.declared.client.Phase.{Phase}
 use Rattle.protocol.specs.declared.client.Phase.the-variants.{Idle, Stamps, Prepareds, Writtens, Cards, WriteBack}
@@ -26,7 +28,7 @@ use Rattle.protocol.proofs.ClientKept.{beginning-fits}
 use Rattle.protocol.proofs.ClientReplies.{stamp-facts, prepared-facts, written-facts, card-facts}
 use Rattle.protocol.proofs.Fit.{ClientFits}
 use Rattle.wire.proofs.Passed.{Passed}
-use Rattle.protocol.proofs.ClientCases.{Begun, PhaseFits, ClientFacts}
+use Rattle.protocol.proofs.ClientCases.{Begun, PhaseFits, reads, views, ClientFacts}
 
 idle-phase : (phase : Phase) → isIdle phase ≡ true → phase ≡ Idle
 idle-phase Idle e = refl
@@ -84,7 +86,7 @@ module _ (before : Client) (verdicts signature : List ℕ) (fits : ClientFits be
   facts (WRITTEN sender timestamp) message-fits ranged passed = written-facts before verdicts fits sender ranged signature signature-fits timestamp passed (before .phase) refl phase-fits
   facts (CARD sender nonce card proof addressed) message-fits ranged passed =
       by-guard 14 (λ stands.
-      card-facts before verdicts fits sender ranged nonce card proof addressed passed (message-fits .2 .1) (message-fits .3) stands (before .phase) refl phase-fits)
+      card-facts before verdicts fits sender ranged reads nonce card proof addressed passed (message-fits .2 .1) (message-fits .3) stands (before .phase) refl phase-fits)
   facts (READ-STAMP sender nonce) message-fits ranged passed = by-refusal
   facts (PREPARE sender timestamp digest proof last) message-fits ranged passed = by-refusal
   facts (WRITE sender card proof) message-fits ranged passed = by-refusal
@@ -94,3 +96,23 @@ pub client-facts : (before : Client) (verdicts signature : List ℕ) (message : 
     → Rattle.wire.specs.Message.Fits message → IsSignature signature → inItsRange (before .f) (senderOf message) ≡ true → Passed (before .f) message verdicts
     → onReply before signature message ≡ accepted turn → ClientFacts before verdicts message turn
 client-facts before verdicts signature message turn fits phase-fits message-fits signature-fits ranged passed e = facts before verdicts signature fits phase-fits signature-fits message message-fits ranged passed .holds turn e
+
+-- The same of a viewing client.
+module _ (before : Client) (verdicts : List ℕ) (fits : ClientFits before) (phase-fits : PhaseFits (before .phase)) (no-writer : isWriter (before .id) ≡ false) where
+  view-facts : (message : Message) → Fits message → inItsRange (before .f) (senderOf message) ≡ true → Passed (before .f) message verdicts → Accepts (ClientFacts before verdicts message) (onViewerReply before message)
+  unfolding onViewerReply Fits
+  view-facts (CARD sender nonce card proof addressed) message-fits ranged passed =
+      by-guard 14 (λ stands.
+      card-facts before verdicts fits sender ranged (views no-writer) nonce card proof addressed passed (message-fits .2 .1) (message-fits .3) stands (before .phase) refl phase-fits)
+  view-facts (STAMP sender nonce proof addressed) message-fits ranged passed = by-refusal
+  view-facts (PREPARED sender timestamp digest) message-fits ranged passed = by-refusal
+  view-facts (WRITTEN sender timestamp) message-fits ranged passed = by-refusal
+  view-facts (READ-STAMP sender nonce) message-fits ranged passed = by-refusal
+  view-facts (PREPARE sender timestamp digest proof last) message-fits ranged passed = by-refusal
+  view-facts (WRITE sender card proof) message-fits ranged passed = by-refusal
+  view-facts (READ sender nonce) message-fits ranged passed = by-refusal
+
+pub viewer-facts : (before : Client) (verdicts : List ℕ) (message : Message) (turn : Turn) → ClientFits before → PhaseFits (before .phase) → isWriter (before .id) ≡ false
+    → Rattle.wire.specs.Message.Fits message → inItsRange (before .f) (senderOf message) ≡ true → Passed (before .f) message verdicts
+    → onViewerReply before message ≡ accepted turn → ClientFacts before verdicts message turn
+viewer-facts before verdicts message turn fits phase-fits no-writer message-fits ranged passed e = view-facts before verdicts fits phase-fits no-writer message message-fits ranged passed .holds turn e

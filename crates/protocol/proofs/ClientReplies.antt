@@ -24,7 +24,8 @@ use Rattle.wire.specs.Card.{isCard}
 use Rattle.wire.specs.Message.{Message, PREPARE, WRITE, STAMP, PREPARED, WRITTEN, CARD, IsSignature, PreparedFits, WrittenFits, IfThere, Legal, Fits, size, writtenSize}
 use Rattle.wire.specs.Proof.{PreparedProof}
 use Rattle.wire.specs.Sha256.{sha256}
-use Rattle.protocol.specs.Client.{done, Turn, currentCard, bestProof, lastWritten, built, withSignature, withSignatures, withDigest, withLastWritten, enough, isNew, bestOf, showedBy, toPrepare, afterStamp, onStamp, afterPrepared, onPrepared, afterWritten, afterWriteBack, onWritten, afterCard, onCard}
+use Rattle.protocol.specs.Client.{done, Turn, currentCard, bestProof, lastWritten, built, withSignature, withSignatures, withDigest, withLastWritten, enough, isNew, bestOf, showedBy, toPrepare, afterStamp, onStamp, afterPrepared, onPrepared, afterWritten, afterWriteBack, onWritten, AfterCards, afterCard, countCard, onCard}
+use Rattle.protocol.specs.Viewer.{afterView}
 use Rattle.protocol.specs.Parts.{startCard, entriesKept, ifIssued, cardStands}
 use Rattle.protocol.specs.declared.client.Client.{Client}
 use Rattle.protocol.specs.declared.client.Phase.{Phase}
@@ -33,7 +34,7 @@ use Rattle.protocol.proofs.Accepts.{Accepts, by-value, by-refusal, by-g
 use Rattle.protocol.proofs.ArrayLaws.{zeros-fit, card-in-bytes, card-in-short, entries-in-length, entries-in-fit, issued-there, issued-timestamp, issued-size}
 use Rattle.wire.proofs.card.Digests.{card-short}
 use Rattle.protocol.proofs.ClientArrays.{digest-fits, signature-put, built-fit, built-few, number-fits, best-fits, successor-fits}
-use Rattle.protocol.proofs.ClientCases.{Leaves, NewFrom, betterCard, ClientCase, stamp-counted, stamps-enough, stamps-ended, prepared-counted, prepareds-enough, written-counted, writtens-enough, card-counted, cards-agree, cards-differ, back-counted, back-enough, LegalAnswer, PhaseFits, ClientFacts}
+use Rattle.protocol.proofs.ClientCases.{Leaves, NewFrom, betterCard, ClientCase, stamp-counted, stamps-enough, stamps-ended, prepared-counted, prepareds-enough, written-counted, writtens-enough, card-counted, cards-agree, cards-viewed, cards-differ, back-counted, back-enough, LegalAnswer, PhaseFits, Follows, reads, views, ClientFacts}
 use Rattle.protocol.proofs.ClientKept.{Kept, itself-kept, phase-kept, digest-changed, signatures-changed, written-changed, better-kept, better-card-kept}
 use Rattle.protocol.proofs.Fit.{Array, TimestampFits, ClientFits}
 use Rattle.wire.proofs.Passed.{Passed}
@@ -187,36 +188,37 @@ module _ (before : Client) (verdicts : List ℕ) (message : Message) (passed : P
       (back-counted sender timestamp counted is-message at new (record { card-kept = refl; digest-kept = refl }) leaves)))
 
   -- CARDs
-  after-card : (sender : ReplicaId) (nonce : ℕ) (card : List ℕ) (proof : Option PreparedProof) (best : Timestamp) (counted showed : ReplicaSet) → TimestampFits (bestOf best proof)
-      → message ≡ CARD sender nonce card proof (before .id) → before .phase ≡ Cards nonce best counted showed → NewFrom before sender counted → cardStands card proof ≡ true
-      → (client : Client) → Kept before client → currentCard client ≡ betterCard best proof card before
-      → Accepts (ClientFacts before verdicts message) (afterCard nonce (bestOf best proof) (with counted sender) (showedBy best proof sender showed) client)
-  unfolding afterCard
-  after-card sender nonce card proof best counted showed best-fit is-message at new stands client kept better = go (enough client (with counted sender)) (enough client showing) refl refl
-    where
-      now : Timestamp
-      now = bestOf best proof
+  module _ (sender : ReplicaId) (nonce : ℕ) (card : List ℕ) (proof : Option PreparedProof) (best : Timestamp) (counted showed : ReplicaSet) (best-fit : TimestampFits (bestOf best proof))
+      (is-message : message ≡ CARD sender nonce card proof (before .id)) (at : before .phase ≡ Cards nonce best counted showed) (new : NewFrom before sender counted)
+      (stands : cardStands card proof ≡ true) (client : Client) (kept : Kept before client) (better : currentCard client ≡ betterCard best proof card before) where
+    abbrev latest : Timestamp
+    latest = bestOf best proof
 
-      showing : ReplicaSet
-      showing = showedBy best proof sender showed
+    abbrev showing : ReplicaSet
+    showing = showedBy best proof sender showed
 
-      go : (full agree : Bool) → enough client (with counted sender) ≡ full → enough client showing ≡ agree
-          → Accepts (ClientFacts before verdicts message) (afterCard nonce now (with counted sender) showing client)
-      go true true quorum agree =
-          simp (quorum, agree)
-          (by-value (took _ (phase-kept before client kept _) tt tt
-          (cards-agree sender nonce card proof best counted showed is-message at new stands (quorum-before client kept (with counted sender) quorum) (quorum-before client kept showing agree)
-          (record { answer-is = ap (done now) better; phase-is = refl }))))
-      go true false quorum differ =
-          simp (quorum, differ)
-          (by-value (took _ (phase-kept before client kept _) best-fit
-          (write-legal client (kept .fits) (bestProof client now) (proof-fits client (kept .fits) now best-fit) (entries-in-length (client .entries) (client .«entry_count»)))
-          (cards-differ sender nonce card proof best counted showed (bestProof client now) is-message at new stands (quorum-before client kept (with counted sender) quorum) better
-          (record { answer-is = cc; phase-is = refl }))))
-      go false agree less agrees =
-          simp less
-          (by-value (took _ (phase-kept before client kept _) best-fit tt
-          (card-counted sender nonce card proof best counted showed is-message at new stands better leaves)))
+    after-cards : {next : AfterCards} → Follows before next → isQuorum (before .f) (with counted sender) ≡ true → Accepts (ClientFacts before verdicts message) (next latest showing client)
+    unfolding afterCard afterView
+    after-cards reads quorum =
+        by-cases (enough client showing)
+        (λ agree. by-value (took _ (phase-kept before client kept _) tt tt
+        (cards-agree sender nonce card proof best counted showed is-message at new stands quorum (quorum-before client kept showing agree)
+        (record { answer-is = ap (done latest) better; phase-is = refl }))))
+        (λ differ. by-value (took _ (phase-kept before client kept _) best-fit
+        (write-legal client (kept .fits) (bestProof client latest) (proof-fits client (kept .fits) latest best-fit) (entries-in-length (client .entries) (client .«entry_count»)))
+        (cards-differ sender nonce card proof best counted showed (bestProof client latest) is-message at new stands quorum better
+        (record { answer-is = cc; phase-is = refl }))))
+    after-cards (views no-writer) quorum =
+        by-value (took _ (phase-kept before client kept _) tt tt
+        (cards-viewed sender nonce card proof best counted showed is-message at new stands quorum no-writer
+        (record { answer-is = ap (done latest) better; phase-is = refl })))
+
+    count-card : {next : AfterCards} → Follows before next → Accepts (ClientFacts before verdicts message) (countCard next nonce latest (with counted sender) showing client)
+    unfolding countCard
+    count-card follows =
+        by-cases (enough client (with counted sender)) (λ quorum. after-cards follows (quorum-before client kept (with counted sender) quorum))
+        (λ less. by-value (took _ (phase-kept before client kept _) best-fit tt
+        (card-counted sender nonce card proof best counted showed is-message at new stands better leaves)))
 
 -- ---- Phases: the others await another kind
 
@@ -244,21 +246,21 @@ module _ (before : Client) (verdicts : List ℕ) (fits : ClientFits before) (sen
   stamp-facts nonce proof addressed passed proof-fit (Cards asked best counted showed) at h = by-refusal
   stamp-facts nonce proof addressed passed proof-fit (WriteBack timestamp counted) at h = by-refusal
 
-  pub card-facts : (nonce : ℕ) (card : List ℕ) (proof : Option PreparedProof) (addressed : ClientId) → Passed (before .f) (CARD sender nonce card proof addressed) verdicts
+  pub card-facts : {next : AfterCards} → Follows before next → (nonce : ℕ) (card : List ℕ) (proof : Option PreparedProof) (addressed : ClientId) → Passed (before .f) (CARD sender nonce card proof addressed) verdicts
       → Bytes card → IfThere PreparedFits proof → cardStands card proof ≡ true → (phase : Phase) → before .phase ≡ phase → PhaseFits phase
-      → Accepts (ClientFacts before verdicts (CARD sender nonce card proof addressed)) (onCard before sender nonce card proof addressed phase)
+      → Accepts (ClientFacts before verdicts (CARD sender nonce card proof addressed)) (onCard next before sender nonce card proof addressed phase)
   unfolding onCard
-  card-facts nonce card proof addressed passed bytes proof-fit stands (Cards asked best counted showed) at best-fit =
+  card-facts follows nonce card proof addressed passed bytes proof-fit stands (Cards asked best counted showed) at best-fit =
       by-guard 18 (λ e.
       let (same-nonce, same-client, new) = answers-nonce nonce asked addressed counted e in
       let (kept, better) = better-card-kept before best fits card proof (standing-short card proof stands) bytes proof-fit in
-      after-card before verdicts (CARD sender nonce card proof addressed) passed fits sender asked card proof best counted showed
-      (best-fits best proof best-fit proof-fit) (cc) at new stands _ kept better)
-  card-facts nonce card proof addressed passed bytes proof-fit stands Idle at h = by-refusal
-  card-facts nonce card proof addressed passed bytes proof-fit stands (Stamps asked best counted) at h = by-refusal
-  card-facts nonce card proof addressed passed bytes proof-fit stands (Prepareds timestamp counted) at h = by-refusal
-  card-facts nonce card proof addressed passed bytes proof-fit stands (Writtens timestamp counted) at h = by-refusal
-  card-facts nonce card proof addressed passed bytes proof-fit stands (WriteBack timestamp counted) at h = by-refusal
+      count-card before verdicts (CARD sender nonce card proof addressed) passed fits sender asked card proof best counted showed
+      (best-fits best proof best-fit proof-fit) (cc) at new stands _ kept better follows)
+  card-facts follows nonce card proof addressed passed bytes proof-fit stands Idle at h = by-refusal
+  card-facts follows nonce card proof addressed passed bytes proof-fit stands (Stamps asked best counted) at h = by-refusal
+  card-facts follows nonce card proof addressed passed bytes proof-fit stands (Prepareds timestamp counted) at h = by-refusal
+  card-facts follows nonce card proof addressed passed bytes proof-fit stands (Writtens timestamp counted) at h = by-refusal
+  card-facts follows nonce card proof addressed passed bytes proof-fit stands (WriteBack timestamp counted) at h = by-refusal
 
   module _ (signature : List ℕ) (signature-fits : IsSignature signature) where
     signatures-fit : Array 1_024 (withSignature (before .signatures) sender signature)

@@ -65,7 +65,7 @@ write-tested replica verdicts client card proof passed stands = rw (passed, stan
 first-passed : (replica : Replica) (digest : List ℕ) → Passes replica oneGenuine (first digest)
 unfolding oneEach all entriesOf within
 first-passed replica digest =
-    passed-admits (replica .f) oneGenuine (first digest) refl
+    passed-admits (replica .f) oneGenuine (first digest) refl refl
     (record {
       one-each = refl;
       own = refl;

@@ -1,4 +1,4 @@
--- An operation's messages: a read sends at most two, a write at most three. Assumes nothing.
+-- An operation's messages: a read sends at most two, a write at most three, a view one. Assumes nothing.
 use mathlib.Core.Path.{_≡_, refl}
 use mathlib.Core.Bool.{Bool, true, false, cond}
 use mathlib.Core.List.{List, [], _∷_}
@@ -8,6 +8,7 @@ use native.Mathlib.Omega.{arith}
 use borrow.Author.Tests.{leb-true}
 use lib.Dec.{leb}
 use Rattle.base.specs.Outcome.{Outcome, accepted, refused}
+use Rattle.base.specs.ReplicaSet.{with}
 use Rattle.base.specs.declared.party.ClientId.{ClientId}
 use Rattle.base.specs.declared.party.ReplicaId.{ReplicaId}
 use Rattle.base.specs.declared.replica_set.ReplicaSet.{ReplicaSet}
@@ -19,13 +20,15 @@ use Rattle.wire.specs.Proof.{PreparedProof}
 use Rattle.wire.specs.Writing.{roomy}
 use Rattle.wire.specs.declared.message.Party.the-variants.{Client as AtClient}
 use Rattle.wire.proofs.Admitted.{admitted-then}
-use Rattle.protocol.specs.Client.{Answer, send, waits, done, ended, Turn, answered, clientAnswers, beginWrite, beginRead, toPrepare, afterStamp, onStamp, afterPrepared, onPrepared, afterWritten, afterWriteBack, onWritten, afterCard, onCard, onReply, clientStep, beginWriteCall, beginReadCall, clientCall}
-use Rattle.protocol.specs.OperationMessages.{Call, begins-write, begins-read, hears, sentBy, unlessBegun, sentAfter, sentIn, OperationMessages}
+use Rattle.protocol.specs.Client.{Answer, send, waits, done, ended, Turn, answered, clientAnswers, enough, keepBetterCard, beginWrite, beginRead, toPrepare, afterStamp, onStamp, afterPrepared, onPrepared, afterWritten, afterWriteBack, onWritten, afterCard, countCard, onCard, onReply, clientStep, beginWriteCall, beginReadCall, clientCall}
+use Rattle.protocol.specs.Viewer.{afterView, onViewerReply, viewerStep, viewerCall}
+use Rattle.protocol.specs.OperationMessages.{Call, begins-write, begins-read, hears, sentBy, unlessBegun, Hearing, sentAfter, sentIn, OperationMessages}
 use Rattle.protocol.specs.Replica.{withOutput}
 use Rattle.protocol.specs.declared.client.Client.{Client}
+use Rattle.protocol.specs.declared.client.ClientAnswer.the-variants.{Send}
 use Rattle.protocol.specs.declared.client.Phase.{Phase}
 use Rattle.protocol.specs.declared.client.Phase.the-variants.{Idle, Stamps, Prepareds, Writtens, Cards, WriteBack}
-use Rattle.protocol.proofs.Accepts.{Accepts, by-value, by-refusal, by-guard}
+use Rattle.protocol.proofs.Accepts.{Accepts, by-value, by-refusal, by-guard, by-cases}
 
 -- The messages that an operation may still send, by its phase.
 abbrev remaining : Phase → ℕ
@@ -89,9 +92,9 @@ module _ (counted : ReplicaSet) (client : Client) where
   unfolding afterWriteBack
   after-write-back timestamp = by-test _ (simp (at-most-cond, cond-same))
 
-  after-card : (nonce : ℕ) (best : Timestamp) (showed : ReplicaSet) → Accepts (AtMost 1) (afterCard nonce best counted showed client)
-  unfolding afterCard
-  after-card nonce best showed = by-test _ (simp (at-most-cond, cond-same))
+  count-card : (nonce : ℕ) (best : Timestamp) (showed : ReplicaSet) → Accepts (AtMost 1) (countCard afterCard nonce best counted showed client)
+  unfolding countCard afterCard
+  count-card nonce best showed = by-test _ (simp (at-most-cond, cond-same))
 
 module _ (client : Client) (sender : ReplicaId) where
   on-stamp : (nonce : ℕ) (proof : Option PreparedProof) (addressed : ClientId) (phase : Phase) → Accepts (AtMost (remaining phase)) (onStamp client sender nonce proof addressed phase)
@@ -122,13 +125,13 @@ module _ (client : Client) (sender : ReplicaId) where
   on-written timestamp own (WriteBack asked counted) = by-guard 18 (λ is. after-write-back _ _ _)
 
   on-card : (nonce : ℕ) (card : List ℕ) (proof : Option PreparedProof) (addressed : ClientId) (phase : Phase)
-      → Accepts (AtMost (remaining phase)) (onCard client sender nonce card proof addressed phase)
+      → Accepts (AtMost (remaining phase)) (onCard afterCard client sender nonce card proof addressed phase)
   unfolding onCard
   on-card nonce card proof addressed Idle = by-refusal
   on-card nonce card proof addressed (Stamps asked best counted) = by-refusal
   on-card nonce card proof addressed (Prepareds timestamp counted) = by-refusal
   on-card nonce card proof addressed (Writtens timestamp counted) = by-refusal
-  on-card nonce card proof addressed (Cards asked best counted showed) = by-guard 18 (λ is. after-card _ _ _ _ _)
+  on-card nonce card proof addressed (Cards asked best counted showed) = by-guard 18 (λ is. count-card _ _ _ _ _)
   on-card nonce card proof addressed (WriteBack timestamp counted) = by-refusal
 
 on-reply : (client : Client) (own : List ℕ) (message : Message) → Accepts (AtMost (remaining (client .phase))) (onReply client own message)
@@ -188,24 +191,24 @@ module _ (client : Client) (old : List ℕ) (most : ℕ) where
       go (refused number) h = omega arith
 
   -- A beginning that is refused leaves the record, and so what may follow.
-  begins-again : (out : Outcome Turn) (calls : List Call) → sentAfter client calls ≤ most
-      → unlessBegun (clientAnswers client old out .answer) (sentAfter (clientAnswers client old out .client) calls) ≤ most
-  begins-again (accepted turn) calls h = go (turn .answer) (turn .next)
+  begins-again : (hear : Hearing) (out : Outcome Turn) (calls : List Call) → sentAfter hear client calls ≤ most
+      → unlessBegun (clientAnswers client old out .answer) (sentAfter hear (clientAnswers client old out .client) calls) ≤ most
+  begins-again hear (accepted turn) calls h = go (turn .answer) (turn .next)
     where
-      go : (answer : Answer) (next : Client) → unlessBegun (answered old answer next .answer) (sentAfter (answered old answer next .client) calls) ≤ most
+      go : (answer : Answer) (next : Client) → unlessBegun (answered old answer next .answer) (sentAfter hear (answered old answer next .client) calls) ≤ most
       go (send message) next = omega arith
       go waits next = omega arith
       go (done timestamp card) next = omega arith
       go ended next = omega arith
-  begins-again (refused number) calls h = h
+  begins-again hear (refused number) calls h = h
 
 -- ---- All calls of an operation
 
-after-sends : (client : Client) (calls : List Call) → sentAfter client calls ≤ remaining (client .phase)
+after-sends : (client : Client) (calls : List Call) → sentAfter clientCall client calls ≤ remaining (client .phase)
 unfolding sentAfter beginWriteCall beginReadCall clientCall
 after-sends client [] = omega arith
-after-sends client (begins-write card old ∷ calls) = begins-again client old (remaining (client .phase)) (withOutput old (beginWrite client card)) calls (after-sends client calls)
-after-sends client (begins-read old ∷ calls) = begins-again client old (remaining (client .phase)) (withOutput old (beginRead client)) calls (after-sends client calls)
+after-sends client (begins-write card old ∷ calls) = begins-again client old (remaining (client .phase)) clientCall (withOutput old (beginWrite client card)) calls (after-sends client calls)
+after-sends client (begins-read old ∷ calls) = begins-again client old (remaining (client .phase)) clientCall (withOutput old (beginRead client)) calls (after-sends client calls)
 after-sends client (hears bytes verdicts old ∷ calls) =
     let step = clientStep client bytes verdicts in
     omega (
@@ -214,7 +217,7 @@ after-sends client (hears bytes verdicts old ∷ calls) =
       after-sends (clientAnswers client old (withOutput old step) .client) calls,
     )
 
-write-sends : (client : Client) (card old : List ℕ) (calls : List Call) → sentIn (beginWriteCall client card old) calls ≤ 3
+write-sends : (client : Client) (card old : List ℕ) (calls : List Call) → sentIn clientCall (beginWriteCall client card old) calls ≤ 3
 unfolding beginWriteCall
 write-sends client card old calls =
     let low = phase-low (client .phase) in
@@ -224,7 +227,7 @@ write-sends client card old calls =
       after-sends (clientAnswers client old (withOutput old (beginWrite client card)) .client) calls,
     )
 
-read-sends : (client : Client) (old : List ℕ) (calls : List Call) → sentIn (beginReadCall client old) calls ≤ 2
+read-sends : (client : Client) (old : List ℕ) (calls : List Call) → sentIn clientCall (beginReadCall client old) calls ≤ 2
 unfolding beginReadCall
 read-sends client old calls =
     omega (
@@ -233,5 +236,58 @@ read-sends client old calls =
       after-sends (clientAnswers client old (withOutput old (beginRead client)) .client) calls,
     )
 
+-- ---- A view: nothing after its READ
+
+record Quiet (turn : Turn) : Type 0 where
+  sends-none : sends (turn .answer) ≡ 0
+
+view-quiet : (client : Client) (sender : ReplicaId) (nonce : ℕ) (card : List ℕ) (proof : Option PreparedProof) (addressed : ClientId) (phase : Phase)
+    → Accepts Quiet (onCard afterView client sender nonce card proof addressed phase)
+unfolding onCard countCard afterView
+view-quiet client sender nonce card proof addressed Idle = by-refusal
+view-quiet client sender nonce card proof addressed (Stamps asked best counted) = by-refusal
+view-quiet client sender nonce card proof addressed (Prepareds timestamp counted) = by-refusal
+view-quiet client sender nonce card proof addressed (Writtens timestamp counted) = by-refusal
+view-quiet client sender nonce card proof addressed (Cards asked best counted showed) =
+    by-guard 18 (λ is. by-cases (enough (keepBetterCard best card proof client) (with counted sender)) (λ full. by-value (record { sends-none = refl })) (λ less. by-value (record { sends-none = refl })))
+view-quiet client sender nonce card proof addressed (WriteBack timestamp counted) = by-refusal
+
+reply-quiet : (client : Client) (message : Message) → Accepts Quiet (onViewerReply client message)
+unfolding onViewerReply
+reply-quiet client (CARD sender nonce card proof addressed) = by-guard 14 (λ stands. view-quiet client sender nonce card proof addressed (client .phase))
+reply-quiet client (STAMP sender nonce proof addressed) = by-refusal
+reply-quiet client (PREPARED sender timestamp digest) = by-refusal
+reply-quiet client (WRITTEN sender timestamp) = by-refusal
+reply-quiet client (READ-STAMP sender nonce) = by-refusal
+reply-quiet client (PREPARE sender timestamp digest proof last) = by-refusal
+reply-quiet client (WRITE sender card proof) = by-refusal
+reply-quiet client (READ sender nonce) = by-refusal
+
+hearing-quiet : (client : Client) (bytes verdicts old : List ℕ) → sentBy (viewerCall client bytes verdicts old .answer) ≡ 0
+unfolding viewerCall viewerStep
+hearing-quiet client bytes verdicts old = go (withOutput old (viewerStep client bytes verdicts)) refl
+  where
+    answers : (answer : Answer) (next : Client) → sends answer ≡ 0 → sentBy (answered old answer next .answer) ≡ 0
+    answers (send message) next h = h
+    answers waits next h = h
+    answers (done timestamp card) next h = h
+    answers ended next h = h
+
+    go : (out : Outcome Turn) → withOutput old (viewerStep client bytes verdicts) ≡ out → sentBy (clientAnswers client old out .answer) ≡ 0
+    go (refused number) e = refl
+    go (accepted turn) e =
+        let taken = admitted-then AtClient (client .f) bytes verdicts (onViewerReply client) turn (guard-accepted 1 (roomy old) (viewerStep client bytes verdicts) turn e .1) in
+        answers (turn .answer) (turn .next) (reply-quiet client (taken .0) .holds turn (taken .2) .sends-none)
+
+after-view : (client : Client) (calls : List Call) → sentAfter viewerCall client calls ≤ 0
+unfolding sentAfter beginWriteCall beginReadCall
+after-view client [] = omega arith
+after-view client (begins-write card old ∷ calls) = begins-again client old 0 viewerCall (withOutput old (beginWrite client card)) calls (after-view client calls)
+after-view client (begins-read old ∷ calls) = begins-again client old 0 viewerCall (withOutput old (beginRead client)) calls (after-view client calls)
+after-view client (hears bytes verdicts old ∷ calls) = omega (arith, hearing-quiet client bytes verdicts old, after-view (viewerCall client bytes verdicts old .client) calls)
+
+view-sends : (client : Client) (old : List ℕ) (n : ℕ) (calls : List Call) → beginReadCall client old .answer ≡ Send n → sentIn viewerCall (beginReadCall client old) calls ≡ 1
+view-sends client old n calls e = let none = after-view (beginReadCall client old .client) calls in rw e (omega arith)
+
 pub operation-messages : OperationMessages
-operation-messages = record { write = write-sends; read = read-sends }
+operation-messages = record { write = write-sends; read = read-sends; view = view-sends }

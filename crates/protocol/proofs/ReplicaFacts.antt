@@ -11,7 +11,7 @@ use lib.Dec.{eqb, leb, ltb}
 use lib.ListN.{getD, set, length-set}
 use lib.Seq.{getD-set-same, getD-set-other}
 use Rattle.base.specs.Outcome.{accepted, guard}
-use Rattle.base.specs.Party.{isClient}
+use Rattle.base.specs.Party.{isWriter}
 use Rattle.base.specs.Same.{same}
 use Rattle.base.specs.Timestamp.{number, ofNumber, successor}
 use Rattle.base.specs.declared.party.ClientId.{ClientId}
@@ -20,8 +20,8 @@ use Rattle.base.specs.declared.timestamp.Timestamp.{Timestamp}
 use Rattle.base.proofs.Booleans.{and-true-both}
 use Rattle.base.proofs.Range.{bounds}
 use Rattle.base.proofs.Same.{same-equal}
-use Rattle.wire.specs.Message.{Message, READ-STAMP, PREPARE, WRITE, READ, STAMP, PREPARED, WRITTEN, CARD, IfThere, IsDigest, PreparedFits, WrittenFits, CardFits, Fits, preparedSize, size, Legal}
-use Rattle.wire.specs.Acceptance.{senderOf, inItsRange}
+use Rattle.wire.specs.Message.{Message, kindOf, READ-STAMP, PREPARE, WRITE, READ, STAMP, PREPARED, WRITTEN, CARD, IfThere, IsDigest, PreparedFits, WrittenFits, CardFits, Fits, preparedSize, size, Legal}
+use Rattle.wire.specs.Acceptance.{senderOf, maySend}
 use Rattle.wire.specs.Checks.{writtenOf}
 use Rattle.wire.specs.Proof.{PreparedProof, WrittenProof}
 use Rattle.protocol.specs.Parts.{entriesKept}
@@ -61,7 +61,7 @@ pub record ReplicaFacts (before : Replica) (verdicts : List ℕ) (message : Mess
   pub held-rises : heldTimestamp (before .register .held) ≤ heldTimestamp (reply .next .register .held)
   pub slots-rise : (client : ClientId) → 1 ≤ client .0 → client .0 ≤ 64 → SlotRises (before .register .slots) (reply .next .register .slots) client
   pub prepared-sent : (id : ReplicaId) (timestamp : ℕ) (digest : List ℕ) → reply .message ≡ PREPARED id timestamp digest
-      → (id ≡ before .id) × (isClient (clientOf timestamp) ≡ true) × (slotCount (reply .next .register .slots) (clientOf timestamp) ≡ timestamp / 256)
+      → (id ≡ before .id) × (isWriter (clientOf timestamp) ≡ true) × (slotCount (reply .next .register .slots) (clientOf timestamp) ≡ timestamp / 256)
       × (slotDigest (reply .next .register .slots) (clientOf timestamp) ≡ digest)
   pub prepared-asked : (id : ReplicaId) (timestamp : ℕ) (digest : List ℕ) → reply .message ≡ PREPARED id timestamp digest
       → (proof : Option PreparedProof) × (last : Option WrittenProof) × (message ≡ PREPARE (clientOf timestamp) timestamp digest proof last)
@@ -345,12 +345,12 @@ for-each P client c here elsewhere = go (eqb (c .0) (client .0)) refl
 
 module _ (before : Replica) (verdicts : List ℕ) (client : ClientId) (timestamp : ℕ) (digest : List ℕ) (proof : Option PreparedProof) (last : Option WrittenProof) (fits : ReplicaFits before)
     (message-fits : Fits (PREPARE client timestamp digest proof last)) (passed : Passed (before .f) (PREPARE client timestamp digest proof last) verdicts)
-    (from-client : isClient client ≡ true) (is-next : isTimestamp timestamp (successor (ofNumber (preparedTimestamp proof)) client) ≡ true) where
+    (from-writer : isWriter client ≡ true) (is-next : isTimestamp timestamp (successor (ofNumber (preparedTimestamp proof)) client) ≡ true) where
   sender-low : 1 ≤ client .0
-  sender-low = bounds 1 64 (client .0) from-client .0
+  sender-low = bounds 1 64 (client .0) from-writer .0
 
   sender-high : client .0 ≤ 64
-  sender-high = bounds 1 64 (client .0) from-client .1
+  sender-high = bounds 1 64 (client .0) from-writer .1
 
   own-client : timestamp % 256 ≡ client .0
   own-client = omega (arith, next-number timestamp (ofNumber (preparedTimestamp proof)) client is-next, sender-high)
@@ -380,7 +380,7 @@ module _ (before : Replica) (verdicts : List ℕ) (client : ClientId) (timestamp
             let same-t : t ≡ timestamp = cc in
             let same-d : d ≡ digest = cc in
             let own = own-client in
-            (cc, rw (same-t, own) from-client, rw (same-t, own) count-is, rw (same-t, own, same-d) digest-is);
+            (cc, rw (same-t, own) from-writer, rw (same-t, own) count-is, rw (same-t, own, same-d) digest-is);
         prepared-asked = λ id t d e.
             let same-t : t ≡ timestamp = cc in
             let same-d : d ≡ digest = cc in
@@ -469,26 +469,26 @@ module _ (before : Replica) (verdicts : List ℕ) (client : ClientId) (timestamp
       go false false other t = simp (other, t) by-refusal
 
 prepare-facts : (before : Replica) (verdicts : List ℕ) (client : ClientId) (timestamp : ℕ) (digest : List ℕ) (proof : Option PreparedProof) (last : Option WrittenProof) → ReplicaFits before
-    → Fits (PREPARE client timestamp digest proof last) → Passed (before .f) (PREPARE client timestamp digest proof last) verdicts → isClient client ≡ true
+    → Fits (PREPARE client timestamp digest proof last) → Passed (before .f) (PREPARE client timestamp digest proof last) verdicts → isWriter client ≡ true
     → Accepts (ReplicaFacts before verdicts (PREPARE client timestamp digest proof last)) (onPrepare before client timestamp digest proof last)
-prepare-facts before verdicts client timestamp digest proof last fits message-fits passed from-client =
+prepare-facts before verdicts client timestamp digest proof last fits message-fits passed from-writer =
     by-guard 12 (λ own. by-guard 13 (λ is-next.
-    by-next (after-prepare before verdicts client timestamp digest proof last fits message-fits passed from-client is-next) (λ after facts. by-value facts)))
+    by-next (after-prepare before verdicts client timestamp digest proof last fits message-fits passed from-writer is-next) (λ after facts. by-value facts)))
 
 -- ---- All kinds
 
 module _ (before : Replica) (verdicts : List ℕ) (fits : ReplicaFits before) where
-  facts : (message : Message) → Fits message → inItsRange (before .f) (senderOf message) ≡ true → Passed (before .f) message verdicts → Accepts (ReplicaFacts before verdicts message) (onRequest before message)
+  facts : (message : Message) → Fits message → maySend (kindOf message) (senderOf message) ≡ true → Passed (before .f) message verdicts → Accepts (ReplicaFacts before verdicts message) (onRequest before message)
   unfolding onRequest
-  facts (READ-STAMP client nonce) message-fits ranged passed = stamp-facts before verdicts client nonce fits message-fits passed
-  facts (PREPARE client timestamp digest proof last) message-fits ranged passed = prepare-facts before verdicts client timestamp digest proof last fits message-fits passed ranged
-  facts (WRITE client card proof) message-fits ranged passed = write-facts before verdicts client card proof fits message-fits passed
-  facts (READ client nonce) message-fits ranged passed = card-facts before verdicts client nonce fits message-fits passed
-  facts (STAMP sender nonce proof client) message-fits ranged passed = by-refusal
-  facts (PREPARED sender timestamp digest) message-fits ranged passed = by-refusal
-  facts (WRITTEN sender timestamp) message-fits ranged passed = by-refusal
-  facts (CARD sender nonce card proof client) message-fits ranged passed = by-refusal
+  facts (READ-STAMP client nonce) message-fits may passed = stamp-facts before verdicts client nonce fits message-fits passed
+  facts (PREPARE client timestamp digest proof last) message-fits may passed = prepare-facts before verdicts client timestamp digest proof last fits message-fits passed may
+  facts (WRITE client card proof) message-fits may passed = write-facts before verdicts client card proof fits message-fits passed
+  facts (READ client nonce) message-fits may passed = card-facts before verdicts client nonce fits message-fits passed
+  facts (STAMP sender nonce proof client) message-fits may passed = by-refusal
+  facts (PREPARED sender timestamp digest) message-fits may passed = by-refusal
+  facts (WRITTEN sender timestamp) message-fits may passed = by-refusal
+  facts (CARD sender nonce card proof client) message-fits may passed = by-refusal
 
 pub replica-facts : (before : Replica) (verdicts : List ℕ) (message : Message) (reply : Reply) → ReplicaFits before → Rattle.wire.specs.Message.Fits message
-    → inItsRange (before .f) (senderOf message) ≡ true → Passed (before .f) message verdicts → onRequest before message ≡ accepted reply → ReplicaFacts before verdicts message reply
-replica-facts before verdicts message reply fits message-fits ranged passed e = facts before verdicts fits message message-fits ranged passed .holds reply e
+    → maySend (kindOf message) (senderOf message) ≡ true → Passed (before .f) message verdicts → onRequest before message ≡ accepted reply → ReplicaFacts before verdicts message reply
+replica-facts before verdicts message reply fits message-fits may passed e = facts before verdicts fits message message-fits may passed .holds reply e

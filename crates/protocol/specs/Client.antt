@@ -375,23 +375,30 @@ showedBy best proof sender showed =
 abbrev pub keepBetterCard : Timestamp → List ℕ → Option PreparedProof → Client → Client
 keepBetterCard best card proof client = cond (isBetter best proof) (withCard card (keepProof proof client)) client
 
--- "If they are q it is done; else WRITE it back"
-unfoldable pub afterCard : ℕ → Timestamp → ReplicaSet → ReplicaSet → Client → Outcome Turn
-afterCard nonce best counted showed client =
-    cond (enough client counted)
-    (cond (enough client showed) (turn (done best (currentCard client)) (withPhase Idle client))
-    (turn (send (WRITE (client .id) (currentCard client) (bestProof client best))) (withPhase (WriteBack best showed) client)))
-    (turn waits (withPhase (Cards nonce best counted showed) client))
+-- What follows q CARDs: by the largest timestamp, the replicas that showed it, and the record.
+abbrev pub AfterCards : Type 0
+AfterCards = Timestamp → ReplicaSet → Client → Outcome Turn
 
-unfoldable pub onCard : Client → ReplicaId → ℕ → List ℕ → Option PreparedProof → ClientId → Phase → Outcome Turn
-onCard client sender nonce card proof addressed (Cards asked best counted showed) =
+-- In a read: "If they are q it is done; else WRITE it back"
+unfoldable pub afterCard : AfterCards
+afterCard best showed client =
+    cond (enough client showed) (turn (done best (currentCard client)) (withPhase Idle client))
+    (turn (send (WRITE (client .id) (currentCard client) (bestProof client best))) (withPhase (WriteBack best showed) client))
+
+-- "q CARDs give the largest stamp"
+unfoldable pub countCard : AfterCards → ℕ → Timestamp → ReplicaSet → ReplicaSet → Client → Outcome Turn
+countCard next nonce best counted showed client =
+    cond (enough client counted) (next best showed client) (turn waits (withPhase (Cards nonce best counted showed) client))
+
+unfoldable pub onCard : AfterCards → Client → ReplicaId → ℕ → List ℕ → Option PreparedProof → ClientId → Phase → Outcome Turn
+onCard next client sender nonce card proof addressed (Cards asked best counted showed) =
     awaited (eqb nonce asked && (eqb (addressed .0) (client .id .0) && isNew counted sender))
-    (afterCard asked (bestOf best proof) (with counted sender) (showedBy best proof sender showed) (keepBetterCard best card proof client))
-onCard client sender nonce card proof addressed Idle = unawaited
-onCard client sender nonce card proof addressed (Stamps asked best counted) = unawaited
-onCard client sender nonce card proof addressed (Prepareds timestamp counted) = unawaited
-onCard client sender nonce card proof addressed (Writtens timestamp counted) = unawaited
-onCard client sender nonce card proof addressed (WriteBack timestamp counted) = unawaited
+    (countCard next asked (bestOf best proof) (with counted sender) (showedBy best proof sender showed) (keepBetterCard best card proof client))
+onCard next client sender nonce card proof addressed Idle = unawaited
+onCard next client sender nonce card proof addressed (Stamps asked best counted) = unawaited
+onCard next client sender nonce card proof addressed (Prepareds timestamp counted) = unawaited
+onCard next client sender nonce card proof addressed (Writtens timestamp counted) = unawaited
+onCard next client sender nonce card proof addressed (WriteBack timestamp counted) = unawaited
 
 -- The four replies, once 2 to 11 are passed, with the message's own signature. The other kinds do not get here: 5 refuses them.
 unfoldable pub onReply : Client → List ℕ → Message → Outcome Turn
@@ -400,7 +407,7 @@ onReply client signature (PREPARED sender timestamp digest) = onPrepared client 
 onReply client signature (WRITTEN sender timestamp) = onWritten client sender timestamp signature (client .phase)
 onReply client signature (CARD sender nonce card proof addressed) =
     guard 14 (cardStands card proof)
-    (onCard client sender nonce card proof addressed (client .phase))
+    (onCard afterCard client sender nonce card proof addressed (client .phase))
 onReply client signature (READ-STAMP sender nonce) = refused 5
 onReply client signature (PREPARE sender timestamp digest proof last) = refused 5
 onReply client signature (WRITE sender card proof) = refused 5

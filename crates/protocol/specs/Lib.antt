@@ -3,3 +3,4 @@ pub mod Examples
 pub mod OperationMessages
 pub mod Parts
 pub mod Replica
+pub mod Viewer

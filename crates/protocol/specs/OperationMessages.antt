@@ -1,7 +1,10 @@
--- Document 01, "A desk": "A read sends at most two messages, a write at most three." What counts as sent in an operation.
+-- Document 01, "A desk": "A read sends at most two messages, a write at most three." Of a view (document 02, #101): just one. What
+-- counts as sent in an operation.
 use mathlib.Core.List.{List, [], _∷_}
+use mathlib.Core.Path.{_≡_}
 use Prim.Native.Nat.{ℕ, _+_, _≤_}
 use Rattle.protocol.specs.Client.{ClientCall, beginWriteCall, beginReadCall, clientCall}
+use Rattle.protocol.specs.Viewer.{viewerCall}
 use Rattle.protocol.specs.declared.client.Client.{Client}
 use Rattle.protocol.specs.declared.client.ClientAnswer.{ClientAnswer}
 use Rattle.protocol.specs.declared.client.ClientAnswer.the-variants.{Send, Counted, Done, Ended, Refused}
@@ -28,20 +31,26 @@ unlessBegun (Done timestamp) rest = 0
 unlessBegun Ended rest = 0
 unlessBegun (Refused number) rest = rest
 
+-- What a client makes of bytes with verdicts and an output: `clientCall`, at a viewing client `viewerCall`.
+abbrev pub Hearing : Type 0
+Hearing = Client → List ℕ → List ℕ → List ℕ → ClientCall
+
 -- What an operation sends in the calls that follow its beginning, up to the beginning of the next one.
-unfoldable pub sentAfter : Client → List Call → ℕ
-sentAfter client [] = 0
-sentAfter client (begins-write card old ∷ calls) = unlessBegun (beginWriteCall client card old .answer) (sentAfter (beginWriteCall client card old .client) calls)
-sentAfter client (begins-read old ∷ calls) = unlessBegun (beginReadCall client old .answer) (sentAfter (beginReadCall client old .client) calls)
-sentAfter client (hears bytes verdicts old ∷ calls) = sentBy (clientCall client bytes verdicts old .answer) + sentAfter (clientCall client bytes verdicts old .client) calls
+unfoldable pub sentAfter : Hearing → Client → List Call → ℕ
+sentAfter hear client [] = 0
+sentAfter hear client (begins-write card old ∷ calls) = unlessBegun (beginWriteCall client card old .answer) (sentAfter hear (beginWriteCall client card old .client) calls)
+sentAfter hear client (begins-read old ∷ calls) = unlessBegun (beginReadCall client old .answer) (sentAfter hear (beginReadCall client old .client) calls)
+sentAfter hear client (hears bytes verdicts old ∷ calls) = sentBy (hear client bytes verdicts old .answer) + sentAfter hear (hear client bytes verdicts old .client) calls
 
 -- What an operation sends in all: in the call that begins it, and in those that follow.
-abbrev pub sentIn : ClientCall → List Call → ℕ
-sentIn begun calls = sentBy (begun .answer) + sentAfter (begun .client) calls
+abbrev pub sentIn : Hearing → ClientCall → List Call → ℕ
+sentIn hear begun calls = sentBy (begun .answer) + sentAfter hear (begun .client) calls
 
 -- For a record of any value, and calls of any bytes, verdicts and outputs, refused ones among them.
 pub record OperationMessages : Type 0 where
   -- "a write at most three"
-  pub write : (client : Client) (card old : List ℕ) (calls : List Call) → sentIn (beginWriteCall client card old) calls ≤ 3
+  pub write : (client : Client) (card old : List ℕ) (calls : List Call) → sentIn clientCall (beginWriteCall client card old) calls ≤ 3
   -- "A read sends at most two messages"
-  pub read : (client : Client) (old : List ℕ) (calls : List Call) → sentIn (beginReadCall client old) calls ≤ 2
+  pub read : (client : Client) (old : List ℕ) (calls : List Call) → sentIn clientCall (beginReadCall client old) calls ≤ 2
+  -- "READ, then q CARDs, then done .. and no write-back"
+  pub view : (client : Client) (old : List ℕ) (n : ℕ) (calls : List Call) → beginReadCall client old .answer ≡ Send n → sentIn viewerCall (beginReadCall client old) calls ≡ 1
