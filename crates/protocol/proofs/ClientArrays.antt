@@ -5,7 +5,7 @@ use mathlib.Core.List.{List, [], _∷_, _++_}
 use mathlib.Core.Option.{Option, none, some}
 use Prim.Native.Nat.{ℕ, zero, suc, _+_, _-_, _*_, _/_, _^_, _≤_, _<_}
 use native.Mathlib.Omega.{arith}
-use borrow.Author.Tests.{eqb-false}
+use borrow.Author.Tests.{eqb-false, ltb-true, ltb-false}
 use lib.Dec.{eqb, ltb}
 use lib.ListN.{length, getD, take, drop, length-append, length-take, length-drop}
 use Rattle.base.specs.BigEndian.{toBytes, Bytes}
@@ -20,6 +20,7 @@ use Rattle.base.proofs.BigEndian.{length-toBytes, bytes-toBytes, bytes-append, 
 use Rattle.wire.specs.Message.{IsDigest, IsSignature, EachFits, PreparedFits, IfThere}
 use Rattle.wire.specs.Proof.{Entry, PreparedProof}
 use Rattle.wire.specs.Sha256.{hashValue, hashBytes, padded, sha256}
+use Rattle.wire.specs.Parts.{preparedTimestamp}
 use Rattle.protocol.specs.Client.{gathered, signatureAt, withSignature, bestOf}
 use Rattle.protocol.proofs.ArrayLaws.{bytes-none, replaced-length, replaced-bytes}
 use Rattle.protocol.proofs.Fit.{Array, TimestampFits}
@@ -100,6 +101,15 @@ best-fits best (some proof) h p = go (ltb (number best) (proof .timestamp))
     go : (b : Bool) → TimestampFits (cond b (ofNumber (proof .timestamp)) best)
     go true = (omega arith, omega arith)
     go false = h
+
+-- The best of the replies is not before any of them.
+pub best-least : (best : Timestamp) (proof : Option PreparedProof) → (number best ≤ number (bestOf best proof)) × (preparedTimestamp proof ≤ number (bestOf best proof))
+best-least best proof = go (ltb (number best) (preparedTimestamp proof)) refl
+  where
+    go : (b : Bool) → ltb (number best) (preparedTimestamp proof) ≡ b
+        → (number best ≤ number (cond b (ofNumber (preparedTimestamp proof)) best)) × (preparedTimestamp proof ≤ number (cond b (ofNumber (preparedTimestamp proof)) best))
+    go true e = let l = ltb-true (number best) (preparedTimestamp proof) e in omega arith
+    go false e = let l = ltb-false (number best) (preparedTimestamp proof) e in omega arith
 
 pub successor-fits : (t next : Timestamp) (client : ClientId) → TimestampFits t → client .0 < 256 → successor t client ≡ some next → TimestampFits next
 successor-fits t next client h small e = go (eqb (t .count) 4_294_967_295) refl e

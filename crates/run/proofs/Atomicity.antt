@@ -14,9 +14,8 @@ use Rattle.run.specs.Claims.{Finished, Before}
 use Rattle.run.specs.Premises.{Premises}
 use Rattle.run.specs.Run.{Run}
 use Rattle.run.proofs.Turns.{apart, same-client}
-use Rattle.run.proofs.Operations.{settled-later}
 use Rattle.run.proofs.Demand3.{start-shows}
-use Rattle.run.proofs.Order.{three-ways, correct-of, finish, rises, above-write, begun-after as finished-before, one-card, same-operation, total as claimed, not-itself, before-both}
+use Rattle.run.proofs.Order.{three-ways, correct-of, finish, settled-by, rises, above-write, begun-after as finished-before, one-card, same-operation, total as claimed, not-itself, before-both}
 use Rattle.run.proofs.ReadsFrom.{reads-from}
 use Rattle.run.proofs.Writes.{correct-writer, chosen, begun-after, finished-with, same-write}
 
@@ -41,7 +40,7 @@ module _ (R : Run) (P : Premises R) where
 
   -- What was finished before a write began has a smaller timestamp.
   write-above : (o : Finished R) (w : Write R) → o .finished < w .begun → number (o .timestamp) < w .timestamp
-  write-above o w l = chosen R P w .above (number (o .timestamp)) (settled-later R (suc (o .finished)) (w .begun) (number (o .timestamp)) l (finish R P o .settled))
+  write-above o w l = chosen R P w .above (number (o .timestamp)) (settled-by R P o (w .begun) l)
 
   has-write : (o : Finished R) → o .is-write ≡ true
       → (w : Write R) × (w .id ≡ o .id) × (w .begun ≡ o .begun) × (w .timestamp ≡ number (o .timestamp)) × (w .card ≡ o .card)

@@ -1,6 +1,6 @@
 -- The engines' calls, one for each event, leave the run's records and give its answers. Assumes nothing.
 use mathlib.Core.Path.{_≡_, refl, ap, _∙_}
-use mathlib.Core.Bool.{true, cond}
+use mathlib.Core.Bool.{Bool, true, false, cond}
 use mathlib.Core.List.{List}
 use mathlib.Core.Option.{Option, none, some}
 use Prim.Native.Nat.{ℕ, zero, suc, _≤_}
@@ -8,16 +8,18 @@ use borrow.Author.Tests.{le-leb}
 use lib.Dec.{eqb}
 use lib.ListN.{length}
 use Rattle.base.specs.Outcome.{Outcome, accepted, refused, guard}
+use Rattle.base.specs.Party.{isWriter}
 use Rattle.base.specs.declared.party.ClientId.{ClientId}
 use Rattle.base.specs.declared.party.ReplicaId.{ReplicaId}
 use Rattle.wire.specs.Message.{longest}
 use Rattle.protocol.specs.Client.{Answer, send, waits, done, ended, Turn, answered, clientAnswers, freshClient, madeClient, beginWrite, beginRead, clientStep, beginWriteCall, beginReadCall, clientCall, ClientCall}
 use Rattle.protocol.specs.Replica.{Reply, replicaAnswers, freshReplica, madeReplica, replicaStep, replicaCall, ReplicaCall}
+use Rattle.protocol.specs.Viewer.{viewerStep, viewerCall}
 use Rattle.protocol.specs.declared.client.Client.{Client}
 use Rattle.protocol.specs.declared.replica.Replica.{Replica}
-use Rattle.protocol.proofs.Calls.{replica-takes, begin-write-takes, begin-read-takes, client-step-takes}
-use Rattle.run.specs.Calls.{givenByReplica, givenByClient, givenFor, calledAtReplica, calledAtClient, calledReplica, calledClient, givenAt, CallsAreRun}
-use Rattle.run.specs.Run.{Event, begins-write, begins-read, to-replica, to-client, Run, nextReplica, nextClient, afterAtReplica, afterAtClient, replicaAnswer, clientAnswer, event, replicaAt, clientAt, answerTo}
+use Rattle.protocol.proofs.Calls.{replica-takes, begin-write-takes, begin-read-takes, client-step-takes, viewer-step-takes}
+use Rattle.run.specs.Calls.{givenByReplica, givenByClient, givenFor, calledAtReplica, calledAtClient, madeWith, hearingCall, calledReplica, calledClient, givenAt, CallsAreRun}
+use Rattle.run.specs.Run.{Event, begins-write, begins-read, to-replica, to-client, Run, nextReplica, nextClient, afterAtReplica, afterAtClient, clientHears, replicaAnswer, clientAnswer, event, replicaAt, clientAt, answerTo}
 
 -- ---- One call: the step's record, and the step's answer
 
@@ -56,6 +58,16 @@ module _ (old : List ℕ) (long : longest ≤ length old) where
   client-called : (before : Client) (bytes verdicts : List ℕ) → ClientSays before old (clientStep before bytes verdicts) (clientCall before bytes verdicts old)
   client-called before bytes verdicts = rw (client-step-takes before old long bytes verdicts) (client-says before old (clientStep before bytes verdicts))
 
+  viewer-called : (before : Client) (bytes verdicts : List ℕ) → ClientSays before old (viewerStep before bytes verdicts) (viewerCall before bytes verdicts old)
+  viewer-called before bytes verdicts = rw (viewer-step-takes before old long bytes verdicts) (client-says before old (viewerStep before bytes verdicts))
+
+  hearing-called : (id : ClientId) (before : Client) (bytes verdicts : List ℕ) → ClientSays before old (clientHears id before bytes verdicts) (hearingCall id before bytes verdicts old)
+  hearing-called id before bytes verdicts = go (isWriter id)
+    where
+      go : (w : Bool) → ClientSays before old (cond w (clientStep before bytes verdicts) (viewerStep before bytes verdicts)) (cond w (clientCall before bytes verdicts old) (viewerCall before bytes verdicts old))
+      go true = client-called before bytes verdicts
+      go false = viewer-called before bytes verdicts
+
   -- An event's call leaves the record that the event leaves.
   replica-left : (id : ReplicaId) (e : Option Event) (before : Replica) → calledAtReplica id e old before ≡ afterAtReplica id e before
   replica-left id none before = refl
@@ -69,7 +81,7 @@ module _ (old : List ℕ) (long : longest ≤ length old) where
   client-left id (some (begins-write at card)) before = ap (λ (c : Client). cond (eqb (at .0) (id .0)) c before) (write-called before card .leaves)
   client-left id (some (begins-read at)) before = ap (λ (c : Client). cond (eqb (at .0) (id .0)) c before) (read-called before .leaves)
   client-left id (some (to-replica at bytes verdicts)) before = refl
-  client-left id (some (to-client at bytes verdicts)) before = ap (λ (c : Client). cond (eqb (at .0) (id .0)) c before) (client-called before bytes verdicts .leaves)
+  client-left id (some (to-client at bytes verdicts)) before = ap (λ (c : Client). cond (eqb (at .0) (id .0)) c before) (hearing-called at before bytes verdicts .leaves)
 
 -- ---- All calls of a run
 
@@ -78,9 +90,14 @@ module _ (R : Run) (output : ℕ → List ℕ) (long : (t : ℕ) → longest ≤
   unfolding madeReplica guard
   made-replica id c = rw (R .f-in-range, R .replicas-in-range id c)
 
-  made-client : (id : ClientId) → R .correct-client id ≡ true → madeClient (R .f) id (R .first-nonce id) ≡ freshClient (R .f) id (R .first-nonce id)
+  made-client : (id : ClientId) → R .correct-client id ≡ true → madeWith (R .f) id (R .first-nonce id) ≡ freshClient (R .f) id (R .first-nonce id)
   unfolding guard
-  made-client id c = let r = R .clients-in-range id c in rw (R .f-in-range, r .0, le-leb 1 (R .first-nonce id) (r .1))
+  made-client id c = go (isWriter id) refl
+    where
+      -- Its number is a writer's, or a client's that is no writer.
+      go : (w : Bool) → isWriter id ≡ w → madeWith (R .f) id (R .first-nonce id) ≡ freshClient (R .f) id (R .first-nonce id)
+      go true q = let r = R .clients-in-range id c in rw (q, R .f-in-range, le-leb 1 (R .first-nonce id) (r .1))
+      go false q = let r = R .clients-in-range id c in rw (q, R .f-in-range, r .0, le-leb 1 (R .first-nonce id) (r .1))
 
   replicas : (id : ReplicaId) → R .correct-replica id ≡ true → (t : ℕ) → calledReplica R output id t ≡ replicaAt R id t
   unfolding replicaAt calledReplica
@@ -99,7 +116,7 @@ module _ (R : Run) (output : ℕ → List ℕ) (long : (t : ℕ) → longest ≤
   answers-to t (to-replica id bytes verdicts) q =
       rw (replicas id (R .at-correct t (to-replica id bytes verdicts) q) t) (replica-called (output t) (long t) (replicaAt R id t) bytes verdicts .gives)
   answers-to t (to-client id bytes verdicts) q =
-      rw (clients id (R .at-correct t (to-client id bytes verdicts) q) t) (client-called (output t) (long t) (clientAt R id t) bytes verdicts .gives)
+      rw (clients id (R .at-correct t (to-client id bytes verdicts) q) t) (hearing-called (output t) (long t) id (clientAt R id t) bytes verdicts .gives)
 
   -- For every run, whatever stood in the outputs.
   pub calls-are-run : CallsAreRun R output

@@ -11,10 +11,11 @@ use Rattle.protocol.specs.Parts.{startCard}
 use Rattle.run.specs.Claims.{Begins, Finished, Claims}
 use Rattle.run.specs.Premises.{Premises}
 use Rattle.run.specs.Run.{begins-write, Run, event}
+use Rattle.run.specs.Views.{Views}
 use Rattle.run.proofs.Turns.{apart, same-client}
 use Rattle.run.proofs.Slots.{one-digest}
 use Rattle.run.proofs.Operations.{Shown}
-use Rattle.run.proofs.Order.{begunWith, finish, irreflexive, transitive, total, one-card, in-order, later-write}
+use Rattle.run.proofs.Order.{begunWith, finish, view, irreflexive, transitive, total, one-card, in-order, later-write, view-after, view-card}
 
 pub demand-3 : (R : Run) → Premises R → Claims R
 demand-3 R P = record {
@@ -25,6 +26,7 @@ demand-3 R P = record {
   one-card = one-card R P;
   in-order = in-order R P;
   later-write = later-write R P;
+  view-after = view-after R P;
 }
 
 -- A finished write shows the card that it was begun with, and its timestamp carries its client.
@@ -39,10 +41,13 @@ write-shows R P o card e = go (o .is-write) (o .begins) (finish R P o .own)
     go true b own = let begun : b .0 ≡ card = cc (b .1) in (own refl .1 ∙ begun, client-is (own refl .0))
     go false b own = apart (cc)
 
--- An operation that finished at 0.0 shows the starting card, `00 00`.
+-- What is shown at 0.0 is the starting card, `00 00`: in an operation, and in a view.
+shown-start : (R : Run) (t s : ℕ) (card : List ℕ) → s ≡ 0 → Shown R t s card → card ≡ startCard
+shown-start R t s card e (inl k) = k .1
+shown-start R t s card e (inr v) = let p = v .positive in absurd (omega arith)
+
 pub start-shows : (R : Run) → Premises R → (o : Finished R) → number (o .timestamp) ≡ 0 → o .card ≡ startCard
-start-shows R P o e = go (finish R P o .is-shown)
-  where
-    go : Shown R (suc (o .finished)) (number (o .timestamp)) (o .card) → o .card ≡ startCard
-    go (inl k) = k .1
-    go (inr v) = let p = v .positive in absurd (omega arith)
+start-shows R P o e = shown-start R (suc (o .finished)) (number (o .timestamp)) (o .card) e (finish R P o .is-shown)
+
+pub views : (R : Run) → Premises R → Views R
+views R P = record { same-card = view-card R P; start-card = λ v e. shown-start R (suc (v .finished)) (number (v .timestamp)) (v .card) e (view R P v .is-shown) }

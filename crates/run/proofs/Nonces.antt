@@ -12,7 +12,7 @@ use Rattle.wire.specs.Message.{Message, READ-STAMP, PREPARE, WRITE, READ, STAMP
 use Rattle.protocol.specs.Client.{Answer, send, waits, done, ended, Turn}
 use Rattle.protocol.specs.declared.client.Client.{Client}
 use Rattle.protocol.specs.declared.client.Phase.{Phase}
-use Rattle.protocol.proofs.ClientCases.{Begun, ClientCase, stamp-counted, stamps-enough, stamps-ended, prepared-counted, prepareds-enough, written-counted, writtens-enough, card-counted, cards-agree, cards-differ, back-counted, back-enough}
+use Rattle.protocol.proofs.ClientCases.{Begun, ClientCase, stamp-counted, stamps-enough, stamps-ended, prepared-counted, prepareds-enough, written-counted, writtens-enough, card-counted, cards-agree, cards-viewed, cards-differ, back-counted, back-enough}
 use Rattle.wire.specs.Acceptance.{client}
 use Rattle.run.specs.Run.{Run, clientAt, answerAt, At}
 use Rattle.run.proofs.Turns.{apart, ClientStep, ClientTurn, rested, wrote, asked, heard, client-turn}
@@ -44,6 +44,7 @@ quiet before message turn (written-counted s t k e₁ e₂ e₃ e₄ left) = ap 
 quiet before message turn (writtens-enough s t k e₁ e₂ e₃ e₄ left) = ap isQuestion (left .answer-is)
 quiet before message turn (card-counted s n c p b k g e₁ e₂ e₃ e₄ e₅ left) = ap isQuestion (left .answer-is)
 quiet before message turn (cards-agree s n c p b k g e₁ e₂ e₃ e₄ e₅ e₆ left) = ap isQuestion (left .answer-is)
+quiet before message turn (cards-viewed s n c p b k g e₁ e₂ e₃ e₄ e₅ e₆ left) = ap isQuestion (left .answer-is)
 quiet before message turn (cards-differ s n c p b k g shown e₁ e₂ e₃ e₄ e₅ e₆ left) = ap isQuestion (left .answer-is)
 quiet before message turn (back-counted s t k e₁ e₂ e₃ e₄ left) = ap isQuestion (left .answer-is)
 quiet before message turn (back-enough s t k e₁ e₂ e₃ e₄ left) = ap isQuestion (left .answer-is)

@@ -6,11 +6,11 @@ use mathlib.Core.List.{List}
 use mathlib.Core.Option.{Option, none, some}
 use Prim.Native.Nat.{ℕ, suc, _/_, _%_, _≤_, _<_}
 use native.Mathlib.Omega.{arith}
-use borrow.Author.Tests.{eqb-true, leb-true, ltb-true, ltb-false}
+use borrow.Author.Tests.{eqb-true, leb-true}
 use lib.Dec.{eqb, leb, ltb}
 use Rattle.base.specs.Counting.{count}
 use Rattle.base.specs.Outcome.{accepted}
-use Rattle.base.specs.Party.{replicaCount, quorumSize, isReplica}
+use Rattle.base.specs.Party.{replicaCount, quorumSize, isWriter, isReplica}
 use Rattle.base.specs.Range.{within}
 use Rattle.base.specs.ReplicaSet.{empty, has, with, isQuorum}
 use Rattle.base.specs.Same.{same}
@@ -35,9 +35,10 @@ use Rattle.protocol.specs.Parts.{startCard, cardStands}
 use Rattle.protocol.specs.declared.client.Client.{Client}
 use Rattle.protocol.specs.declared.client.Phase.{Phase}
 use Rattle.protocol.specs.declared.client.Phase.the-variants.{Idle, Stamps, Prepareds, Writtens, Cards, WriteBack}
+use Rattle.protocol.proofs.ClientArrays.{best-least}
 use Rattle.protocol.proofs.Fit.{TimestampFits}
 use Rattle.wire.proofs.Passed.{Passed}
-use Rattle.protocol.proofs.ClientCases.{Leaves, betterCard, PhaseFits, ClientCase, stamp-counted, stamps-enough, stamps-ended, prepared-counted, prepareds-enough, written-counted, writtens-enough, card-counted, cards-agree, cards-differ, back-counted, back-enough}
+use Rattle.protocol.proofs.ClientCases.{Leaves, betterCard, PhaseFits, ClientCase, stamp-counted, stamps-enough, stamps-ended, prepared-counted, prepareds-enough, written-counted, writtens-enough, card-counted, cards-agree, cards-viewed, cards-differ, back-counted, back-enough}
 use Rattle.run.specs.Premises.{CardOfRun, Premises}
 use Rattle.wire.specs.Acceptance.{replica, client}
 use Rattle.run.specs.Run.{Run, clientAt, answerAt}
@@ -49,14 +50,6 @@ use Rattle.run.proofs.Nonces.{Asks, for-stamps, for-cards, asked-since}
 use Rattle.wire.specs.Parts.{preparedTimestamp}
 
 -- ---- The best of the replies
-
-best-least : (best : Timestamp) (proof : Option PreparedProof) → (number best ≤ number (bestOf best proof)) × (preparedTimestamp proof ≤ number (bestOf best proof))
-best-least best proof = go (ltb (number best) (preparedTimestamp proof)) refl
-  where
-    go : (b : Bool) → ltb (number best) (preparedTimestamp proof) ≡ b
-        → (number best ≤ number (cond b (ofNumber (preparedTimestamp proof)) best)) × (preparedTimestamp proof ≤ number (cond b (ofNumber (preparedTimestamp proof)) best))
-    go true e = let l = ltb-true (number best) (preparedTimestamp proof) e in omega arith
-    go false e = let l = ltb-false (number best) (preparedTimestamp proof) e in omega arith
 
 best-fits : (best : Timestamp) (proof : Option PreparedProof) → best .client .0 < 256 → bestOf best proof .client .0 < 256
 best-fits best proof h = go (ltb (number best) (preparedTimestamp proof))
@@ -244,7 +237,7 @@ module _ (R : Run) where
   pub record AtDone (w : Bool) (id : ClientId) (begun : List ℕ) (t₀ t : ℕ) (timestamp : Timestamp) (card : List ℕ) : Type 0 where
     pub fits : timestamp .client .0 < 256
     pub own : w ≡ true → (number timestamp % 256 ≡ id .0) × (card ≡ begun)
-    pub settled : Settled t (number timestamp)
+    pub settled : isWriter id ≡ true → Settled t (number timestamp)
     pub above : Above w t₀ (number timestamp)
     pub is-shown : Shown t (number timestamp) card
 
@@ -406,13 +399,14 @@ module _ (R : Run) where
         (record {
           fits = carried-fits (subst PhaseFits phase (good .phase-fits));
           own = λ w. (y .chosen .own, y .card-is);
-          settled = record { who = has (with counted sender); enough = quorum (with counted sender) full; hold = stored-more h sender counted (number timestamp) (new .0) e (y .stored) };
+          settled = λ w. record { who = has (with counted sender); enough = quorum (with counted sender) full; hold = stored-more h sender counted (number timestamp) (new .0) e (y .stored) };
           above = y .chosen .above;
           is-shown = subst (Shown (suc t) (number timestamp)) (sym (y .card-is))
               (inr (record { positive = y .chosen .positive; backed = backed-later R t (suc t) (number timestamp) (sha256 card) (omega arith) (y .backed); card-in = in-run }));
         })
     write-heard card in-run h x (card-counted sender nonce card′ proof best counted showed e phase new stands better left) = absurd (subst (WriteIn id card t₀ t now) phase x)
     write-heard card in-run h x (cards-agree sender nonce card′ proof best counted showed e phase new stands full full′ left) = absurd (subst (WriteIn id card t₀ t now) phase x)
+    write-heard card in-run h x (cards-viewed sender nonce card′ proof best counted showed e phase new stands full no-writer left) = absurd (subst (WriteIn id card t₀ t now) phase x)
     write-heard card in-run h x (cards-differ sender nonce card′ proof best counted showed shown e phase new stands full better left) = absurd (subst (WriteIn id card t₀ t now) phase x)
     write-heard card in-run h x (back-counted sender timestamp counted e phase new same-card left) = absurd (subst (WriteIn id card t₀ t now) phase x)
     write-heard card in-run h x (back-enough sender timestamp counted e phase new full left) = absurd (subst (WriteIn id card t₀ t now) phase x)
@@ -514,7 +508,18 @@ module _ (R : Run) where
         (record {
           fits = best-fits best proof (carried-fits (subst PhaseFits phase (good .phase-fits)));
           own = λ w. apart (cc);
-          settled = record { who = has (showedBy best proof sender showed); enough = quorum (showedBy best proof sender showed) full′; hold = q .shown-by };
+          settled = λ w. record { who = has (showedBy best proof sender showed); enough = quorum (showedBy best proof sender showed) full′; hold = q .shown-by };
+          above = below (number (bestOf best proof)) (with counted sender) (quorum (with counted sender) full) (q .seen);
+          is-shown = q .is-shown;
+        })
+    read-heard card₀ h x (cards-viewed sender nonce card proof best counted showed e phase new stands full no-writer left) =
+        let y : Reading id t₀ t now nonce (number best) counted showed = subst (ReadIn id t₀ t now) phase x in
+        let q = take-card h sender nonce card proof best counted showed e (new .0) stands y in
+        finishes (bestOf best proof) (betterCard best proof card now) (done-is (h .turn) (done (bestOf best proof) (betterCard best proof card now)) Idle (h .step) left)
+        (record {
+          fits = best-fits best proof (carried-fits (subst PhaseFits phase (good .phase-fits)));
+          own = λ w. apart (cc);
+          settled = λ w. let none : isWriter id ≡ false = subst (λ (i : ClientId). isWriter i ≡ false) (good .id-is) no-writer in apart (cc);
           above = below (number (bestOf best proof)) (with counted sender) (quorum (with counted sender) full) (q .seen);
           is-shown = q .is-shown;
         })
@@ -541,7 +546,7 @@ module _ (R : Run) where
         (record {
           fits = carried-fits (subst PhaseFits phase (good .phase-fits));
           own = λ w. apart (cc);
-          settled = record { who = has (with counted sender); enough = quorum (with counted sender) full; hold = stored-more h sender counted (number timestamp) (new .0) e (y .stored) };
+          settled = λ w. record { who = has (with counted sender); enough = quorum (with counted sender) full; hold = stored-more h sender counted (number timestamp) (new .0) e (y .stored) };
           above = y .above;
           is-shown = shown-later t (suc t) (number timestamp) (currentCard now) (omega arith) (y .is-shown);
         })

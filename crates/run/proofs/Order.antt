@@ -16,7 +16,7 @@ use Rattle.protocol.specs.Client.{done}
 use Rattle.protocol.specs.Parts.{startCard}
 use Rattle.protocol.specs.declared.client.Client.{Client}
 use Rattle.protocol.specs.declared.client.Phase.the-variants.{Idle}
-use Rattle.run.specs.Claims.{Begins, GoesOn, Finished, SameOperation, FinishedBefore, AtOneTimestamp, LiesBefore, Before}
+use Rattle.run.specs.Claims.{Begins, GoesOn, Finished, Viewed, SameOperation, FinishedBefore, AtOneTimestamp, LiesBefore, Before}
 use Rattle.run.specs.Premises.{Accepted, CardOfRun, eventCard, Premises}
 use Rattle.wire.specs.Acceptance.{client}
 use Rattle.run.specs.Run.{Event, begins-write, begins-read, to-client, Run, partyOf, event, clientAt, answerAt, At, Correct}
@@ -106,14 +106,14 @@ module _ (R : Run) where
         go (asked turn e b′ s) = busy (b′ .was-idle)
         go (heard h) = no-message w′ (h .bytes) (h .verdicts) (h .event-is) b
 
+  correct-at : (id : ClientId) (t : ℕ) → At R t (client id) → R .correct-client id ≡ true
+  correct-at id t at = subst (Correct R) (at .2) (R .at-correct t (at .0) (at .1))
+
   pub correct-of : (o : Finished R) → R .correct-client (o .id) ≡ true
-  correct-of o = subst (Correct R) (o .at-client .2) (R .at-correct (o .finished) (o .at-client .0) (o .at-client .1))
+  correct-of o = correct-at (o .id) (o .finished) (o .at-client)
 
   abbrev pub cardBegun : Finished R → List ℕ
   cardBegun o = begunWith (o .is-write) (o .id) (event R (o .begun)) (o .begins)
-
-  abbrev Under : Finished R → ℕ → Type 0
-  Under o t = During R (o .is-write) (o .id) (cardBegun o) (o .begun) t (clientAt R (o .id) t) (clientAt R (o .id) t .phase)
 
   module _ (P : Premises R) where
     -- An operation that began at t₀ is under way as long as nothing ends it.
@@ -138,27 +138,37 @@ module _ (R : Run) where
         go k (acts at (finishes timestamp card e x)) = absurd (none-between t k l′ at .not-done timestamp card e)
         go k (acts at (stops e)) = absurd (none-between t k l′ at .not-ended e)
 
-    during : (o : Finished R) (t : ℕ) → o .begun < t → t ≤ o .finished → Under o t
+    during : (o : Finished R) (t : ℕ) → o .begun < t → t ≤ o .finished
+        → During R (o .is-write) (o .id) (cardBegun o) (o .begun) t (clientAt R (o .id) t) (clientAt R (o .id) t .phase)
     during o = stays (o .id) (correct-of o) (o .is-write) (o .begun) (o .begins) (o .not-refused) (o .finished) (o .none-between)
 
-    turn-of : (o : Finished R) (t : ℕ) → Under o t → Turned (o .id) (correct-of o) (o .is-write) (cardBegun o) (o .begun) t
-    turn-of o t x =
-        turned (o .id) (correct-of o) P (o .is-write) (cardBegun o) (begun-card (o .is-write) (o .id) (o .begun) (o .begins) (o .not-refused)) (o .begun) t x
-
-    -- What holds of an operation when it finishes.
-    pub finish : (o : Finished R) → AtDone R (o .is-write) (o .id) (cardBegun o) (o .begun) (suc (o .finished)) (o .timestamp) (o .card)
-    finish o = go (turn-of o (o .finished) (during o (o .finished) (o .after) (omega arith)))
+    -- What holds at the first done after a beginning.
+    first-done : (id : ClientId) (w : Bool) (t₀ : ℕ) (b : Begins R w id (event R t₀)) (a : Accepted R t₀) (end : ℕ) → t₀ < end → ((t : ℕ) → t₀ < t → t < end → At R t (client id) → GoesOn R t)
+        → At R end (client id) → (timestamp : Timestamp) (card : List ℕ) → answerAt R end ≡ accepted (done timestamp card)
+        → AtDone R w id (begunWith w id (event R t₀) b) t₀ (suc end) timestamp card
+    first-done id w t₀ b a end l none-between at timestamp card e = go (turned id c P w begun (begun-card w id t₀ b a) t₀ end (stays id c w t₀ b a end none-between end l (omega arith)))
       where
-        go : Turned (o .id) (correct-of o) (o .is-write) (cardBegun o) (o .begun) (o .finished)
-            → AtDone R (o .is-write) (o .id) (cardBegun o) (o .begun) (suc (o .finished)) (o .timestamp) (o .card)
-        go (waits x silent) = absurd (silent (o .at-client) (done (o .timestamp) (o .card)) (o .is-done))
-        go (acts at (goes-on x not-done)) = absurd (not-done (o .timestamp) (o .card) (o .is-done))
-        go (acts at (finishes timestamp card e x)) =
-            let same-timestamp : timestamp ≡ o .timestamp = cc (o .is-done) in
-            let same-card : card ≡ o .card = cc (o .is-done) in
-            subst (λ (c : List ℕ). AtDone R (o .is-write) (o .id) (cardBegun o) (o .begun) (suc (o .finished)) (o .timestamp) c) same-card
-            (subst (λ (s : Timestamp). AtDone R (o .is-write) (o .id) (cardBegun o) (o .begun) (suc (o .finished)) s card) same-timestamp x)
-        go (acts at (stops e)) = apart (cc (o .is-done))
+        c : R .correct-client id ≡ true
+        c = correct-at id end at
+
+        begun : List ℕ
+        begun = begunWith w id (event R t₀) b
+
+        go : Turned id c w begun t₀ end → AtDone R w id begun t₀ (suc end) timestamp card
+        go (waits x silent) = absurd (silent at (done timestamp card) e)
+        go (acts at (goes-on x not-done)) = absurd (not-done timestamp card e)
+        go (acts at (finishes timestamp′ card′ e′ x)) =
+            let same-timestamp : timestamp′ ≡ timestamp = cc in
+            let same-card : card′ ≡ card = cc in
+            subst (λ (c : List ℕ). AtDone R w id begun t₀ (suc end) timestamp c) same-card (subst (λ (s : Timestamp). AtDone R w id begun t₀ (suc end) s card′) same-timestamp x)
+        go (acts at (stops e′)) = apart (cc)
+
+    -- What holds of an operation when it finishes, and of a view.
+    pub finish : (o : Finished R) → AtDone R (o .is-write) (o .id) (cardBegun o) (o .begun) (suc (o .finished)) (o .timestamp) (o .card)
+    finish o = first-done (o .id) (o .is-write) (o .begun) (o .begins) (o .not-refused) (o .finished) (o .after) (o .none-between) (o .at-client) (o .timestamp) (o .card) (o .is-done)
+
+    pub view : (v : Viewed R) → AtDone R false (v .id) startCard (v .begun) (suc (v .finished)) (v .timestamp) (v .card)
+    view v = first-done (v .id) false (v .begun) (v .begins) (v .not-refused) (v .finished) (v .after) (v .none-between) (v .at-client) (v .timestamp) (v .card) (v .is-done)
 
     -- ---- Timestamps rise
 
@@ -170,14 +180,18 @@ module _ (R : Run) where
     above-write true t₀ s w a = a
     above-write false t₀ s w a = apart (cc)
 
-    settled-before : (o o′ : Finished R) → FinishedBefore R o o′ → Settled R (o′ .begun) (number (o .timestamp))
-    settled-before o o′ l = settled-later R (suc (o .finished)) (o′ .begun) (number (o .timestamp)) l (finish o .settled)
+    pub settled-by : (o : Finished R) (t : ℕ) → o .finished < t → Settled R t (number (o .timestamp))
+    settled-by o t l = settled-later R (suc (o .finished)) t (number (o .timestamp)) l (finish o .settled (o .by-writer))
 
     pub rises : (o o′ : Finished R) → FinishedBefore R o o′ → number (o .timestamp) ≤ number (o′ .timestamp)
-    rises o o′ l = above-all (o′ .is-write) (o′ .begun) (number (o′ .timestamp)) (finish o′ .above) (number (o .timestamp)) (settled-before o o′ l)
+    rises o o′ l = above-all (o′ .is-write) (o′ .begun) (number (o′ .timestamp)) (finish o′ .above) (number (o .timestamp)) (settled-by o (o′ .begun) l)
 
     pub later-write : (o o′ : Finished R) → o′ .is-write ≡ true → FinishedBefore R o o′ → number (o .timestamp) < number (o′ .timestamp)
-    later-write o o′ w l = above-write (o′ .is-write) (o′ .begun) (number (o′ .timestamp)) w (finish o′ .above) (number (o .timestamp)) (settled-before o o′ l)
+    later-write o o′ w l = above-write (o′ .is-write) (o′ .begun) (number (o′ .timestamp)) w (finish o′ .above) (number (o .timestamp)) (settled-by o (o′ .begun) l)
+
+    -- A view is above all that was settled when it began.
+    pub view-after : (o : Finished R) (v : Viewed R) → o .finished < v .begun → number (o .timestamp) ≤ number (v .timestamp)
+    view-after o v l = view v .above (number (o .timestamp)) (settled-by o (v .begun) l)
 
     pub in-order : (o o′ : Finished R) → FinishedBefore R o o′ → Before R o′ o → ⊥
     in-order o o′ l (inl k) = let r = rises o o′ l in omega arith
@@ -197,12 +211,16 @@ module _ (R : Run) where
     same-shown t s card card′ (inr a) (inl b) = let z = b .0 in let p = a .positive in absurd (omega arith)
     same-shown t s card card′ (inr a) (inr b) = P .different-digests card card′ (a .card-in) (b .card-in) (one-backed R (P .few-faulty) t s (sha256 card) (sha256 card′) (a .backed) (b .backed))
 
+    shown-alike : (t t′ s s′ : ℕ) (card card′ : List ℕ) → Shown R t s card → Shown R t′ s′ card′ → s ≡ s′ → card ≡ card′
+    shown-alike t t′ s s′ card card′ a b e =
+        same-shown (t + t′) s card card′ (shown-later R t (t + t′) s card (omega arith) a) (subst (λ (s : ℕ). Shown R (t + t′) s card′) (sym e) (shown-later R t′ (t + t′) s′ card′ (omega arith) b))
+
     pub one-card : (o o′ : Finished R) → number (o .timestamp) ≡ number (o′ .timestamp) → o .card ≡ o′ .card
-    one-card o o′ e =
-        let t = suc (o .finished) + suc (o′ .finished) in
-        same-shown t (number (o .timestamp)) (o .card) (o′ .card)
-        (shown-later R (suc (o .finished)) t (number (o .timestamp)) (o .card) (omega arith) (finish o .is-shown))
-        (subst (λ (s : ℕ). Shown R t s (o′ .card)) (sym e) (shown-later R (suc (o′ .finished)) t (number (o′ .timestamp)) (o′ .card) (omega arith) (finish o′ .is-shown)))
+    one-card o o′ e = shown-alike (suc (o .finished)) (suc (o′ .finished)) _ _ (o .card) (o′ .card) (finish o .is-shown) (finish o′ .is-shown) e
+
+    -- A view at an operation's timestamp shows that operation's card.
+    pub view-card : (o : Finished R) (v : Viewed R) → number (o .timestamp) ≡ number (v .timestamp) → o .card ≡ v .card
+    view-card o v e = shown-alike (suc (o .finished)) (suc (v .finished)) _ _ (o .card) (v .card) (finish o .is-shown) (view v .is-shown) e
 
     -- ---- The order is total
 
@@ -264,8 +282,8 @@ module _ (R : Run) where
       go false false b b′ = (cc, refl)
 
   -- and neither ends before the other,
-  first-done : (o o′ : Finished R) → o .id ≡ o′ .id → o .begun ≡ o′ .begun → o .finished < o′ .finished → ⊥
-  first-done o o′ i e l =
+  earliest : (o o′ : Finished R) → o .id ≡ o′ .id → o .begun ≡ o′ .begun → o .finished < o′ .finished → ⊥
+  earliest o o′ i e l =
       let after = o .after in
       o′ .none-between (o .finished) (omega arith) l (subst (λ (id : ClientId). At R (o .finished) (client id)) i (o .at-client)) .not-done (o .timestamp) (o .card) (o .is-done)
 
@@ -273,7 +291,7 @@ module _ (R : Run) where
   pub same-operation : (o o′ : Finished R) → o .begun ≡ o′ .begun → SameOperation R o o′
   same-operation o o′ e =
       let (same-id, same-kind) = same-begins o o′ e in
-      let ends : o .finished ≡ o′ .finished = three-ways (o .finished) (o′ .finished) (λ l. absurd (first-done o o′ same-id e l)) (λ k. k) (λ l. absurd (first-done o′ o (sym same-id) (sym e) l)) in
+      let ends : o .finished ≡ o′ .finished = three-ways (o .finished) (o′ .finished) (λ l. absurd (earliest o o′ same-id e l)) (λ k. k) (λ l. absurd (earliest o′ o (sym same-id) (sym e) l)) in
       let there : answerAt R (o .finished) ≡ accepted (done (o′ .timestamp) (o′ .card)) = ap (answerAt R) ends ∙ o′ .is-done in
       record { same-id = same-id; same-kind = same-kind; same-end = ends; same-timestamp = cc (o .is-done); same-card = cc (o .is-done) }
 

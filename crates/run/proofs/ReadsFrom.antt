@@ -5,7 +5,7 @@ use mathlib.Core.Bool.{true}
 use mathlib.Core.List.{List}
 use Prim.Native.Nat.{ℕ, suc, _≤_, _<_}
 use native.Mathlib.Omega.{arith}
-use Rattle.base.specs.Party.{isClient}
+use Rattle.base.specs.Party.{isWriter}
 use Rattle.base.specs.Timestamp.{number}
 use Rattle.base.specs.declared.party.ClientId.{ClientId}
 use Rattle.base.specs.declared.party.ReplicaId.{ReplicaId}
@@ -42,8 +42,8 @@ module _ (R : Run) (P : Premises R) where
       let x = replica-step R (one .at) (one .in-r) (said .time) (send (PREPARED (one .at) s d)) (said .by) (said .answered) in
       record { time = said .time; earlier = said .earlier; by = one .at; step = x; sends = cc (x .answer-is, said .answered) }
 
-  backed-client : (t s : ℕ) (d : List ℕ) → Backed R t s d → isClient (clientOf s) ≡ true
-  backed-client t s d b = let x = signed t s d b in x .step .facts .prepared-sent (x .by) s d (x .sends) .1
+  backed-writer : (t s : ℕ) (d : List ℕ) → Backed R t s d → isWriter (clientOf s) ≡ true
+  backed-writer t s d b = let x = signed t s d b in x .step .facts .prepared-sent (x .by) s d (x .sends) .1
 
   -- A timestamp that is backed was prepared by its client, if that is correct.
   backed-write : (t s : ℕ) (d : List ℕ) → R .correct-client (clientOf s) ≡ true → Backed R t s d
@@ -73,12 +73,12 @@ module _ (R : Run) (P : Premises R) where
           let after = w .after in
           (w, own ∙ carried o, at, P .different-digests (w .card) (o .card) (write-in-run R w) (v .card-in) of, omega arith)
 
-  carries-client : (o : Finished R) → 1 ≤ number (o .timestamp) → isClient (o .timestamp .client) ≡ true
-  carries-client o p = go (finish R P o .is-shown)
+  carries-writer : (o : Finished R) → 1 ≤ number (o .timestamp) → isWriter (o .timestamp .client) ≡ true
+  carries-writer o p = go (finish R P o .is-shown)
     where
-      go : Shown R (suc (o .finished)) (number (o .timestamp)) (o .card) → isClient (o .timestamp .client) ≡ true
+      go : Shown R (suc (o .finished)) (number (o .timestamp)) (o .card) → isWriter (o .timestamp .client) ≡ true
       go (inl k) = let z = k .0 in absurd (omega arith)
-      go (inr v) = subst (λ (i : ClientId). isClient i ≡ true) (carried o) (backed-client (suc (o .finished)) (number (o .timestamp)) (sha256 (o .card)) (v .backed))
+      go (inr v) = subst (λ (i : ClientId). isWriter i ≡ true) (carried o) (backed-writer (suc (o .finished)) (number (o .timestamp)) (sha256 (o .card)) (v .backed))
 
   pub reads-from-writes : ReadsFrom R
-  reads-from-writes = record { reads-from = reads-from; writes-own = write-shows R P; starts-from = start-shows R P; carries-client = carries-client }
+  reads-from-writes = record { reads-from = reads-from; writes-own = write-shows R P; starts-from = start-shows R P; carries-writer = carries-writer }

@@ -12,7 +12,7 @@ use lib.Dec.{eqb, leb}
 use lib.ListN.{length, drop, length-append, length-map}
 use Rattle.base.specs.Counting.{count}
 use Rattle.base.specs.Outcome.{accepted, guard}
-use Rattle.base.specs.Party.{replicaCount, quorumSize, isClient}
+use Rattle.base.specs.Party.{replicaCount, quorumSize, isWriter}
 use Rattle.base.specs.Rising.{listed, rising}
 use Rattle.base.specs.declared.party.ClientId.{ClientId}
 use Rattle.base.specs.declared.party.ReplicaId.{ReplicaId}
@@ -61,14 +61,14 @@ has-kept before after s d (inr k) (inr a) = inr (omega arith)
 module _ (R : Run) where
   -- What a step that sent PREPARED left in the slot.
   prepared-step : (id : ReplicaId) (t s : ℕ) (d : List ℕ) (x : ReplicaStep R id t) → answerAt R t ≡ accepted (send (PREPARED id s d))
-      → (isClient (clientOf s) ≡ true) × (slotCount (replicaAt R id (suc t) .register .slots) (clientOf s) ≡ s / 256) × (slotDigest (replicaAt R id (suc t) .register .slots) (clientOf s) ≡ d)
+      → (isWriter (clientOf s) ≡ true) × (slotCount (replicaAt R id (suc t) .register .slots) (clientOf s) ≡ s / 256) × (slotDigest (replicaAt R id (suc t) .register .slots) (clientOf s) ≡ d)
   prepared-step id t s d x a =
       let same : x .reply .message ≡ PREPARED id s d = cc (x .answer-is) in
       let q = x .facts .prepared-sent id s d same in
       rw (x .next-is) (q .1, q .2, q .3)
 
   -- A replica's slot keeps what it sent PREPARED for, or a later timestamp.
-  slots : (id : ReplicaId) → R .correct-replica id ≡ true → (t s : ℕ) (d : List ℕ) → isClient (clientOf s) ≡ true → Said R (replica id) (PREPARED id s d) t → Has (replicaAt R id t .register .slots) s d
+  slots : (id : ReplicaId) → R .correct-replica id ≡ true → (t s : ℕ) (d : List ℕ) → isWriter (clientOf s) ≡ true → Said R (replica id) (PREPARED id s d) t → Has (replicaAt R id t .register .slots) s d
   slots id c zero s d own e = let l = e .earlier in absurd (omega arith)
   slots id c (suc t) s d own e = go (λ k. slots id c t s d own k) (replica-turn R id c t)
     where
@@ -93,7 +93,7 @@ module _ (R : Run) where
         let left = prepared-step id (e′ .time) s d′ x (e′ .answered) in
         go left (slots id c (suc (e′ .time)) s d (left .0) (record { time = e .time; earlier = omega arith; by = e .by; answered = e .answered }))
       where
-        go : (isClient (clientOf s) ≡ true) × (slotCount (replicaAt R id (suc (e′ .time)) .register .slots) (clientOf s) ≡ s / 256) × (slotDigest (replicaAt R id (suc (e′ .time)) .register .slots) (clientOf s) ≡ d′)
+        go : (isWriter (clientOf s) ≡ true) × (slotCount (replicaAt R id (suc (e′ .time)) .register .slots) (clientOf s) ≡ s / 256) × (slotDigest (replicaAt R id (suc (e′ .time)) .register .slots) (clientOf s) ≡ d′)
             → Has (replicaAt R id (suc (e′ .time)) .register .slots) s d → d ≡ d′
         go left (inl k) = sym (k .1) ∙ left .2
         go left (inr k) = let q = left .1 in absurd (omega arith)

@@ -13,7 +13,7 @@ use Rattle.protocol.specs.Client.{Answer, send, waits, done, ended, Turn, curre
 use Rattle.protocol.specs.declared.client.Client.{Client}
 use Rattle.protocol.specs.declared.client.Phase.{Phase}
 use Rattle.protocol.specs.declared.client.Phase.the-variants.{Idle, Stamps, Prepareds, Writtens, Cards, WriteBack}
-use Rattle.protocol.proofs.ClientCases.{Leaves, ClientCase, stamp-counted, stamps-enough, stamps-ended, prepared-counted, prepareds-enough, written-counted, writtens-enough, card-counted, cards-agree, cards-differ, back-counted, back-enough}
+use Rattle.protocol.proofs.ClientCases.{Leaves, ClientCase, stamp-counted, stamps-enough, stamps-ended, prepared-counted, prepareds-enough, written-counted, writtens-enough, card-counted, cards-agree, cards-viewed, cards-differ, back-counted, back-enough}
 
 abbrev pub isStamping : Phase → Bool
 isStamping Idle = false
@@ -83,6 +83,7 @@ module _ (before : Client) (turn : Turn) where
   stage message (writtens-enough sender timestamp counted m at new q l) = finishes timestamp (currentCard before) (ap preparedFor at) (ap isStamping (l .phase-is)) (l .answer-is)
   stage message (card-counted sender nonce card proof best counted showed m at new s c l) = other _ _ _ at refl refl refl l
   stage message (cards-agree sender nonce card proof best counted showed m at new s q a l) = other _ _ _ at refl refl refl l
+  stage message (cards-viewed sender nonce card proof best counted showed m at new s q v l) = other _ _ _ at refl refl refl l
   stage message (cards-differ sender nonce card proof best counted showed shown m at new s q c l) = other _ _ _ at refl refl refl l
   stage message (back-counted sender timestamp counted m at new c l) = other _ _ _ at refl refl refl l
   stage message (back-enough sender timestamp counted m at new q l) = other _ _ _ at refl refl refl l

@@ -1,6 +1,6 @@
 -- What an event does to a party's record: it is kept, or the party steps, with the step's facts. Assumes nothing.
-use mathlib.Core.Path.{_≡_, refl, ap, _∙_}
-use mathlib.Core.Bool.{Bool, true, false}
+use mathlib.Core.Path.{_≡_, refl, sym, ap, subst, _∙_}
+use mathlib.Core.Bool.{Bool, true, false, cond}
 use mathlib.Core.List.{List}
 use mathlib.Core.Option.{Option, none, some}
 use Prim.Native.Nat.{ℕ, zero, suc, _+_, _^_, _≤_, _<_}
@@ -8,8 +8,9 @@ use native.Mathlib.Omega.{arith}
 use borrow.Author.Tests.{eqb-true, eqb-false, eq-eqb}
 use lib.Dec.{eqb}
 use lib.ListN.{getD, replicate, length-replicate}
+use Rattle.base.specs.BigEndian.{Bytes}
 use Rattle.base.specs.Outcome.{Outcome, accepted, refused}
-use Rattle.base.specs.Party.{replicaCount}
+use Rattle.base.specs.Party.{replicaCount, isWriter}
 use Rattle.base.specs.declared.party.ClientId.{ClientId}
 use Rattle.base.specs.declared.party.ReplicaId.{ReplicaId}
 use Rattle.base.proofs.Range.{bounds}
@@ -24,6 +25,7 @@ use Rattle.base.specs.Timestamp.{start}
 use Rattle.protocol.specs.Parts.{startCard}
 use Rattle.protocol.specs.Client.{Answer, send, Turn, freshClient, beginWrite, beginRead, onReply, clientStep}
 use Rattle.protocol.specs.Replica.{Reply, freshRegister, onRequest, replicaStep}
+use Rattle.protocol.specs.Viewer.{onViewerReply, viewerStep}
 use Rattle.protocol.specs.declared.client.Client.{Client}
 use Rattle.protocol.specs.declared.client.Phase.{Phase}
 use Rattle.protocol.specs.declared.client.Phase.the-variants.{Stamps, Cards}
@@ -32,9 +34,9 @@ use Rattle.protocol.proofs.ArrayLaws.{bytes-zeros, zeros-fit}
 use Rattle.protocol.proofs.Fit.{SlotsFit, HeldFits, ReplicaFits, ClientFits}
 use Rattle.protocol.proofs.ReplicaFacts.{ReplicaFacts, replica-facts}
 use Rattle.protocol.proofs.ClientCases.{Begun, PhaseFits, ClientFacts}
-use Rattle.protocol.proofs.ClientFacts.{begins-write as write-begun, begins-read as read-begun, client-facts}
+use Rattle.protocol.proofs.ClientFacts.{begins-write as write-begun, begins-read as read-begun, client-facts, viewer-facts}
 use Rattle.wire.specs.Acceptance.{Sender, replica, client}
-use Rattle.run.specs.Run.{Event, begins-write, begins-read, to-replica, to-client, Run, partyOf, nextReplica, nextClient, replicaAnswer, clientAnswer, event, replicaAt, clientAt, answerTo, answerAt, At}
+use Rattle.run.specs.Run.{Event, begins-write, begins-read, to-replica, to-client, Run, partyOf, nextReplica, nextClient, clientHears, replicaAnswer, clientAnswer, event, replicaAt, clientAt, answerTo, answerAt, At}
 
 -- Two constructors are not equal.
 pub apart : {A : Type 0} → _≡_ {A = ℕ} 0 1 → A
@@ -133,7 +135,7 @@ module _ (R : Run) where
             reply = reply;
             event-is = e;
             decoded = parts .1 .decodes;
-            facts = replica-facts (replicaAt R id t) verdicts (parts .0) reply (good .fits) message-fits (parts .1 .ranged) (parts .1 .passed) (parts .2);
+            facts = replica-facts (replicaAt R id t) verdicts (parts .0) reply (good .fits) message-fits (parts .1 .may-send) (parts .1 .passed) (parts .2);
             next-is = both .0;
             answer-is = both .1;
           })
@@ -183,8 +185,8 @@ module _ (R : Run) where
 
   -- ---- Clients
 
-  pub correct-client-range : (id : ClientId) → R .correct-client id ≡ true → (1 ≤ id .0) × (id .0 ≤ 64)
-  correct-client-range id c = bounds 1 64 (id .0) (R .clients-in-range id c .0)
+  pub correct-client-range : (id : ClientId) → R .correct-client id ≡ true → (1 ≤ id .0) × (id .0 ≤ 96)
+  correct-client-range id c = bounds 1 96 (id .0) (R .clients-in-range id c .0)
 
   pub record GoodClient (id : ClientId) (before : Client) : Type 0 where
     pub f-is : before .f ≡ R .f
@@ -226,7 +228,7 @@ module _ (R : Run) where
     next-is : clientAt R id (suc t) ≡ nextClient (clientAt R id t) out
     answer-is : answerAt R t ≡ clientAnswer out
 
-  client-outcome : (id : ClientId) (t : ℕ) (bytes verdicts : List ℕ) → event R t ≡ some (to-client id bytes verdicts) → Left id t (clientStep (clientAt R id t) bytes verdicts)
+  client-outcome : (id : ClientId) (t : ℕ) (bytes verdicts : List ℕ) → event R t ≡ some (to-client id bytes verdicts) → Left id t (clientHears id (clientAt R id t) bytes verdicts)
   unfolding clientAt answerTo
   client-outcome id t bytes verdicts e = record { next-is = rw (e, eq-eqb (id .0) (id .0) refl); answer-is = rw e }
 
@@ -243,25 +245,44 @@ module _ (R : Run) where
   by-outcome id t (refused n) left next = rested (left .next-is) (λ at answer a. apart (cc (left .answer-is)))
   by-outcome id t (accepted turn) left next = next turn refl (record { next-is = left .next-is; answer-is = left .answer-is })
 
-  client-parts : (before : Client) (bytes verdicts : List ℕ) (turn : Turn) → clientStep before bytes verdicts ≡ accepted turn
-      → (message : Message) × Admitted AtClient (before .f) bytes verdicts message × (onReply before (signature bytes) message ≡ accepted turn)
+  -- What a client takes, at either engine: the message, and the step's facts.
+  abbrev Takes : Client → List ℕ → List ℕ → Turn → Type 0
+  Takes before bytes verdicts turn = (message : Message) × (decode AtClient bytes ≡ accepted message) × ClientFacts before verdicts message turn
+
+  writer-takes : (before : Client) (bytes verdicts : List ℕ) (turn : Turn) → ClientFits before → PhaseFits (before .phase) → Bytes bytes → clientStep before bytes verdicts ≡ accepted turn
+      → Takes before bytes verdicts turn
   unfolding clientStep
-  client-parts before bytes verdicts turn e = admitted-then AtClient (before .f) bytes verdicts (onReply before (signature bytes)) turn e
+  writer-takes before bytes verdicts turn fits phase-fits small e =
+      let parts = admitted-then AtClient (before .f) bytes verdicts (onReply before (signature bytes)) turn e in
+      let a = parts .1 in (
+        parts .0,
+        a .decodes,
+        client-facts before verdicts (signature bytes) (parts .0) turn fits phase-fits (decoded-fits AtClient bytes (parts .0) (a .decodes) small) (decoded-signature AtClient bytes (parts .0) (a .decodes) small) (a .ranged) (a .passed) (parts .2),
+      )
+
+  viewer-takes : (before : Client) (bytes verdicts : List ℕ) (turn : Turn) → ClientFits before → PhaseFits (before .phase) → Bytes bytes → isWriter (before .id) ≡ false
+      → viewerStep before bytes verdicts ≡ accepted turn → Takes before bytes verdicts turn
+  unfolding viewerStep
+  viewer-takes before bytes verdicts turn fits phase-fits small no-writer e =
+      let parts = admitted-then AtClient (before .f) bytes verdicts (onViewerReply before) turn e in
+      let a = parts .1 in (
+        parts .0,
+        a .decodes,
+        viewer-facts before verdicts (parts .0) turn fits phase-fits no-writer (decoded-fits AtClient bytes (parts .0) (a .decodes) small) (a .ranged) (a .passed) (parts .2),
+      )
+
+  client-takes : (id : ClientId) (before : Client) (bytes verdicts : List ℕ) (turn : Turn) → GoodClient id before → Bytes bytes → clientHears id before bytes verdicts ≡ accepted turn
+      → Takes before bytes verdicts turn
+  client-takes id before bytes verdicts turn good small e = go (isWriter id) refl e
+    where
+      go : (w : Bool) → isWriter id ≡ w → cond w (clientStep before bytes verdicts) (viewerStep before bytes verdicts) ≡ accepted turn → Takes before bytes verdicts turn
+      go true q e = writer-takes before bytes verdicts turn (good .fits) (good .phase-fits) small e
+      go false q e = viewer-takes before bytes verdicts turn (good .fits) (good .phase-fits) small (subst (λ (i : ClientId). isWriter i ≡ false) (sym (good .id-is)) q) e
 
   client-here : (id : ClientId) (t : ℕ) (bytes verdicts : List ℕ) → GoodClient id (clientAt R id t) → event R t ≡ some (to-client id bytes verdicts) → ClientTurn id t
-  client-here id t bytes verdicts good e = by-outcome id t (clientStep (clientAt R id t) bytes verdicts) (client-outcome id t bytes verdicts e) (λ turn q step.
-      let parts = client-parts (clientAt R id t) bytes verdicts turn q in
-      let small = R .have-bytes t (to-client id bytes verdicts) e in
-      heard (record {
-        bytes = bytes;
-        verdicts = verdicts;
-        message = parts .0;
-        turn = turn;
-        event-is = e;
-        decoded = parts .1 .decodes;
-        facts = client-facts (clientAt R id t) verdicts (signature bytes) (parts .0) turn (good .fits) (good .phase-fits) (decoded-fits AtClient bytes (parts .0) (parts .1 .decodes) small) (decoded-signature AtClient bytes (parts .0) (parts .1 .decodes) small) (parts .1 .ranged) (parts .1 .passed) (parts .2);
-        step = step;
-      }))
+  client-here id t bytes verdicts good e = by-outcome id t (clientHears id (clientAt R id t) bytes verdicts) (client-outcome id t bytes verdicts e) (λ turn q step.
+      let taken = client-takes id (clientAt R id t) bytes verdicts turn good (R .have-bytes t (to-client id bytes verdicts) e) q in
+      heard (record { bytes = bytes; verdicts = verdicts; message = taken .0; turn = turn; event-is = e; decoded = taken .1; facts = taken .2; step = step }))
 
   -- The event of a client, which is this one or another.
   at-client : (id at : ClientId) (t : ℕ) (e : ClientId → Event) → partyOf (e at) ≡ client at → event R t ≡ some (e at)

@@ -273,7 +273,7 @@ module _ (R : Run) where
               card = card;
               is-done = e;
               is-timestamp = number-is;
-              settled = subst (Settled R (suc t)) number-is (x .settled);
+              settled = subst (Settled R (suc t)) number-is (x .settled (R .writers-begin (w .begun) (w .id) (w .card) (w .begins)));
             })
         go (acts at (stops e)) (still e′ goes) = absurd (goes at .not-ended e)
         go (acts at (stops e)) (done-with at′ timestamp card e′ is) = apart (cc)

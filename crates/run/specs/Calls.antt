@@ -12,7 +12,9 @@ use Rattle.base.specs.declared.party.ClientId.{ClientId}
 use Rattle.base.specs.declared.party.ReplicaId.{ReplicaId}
 use Rattle.protocol.specs.Client.{Answer, send, waits, done, ended, madeClient, ClientCall, beginWriteCall, beginReadCall, clientCall}
 use Rattle.base.specs.Bytes.{filled}
+use Rattle.base.specs.Party.{isWriter}
 use Rattle.protocol.specs.Replica.{madeReplica, ReplicaCall, replicaCall}
+use Rattle.protocol.specs.Viewer.{madeViewer, viewerCall}
 use Rattle.protocol.specs.declared.client.Client.{Client}
 use Rattle.protocol.specs.declared.client.ClientAnswer.{ClientAnswer}
 use Rattle.protocol.specs.declared.client.ClientAnswer.the-variants.{Send, Counted, Done, Ended, Refused}
@@ -54,6 +56,13 @@ givenFor old (accepted (done timestamp card)) = record { answer = Done timestamp
 givenFor old (accepted ended) = withoutCard Ended old
 givenFor old (refused number) = withoutCard (Refused number) old
 
+-- A client's calls by its number: how it is made, and what it makes of a message.
+abbrev pub madeWith : ℕ → ClientId → ℕ → Client
+madeWith f id firstNonce = cond (isWriter id) (madeClient f id firstNonce) (madeViewer f id firstNonce)
+
+abbrev pub hearingCall : ClientId → Client → List ℕ → List ℕ → List ℕ → ClientCall
+hearingCall id before bytes verdicts old = cond (isWriter id) (clientCall before bytes verdicts old) (viewerCall before bytes verdicts old)
+
 -- The record that the call of an event leaves to its party; another party's event leaves it.
 abbrev pub calledAtReplica : ReplicaId → Option Event → List ℕ → Replica → Replica
 calledAtReplica id none old before = before
@@ -67,7 +76,7 @@ calledAtClient id none old before = before
 calledAtClient id (some (begins-write at card)) old before = cond (eqb (at .0) (id .0)) (beginWriteCall before card old .client) before
 calledAtClient id (some (begins-read at)) old before = cond (eqb (at .0) (id .0)) (beginReadCall before old .client) before
 calledAtClient id (some (to-replica at bytes verdicts)) old before = before
-calledAtClient id (some (to-client at bytes verdicts)) old before = cond (eqb (at .0) (id .0)) (clientCall before bytes verdicts old .client) before
+calledAtClient id (some (to-client at bytes verdicts)) old before = cond (eqb (at .0) (id .0)) (hearingCall at before bytes verdicts old .client) before
 
 -- `output t` is what the output that is lent to event t's call holds before it.
 module _ (R : Run) (output : ℕ → List ℕ) where
@@ -77,7 +86,7 @@ module _ (R : Run) (output : ℕ → List ℕ) where
   calledReplica id (suc t) = calledAtReplica id (event R t) (output t) (calledReplica id t)
 
   unfoldable pub calledClient : ClientId → ℕ → Client
-  calledClient id zero = madeClient (R .f) id (R .first-nonce id)
+  calledClient id zero = madeWith (R .f) id (R .first-nonce id)
   calledClient id (suc t) = calledAtClient id (event R t) (output t) (calledClient id t)
 
   -- What the call of an event at time t gives back.
@@ -85,7 +94,7 @@ module _ (R : Run) (output : ℕ → List ℕ) where
   givenAt t (begins-write id card) = givenByClient (beginWriteCall (calledClient id t) card (output t))
   givenAt t (begins-read id) = givenByClient (beginReadCall (calledClient id t) (output t))
   givenAt t (to-replica id bytes verdicts) = givenByReplica (replicaCall (calledReplica id t) bytes verdicts (output t))
-  givenAt t (to-client id bytes verdicts) = givenByClient (clientCall (calledClient id t) bytes verdicts (output t))
+  givenAt t (to-client id bytes verdicts) = givenByClient (hearingCall id (calledClient id t) bytes verdicts (output t))
 
   pub record CallsAreRun : Type 0 where
     -- "Each is set up once, before the first event, with the run's f and its own number" .. "Its party gets the record that its

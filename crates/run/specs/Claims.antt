@@ -1,13 +1,14 @@
--- The claims of demand 3: genuine prepared proofs, finished operations, and their order.
+-- The claims of demand 3: genuine prepared proofs, finished operations, and their order; and views beside them.
 use mathlib.Core.Path.{_≡_}
 use mathlib.Core.Logic.{_⊎_}
 use mathlib.Core.Bool.{Bool, true, false}
 use mathlib.Core.List.{List}
 use mathlib.Core.Option.{Option, some}
-use Prim.Native.Nat.{ℕ, _<_}
+use Prim.Native.Nat.{ℕ, _<_, _≤_}
 use lib.ListN.{length}
 use Rattle.base.specs.BigEndian.{Bytes}
 use Rattle.base.specs.Outcome.{accepted}
+use Rattle.base.specs.Party.{isWriter, isViewer}
 use Rattle.base.specs.Timestamp.{number}
 use Rattle.base.specs.declared.party.ClientId.{ClientId}
 use Rattle.base.specs.declared.timestamp.Timestamp.{Timestamp}
@@ -48,12 +49,29 @@ module _ (R : Run) where
   -- "It is finished by its desk's first done after that, if no ended comes between; its stamp and card are those of that done."
   pub record Finished : Type 0 where
     pub id : ClientId
+    -- Reads of viewing clients "are left out of the ordering of reads and writes".
+    pub by-writer : isWriter id ≡ true
     pub is-write : Bool
     pub begun : ℕ
     pub finished : ℕ
     pub timestamp : Timestamp
     pub card : List ℕ
     pub begins : Begins is-write id (event R begun)
+    pub not-refused : Accepted R begun
+    pub after : begun < finished
+    pub at-client : At R finished (client id)
+    pub is-done : answerAt R finished ≡ accepted (done timestamp card)
+    pub none-between : (t : ℕ) → begun < t → t < finished → At R t (client id) → GoesOn t
+
+  -- A view (document 02, #101): a viewing client's, from its READ to the client's first done after that.
+  pub record Viewed : Type 0 where
+    pub id : ClientId
+    pub by-viewer : isViewer id ≡ true
+    pub begun : ℕ
+    pub finished : ℕ
+    pub timestamp : Timestamp
+    pub card : List ℕ
+    pub begins : event R begun ≡ some (begins-read id)
     pub not-refused : Accepted R begun
     pub after : begun < finished
     pub at-client : At R finished (client id)
@@ -99,3 +117,5 @@ module _ (R : Run) where
     pub in-order : (o o′ : Finished) → FinishedBefore o o′ → Before o′ o → ⊥
     -- "a write begun after another finished has a later stamp"
     pub later-write : (o o′ : Finished) → o′ .is-write ≡ true → FinishedBefore o o′ → number (o .timestamp) < number (o′ .timestamp)
+    -- "a screen that begins after a write or an ordinary read has finished never shows an earlier stamp than that one"
+    pub view-after : (o : Finished) (v : Viewed) → o .finished < v .begun → number (o .timestamp) ≤ number (v .timestamp)

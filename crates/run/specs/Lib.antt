@@ -5,3 +5,4 @@ pub mod Prefix
 pub mod Premises
 pub mod ReadsFrom
 pub mod Run
+pub mod Views

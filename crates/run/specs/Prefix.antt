@@ -5,7 +5,7 @@ use mathlib.Core.Option.{some}
 use Prim.Native.Nat.{ℕ, zero, suc}
 use native.Mathlib.Omega.{arith}
 use lib.ListN.{take, getElem?}
-use Rattle.run.specs.Run.{Run}
+use Rattle.run.specs.Run.{begins-write, Run}
 
 -- What stands among the first elements stands in the list.
 pub in-prefix : {A : Type 0} (n : ℕ) (xs : List A) (t : ℕ) (x : A) → getElem? (take n xs) t ≡ some x → getElem? xs t ≡ some x
@@ -26,6 +26,7 @@ prefix R n =
       f-in-range = R .f-in-range;
       replicas-in-range = R .replicas-in-range;
       clients-in-range = R .clients-in-range;
+      writers-begin = λ t id card q. R .writers-begin t id card (in-prefix n (R .events) t (begins-write id card) q);
       have-bytes = λ t e q. R .have-bytes t e (in-prefix n (R .events) t e q);
       at-correct = λ t e q. R .at-correct t e (in-prefix n (R .events) t e q);
     }

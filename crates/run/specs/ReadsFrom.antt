@@ -5,7 +5,7 @@ use mathlib.Core.List.{List}
 use mathlib.Core.Option.{Option, some}
 use Prim.Native.Nat.{ℕ, _<_, _≤_}
 use Rattle.base.specs.Outcome.{accepted}
-use Rattle.base.specs.Party.{isClient}
+use Rattle.base.specs.Party.{isWriter}
 use Rattle.base.specs.Timestamp.{number}
 use Rattle.base.specs.declared.party.ClientId.{ClientId}
 use Rattle.wire.specs.Acceptance.{client}
@@ -46,6 +46,6 @@ module _ (R : Run) where
         → (w : Write) × (w .id ≡ o .timestamp .client) × (w .timestamp ≡ number (o .timestamp)) × (w .card ≡ o .card) × (w .begun < o .finished)
     -- A finished write shows the card that it was begun with, and its timestamp carries its client.
     pub writes-own : (o : Finished R) (card : List ℕ) → event R (o .begun) ≡ some (begins-write (o .id) card) → (o .card ≡ card) × (o .timestamp .client ≡ o .id)
-    -- A timestamp is 0.0, with the starting card, or carries a client.
+    -- A timestamp is 0.0, with the starting card, or carries a writer.
     pub starts-from : (o : Finished R) → number (o .timestamp) ≡ 0 → o .card ≡ startCard
-    pub carries-client : (o : Finished R) → 1 ≤ number (o .timestamp) → isClient (o .timestamp .client) ≡ true
+    pub carries-writer : (o : Finished R) → 1 ≤ number (o .timestamp) → isWriter (o .timestamp .client) ≡ true

@@ -1,4 +1,5 @@
--- Document 01, "Runs": events at correct parties (rule-followers), their records, and what was sent earlier.
+-- Document 01, "Runs": events at correct parties (rule-followers), their records, and what was sent earlier. Viewing clients (document
+-- 02, #101) are clients here: a client's number decides which engine its events are at.
 use mathlib.Core.Path.{_≡_}
 use mathlib.Core.Bool.{Bool, true, cond}
 use mathlib.Core.List.{List}
@@ -8,11 +9,12 @@ use lib.Dec.{eqb}
 use lib.ListN.{getElem?}
 use Rattle.base.specs.BigEndian.{Bytes}
 use Rattle.base.specs.Outcome.{Outcome, accepted, refused}
-use Rattle.base.specs.Party.{isFaultBound, isReplica, isClient}
+use Rattle.base.specs.Party.{isFaultBound, isReplica, isClient, isWriter}
 use Rattle.base.specs.declared.party.ClientId.{ClientId}
 use Rattle.base.specs.declared.party.ReplicaId.{ReplicaId}
 use Rattle.protocol.specs.Client.{Answer, send, Turn, freshClient, beginWrite, beginRead, clientStep}
 use Rattle.protocol.specs.Replica.{Reply, freshReplica, replicaStep}
+use Rattle.protocol.specs.Viewer.{viewerStep}
 use Rattle.protocol.specs.declared.client.Client.{Client}
 use Rattle.protocol.specs.declared.replica.Replica.{Replica}
 use Rattle.wire.specs.Acceptance.{Sender, replica, client}
@@ -55,6 +57,8 @@ pub record Run : Type 0 where
   pub f-in-range : isFaultBound f ≡ true
   pub replicas-in-range : (id : ReplicaId) → correct-replica id ≡ true → isReplica f id ≡ true
   pub clients-in-range : (id : ClientId) → correct-client id ≡ true → (isClient id ≡ true) × (1 ≤ first-nonce id) × (first-nonce id < 2 ^ 64)
+  -- A viewing client has no write to begin.
+  pub writers-begin : (t : ℕ) (id : ClientId) (card : List ℕ) → getElem? events t ≡ some (begins-write id card) → isWriter id ≡ true
   pub have-bytes : (t : ℕ) (e : Event) → getElem? events t ≡ some e → HasBytes e
   pub at-correct : (t : ℕ) (e : Event) → getElem? events t ≡ some e → CorrectIn correct-replica correct-client (partyOf e)
 
@@ -66,6 +70,10 @@ nextReplica before (refused number) = before
 abbrev pub nextClient : Client → Outcome Turn → Client
 nextClient before (accepted turn) = turn .next
 nextClient before (refused number) = before
+
+-- What a client makes of a message: "viewing desks, with an engine of their own".
+abbrev pub clientHears : ClientId → Client → List ℕ → List ℕ → Outcome Turn
+clientHears id before bytes verdicts = cond (isWriter id) (clientStep before bytes verdicts) (viewerStep before bytes verdicts)
 
 -- "Its party gets the record that its own last event left"; another party's event leaves it.
 abbrev pub afterAtReplica : ReplicaId → Option Event → Replica → Replica
@@ -80,7 +88,7 @@ afterAtClient id none before = before
 afterAtClient id (some (begins-write at card)) before = cond (eqb (at .0) (id .0)) (nextClient before (beginWrite before card)) before
 afterAtClient id (some (begins-read at)) before = cond (eqb (at .0) (id .0)) (nextClient before (beginRead before)) before
 afterAtClient id (some (to-replica at bytes verdicts)) before = before
-afterAtClient id (some (to-client at bytes verdicts)) before = cond (eqb (at .0) (id .0)) (nextClient before (clientStep before bytes verdicts)) before
+afterAtClient id (some (to-client at bytes verdicts)) before = cond (eqb (at .0) (id .0)) (nextClient before (clientHears at before bytes verdicts)) before
 
 -- The answer of a step alone; a replica's answer is a message to send.
 abbrev pub replicaAnswer : Outcome Reply → Outcome Answer
@@ -111,7 +119,7 @@ module _ (R : Run) where
   answerTo t (some (begins-write id card)) = clientAnswer (beginWrite (clientAt id t) card)
   answerTo t (some (begins-read id)) = clientAnswer (beginRead (clientAt id t))
   answerTo t (some (to-replica id bytes verdicts)) = replicaAnswer (replicaStep (replicaAt id t) bytes verdicts)
-  answerTo t (some (to-client id bytes verdicts)) = clientAnswer (clientStep (clientAt id t) bytes verdicts)
+  answerTo t (some (to-client id bytes verdicts)) = clientAnswer (clientHears id (clientAt id t) bytes verdicts)
 
   abbrev pub answerAt : ℕ → Outcome Answer
   answerAt t = answerTo t (event t)

@@ -1,0 +1,12 @@
+-- What a view shows, beside `view-after`: the order of operations leaves views out, but they show no card of their own.
+use mathlib.Core.Path.{_≡_}
+use Rattle.base.specs.Timestamp.{number}
+use Rattle.protocol.specs.Parts.{startCard}
+use Rattle.run.specs.Claims.{Finished, Viewed}
+use Rattle.run.specs.Run.{Run}
+
+pub record Views (R : Run) : Type 0 where
+  -- A view at an operation's timestamp shows that operation's card.
+  pub same-card : (o : Finished R) (v : Viewed R) → number (o .timestamp) ≡ number (v .timestamp) → o .card ≡ v .card
+  -- A view at 0.0 shows the starting card.
+  pub start-card : (v : Viewed R) → number (v .timestamp) ≡ 0 → v .card ≡ startCard
