@@ -15,10 +15,14 @@ use Rattle.wire.specs.Writing.{unsigned}
 use Rattle.protocol.specs.Client.{send, Turn, turn, ClientCall, clientAnswers, Said, clientOutcome, stepOutcome, mayBegin, beginning, beginWrite, beginRead, clientStep, beginWriteCall, beginReadCall, clientCall}
 use Rattle.protocol.specs.Parts.{startCard}
 use Rattle.protocol.specs.Replica.{withOutput}
+use Rattle.protocol.specs.Viewer.{viewerStep, viewerCall}
 use Rattle.protocol.specs.declared.client.Client.{Client}
 use Rattle.protocol.specs.declared.client.ClientAnswer.the-variants.{Refused}
 use Rattle.protocol.specs.declared.client.Phase.the-variants.{Stamps, Cards}
 use Rattle.protocol.proofs.Calls.{long-output, short-output}
+use Rattle.client.specs.Aims.{hears, hearing}
+use Rattle.client.specs.declared.read.Aim.{Aim}
+use Rattle.client.specs.declared.read.Aim.the-variants.{Read, View}
 use Rattle.client.specs.Leaving.{callOf, plain}
 use Rattle.client.specs.Stepping.{Calls}
 use Rattle.client.specs.declared.Stepped.{Stepped}
@@ -56,10 +60,11 @@ module _ (client : Client) (old : List ℕ) (stepped : Stepped) (new : List ℕ)
   unfolding beginReadCall
   read-calls e = calls (withOutput old (beginRead client)) (short-read client old) e
 
-  pub step-calls : (bytes verdicts : List ℕ) → callOf stepped new ≡ clientAnswers client old (withOutput old (clientStep client bytes verdicts))
-      → Calls (clientCall client bytes verdicts old) (withOutput old (clientStep client bytes verdicts)) stepped new
-  unfolding clientCall
-  step-calls bytes verdicts e = calls (withOutput old (clientStep client bytes verdicts)) (short-step client old bytes verdicts) e
+  pub step-calls : (aim : Aim) (bytes verdicts : List ℕ) → callOf stepped new ≡ clientAnswers client old (withOutput old (hears aim client bytes verdicts))
+      → Calls (hearing aim client bytes verdicts old) (withOutput old (hears aim client bytes verdicts)) stepped new
+  unfolding clientCall viewerCall
+  step-calls Read bytes verdicts e = calls (withOutput old (clientStep client bytes verdicts)) (short-step client old Read bytes verdicts) e
+  step-calls View bytes verdicts e = calls (withOutput old (viewerStep client bytes verdicts)) (short-step client old View bytes verdicts) e
 
   -- An output that is long enough.
   pub behind-output : (step after : Outcome Turn) → longest ≤ length old → step ≡ after → callOf stepped new ≡ clientAnswers client old after → callOf stepped new ≡ clientAnswers client old (withOutput old step)

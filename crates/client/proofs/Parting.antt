@@ -27,7 +27,11 @@ use Rattle.wire.proofs.Handed.{handed-stamp, handed-prepared, handed-written, h
 use Rattle.wire.proofs.card.Digests.{card-short}
 use Rattle.protocol.specs.Client.{onStamp, onPrepared, onWritten, onCard, onReply, clientStep}
 use Rattle.protocol.specs.Parts.{cardStands, startCard}
+use Rattle.protocol.specs.Viewer.{onViewerReply, viewerStep}
 use Rattle.protocol.specs.declared.client.Client.{Client}
+use Rattle.client.specs.Aims.{afterCards, hears}
+use Rattle.client.specs.declared.read.Aim.{Aim}
+use Rattle.client.specs.declared.read.Aim.the-variants.{Read, View}
 use Rattle.client.specs.Messages.{afterTests, Passing}
 
 -- A card that passes 14 has at most 17 bytes.
@@ -36,40 +40,55 @@ standing-short card none e = rw (same-equal card startCard e) (omega arith)
 standing-short card (some proof) e = card-short card (and-true-both (isCard card) (same (sha256 card) (proof .digest)) e .0)
 
 -- The step is what follows for the message that was let through.
-pub passed-step : (client : Client) (bytes verdicts : List ℕ) (fields : Fields) → acceptance AtClient (client .f) bytes verdicts ≡ accepted fields → clientStep client bytes verdicts ≡ afterTests client bytes
-unfolding afterTests clientStep
-passed-step client bytes verdicts fields e =
+pub passed-step : (aim : Aim) (client : Client) (bytes verdicts : List ℕ) (fields : Fields) → acceptance AtClient (client .f) bytes verdicts ≡ accepted fields
+    → hears aim client bytes verdicts ≡ afterTests aim client bytes
+unfolding afterTests clientStep viewerStep
+passed-step Read client bytes verdicts fields e =
+    let found = acceptance-accepted AtClient (client .f) bytes verdicts fields e in
+    rw (admitted-passed AtClient (client .f) bytes verdicts (found .0) (found .1) .decodes, found .1)
+passed-step View client bytes verdicts fields e =
     let found = acceptance-accepted AtClient (client .f) bytes verdicts fields e in
     rw (admitted-passed AtClient (client .f) bytes verdicts (found .0) (found .1) .decodes, found .1)
 
-pub step-refused : (client : Client) (bytes verdicts : List ℕ) (n : ℕ) → acceptance AtClient (client .f) bytes verdicts ≡ refused n → clientStep client bytes verdicts ≡ refused n
-unfolding clientStep
-step-refused client bytes verdicts n e = rw (acceptance-refused AtClient (client .f) bytes verdicts n e)
+pub step-refused : (aim : Aim) (client : Client) (bytes verdicts : List ℕ) (n : ℕ) → acceptance AtClient (client .f) bytes verdicts ≡ refused n → hears aim client bytes verdicts ≡ refused n
+unfolding clientStep viewerStep
+step-refused Read client bytes verdicts n e = rw (acceptance-refused AtClient (client .f) bytes verdicts n e)
+step-refused View client bytes verdicts n e = rw (acceptance-refused AtClient (client .f) bytes verdicts n e)
 
 module _ (client : Client) (bytes : List ℕ) (fields : Fields) (p : Passing (client .f) bytes fields) where
-  pub stamp-step : fields .kind ≡ 5 → afterTests client bytes ≡ onStamp client (replica (fields .sender)) (fields .nonce) (preparedPart (partAt bytes (fields .prepared))) (fields .addressed) (client .phase)
+  pub stamp-step : fields .kind ≡ 5 → afterTests Read client bytes ≡ onStamp client (replica (fields .sender)) (fields .nonce) (preparedPart (partAt bytes (fields .prepared))) (fields .addressed) (client .phase)
   unfolding afterTests onReply
   stamp-step k = rw (handed-stamp (client .f) bytes (p .verdicts) fields (p .passes) k .decodes)
 
   pub prepared-step : fields .kind ≡ 6
-      → afterTests client bytes ≡ onPrepared client (replica (fields .sender)) (number (fields .timestamp)) (partAt bytes (fields .digest)) (partAt bytes (fields .signature)) (client .phase)
+      → afterTests Read client bytes ≡ onPrepared client (replica (fields .sender)) (number (fields .timestamp)) (partAt bytes (fields .digest)) (partAt bytes (fields .signature)) (client .phase)
   unfolding afterTests onReply
   prepared-step k =
       rw (handed-prepared (client .f) bytes (p .verdicts) fields (p .passes) k .decodes)
       (ap (λ (own : List ℕ). onPrepared client (replica (fields .sender)) (number (fields .timestamp)) (partAt bytes (fields .digest)) own (client .phase)) (sym (signature-is AtClient (client .f) bytes (p .verdicts) fields (p .passes))))
 
-  pub written-step : fields .kind ≡ 7 → afterTests client bytes ≡ onWritten client (replica (fields .sender)) (number (fields .timestamp)) (partAt bytes (fields .signature)) (client .phase)
+  pub written-step : fields .kind ≡ 7 → afterTests Read client bytes ≡ onWritten client (replica (fields .sender)) (number (fields .timestamp)) (partAt bytes (fields .signature)) (client .phase)
   unfolding afterTests onReply
   written-step k =
       rw (handed-written (client .f) bytes (p .verdicts) fields (p .passes) k .decodes)
       (ap (λ (own : List ℕ). onWritten client (replica (fields .sender)) (number (fields .timestamp)) own (client .phase)) (sym (signature-is AtClient (client .f) bytes (p .verdicts) fields (p .passes))))
 
-  pub card-step : fields .kind ≡ 8
-      → afterTests client bytes
+  pub card-step : (aim : Aim) → fields .kind ≡ 8
+      → afterTests aim client bytes
       ≡ guard 14 (cardStands (cardAt bytes (fields .card)) (preparedPart (partAt bytes (fields .prepared))))
-      (onCard client (replica (fields .sender)) (fields .nonce) (cardAt bytes (fields .card)) (preparedPart (partAt bytes (fields .prepared))) (fields .addressed) (client .phase))
-  unfolding afterTests onReply
-  card-step k = rw (handed-card (client .f) bytes (p .verdicts) fields (p .passes) k .decodes)
+      (onCard (afterCards aim) client (replica (fields .sender)) (fields .nonce) (cardAt bytes (fields .card)) (preparedPart (partAt bytes (fields .prepared))) (fields .addressed) (client .phase))
+  unfolding afterTests onReply onViewerReply
+  card-step Read k = rw (handed-card (client .f) bytes (p .verdicts) fields (p .passes) k .decodes)
+  card-step View k = rw (handed-card (client .f) bytes (p .verdicts) fields (p .passes) k .decodes)
+
+  -- A view awaits no other kind.
+  pub no-view : (fields .kind ≡ 8 → ⊥) → afterTests View client bytes ≡ refused 18
+  unfolding afterTests onViewerReply
+  no-view other =
+      ⊎-elim (λ k. rw (handed-stamp (client .f) bytes (p .verdicts) fields (p .passes) k .decodes))
+      (⊎-elim (λ k. rw (handed-prepared (client .f) bytes (p .verdicts) fields (p .passes) k .decodes))
+      (⊎-elim (λ k. rw (handed-written (client .f) bytes (p .verdicts) fields (p .passes) k .decodes)) (λ k. absurd (other k))))
+      (reply-kind (client .f) bytes (p .verdicts) fields (p .passes))
 
   pub proof-there : WholeIfThere (partAt bytes (fields .prepared))
   proof-there = proof-whole AtClient (client .f) bytes (p .verdicts) fields (p .passes)

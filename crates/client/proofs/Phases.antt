@@ -19,7 +19,7 @@ use Rattle.base.specs.declared.replica_set.ReplicaSet.{ReplicaSet}
 use Rattle.base.specs.declared.timestamp.Timestamp.{Timestamp}
 use Rattle.base.proofs.Outcome.{guard-passes, guard-refuses}
 use Rattle.wire.specs.Proof.{PreparedProof}
-use Rattle.protocol.specs.Client.{isNew, bestOf, keepBetter, withSignature, withSignatures, showedBy, keepBetterCard, onStamp, afterStamp, onPrepared, afterPrepared, onWritten, afterWritten, afterWriteBack, onCard, afterCard}
+use Rattle.protocol.specs.Client.{isNew, bestOf, keepBetter, withSignature, withSignatures, showedBy, keepBetterCard, onStamp, afterStamp, onPrepared, afterPrepared, onWritten, afterWritten, afterWriteBack, AfterCards, countCard, onCard}
 use Rattle.protocol.specs.declared.client.Client.{Client}
 use Rattle.protocol.specs.declared.client.Phase.{Phase}
 use Rattle.protocol.specs.declared.client.Phase.the-variants.{Idle, Stamps, Prepareds, Writtens, Cards, WriteBack}
@@ -49,8 +49,8 @@ module _ (client : Client) (sender : ReplicaId) (nonce : ℕ) (proof : Option Pr
     unfolding onStamp
     stamp-taken h = ap (onStamp client sender nonce proof addressed) e ∙ guard-passes 18 _ _ h
 
-module _ (client : Client) (sender : ReplicaId) (nonce : ℕ) (card : List ℕ) (proof : Option PreparedProof) (addressed : ClientId) where
-  pub no-cards : (phase : Phase) → OneOf (0 ∷ 1 ∷ 2 ∷ 3 ∷ 5 ∷ []) (tagOf the-type phase) → onCard client sender nonce card proof addressed phase ≡ refused 18
+module _ (next : AfterCards) (client : Client) (sender : ReplicaId) (nonce : ℕ) (card : List ℕ) (proof : Option PreparedProof) (addressed : ClientId) where
+  pub no-cards : (phase : Phase) → OneOf (0 ∷ 1 ∷ 2 ∷ 3 ∷ 5 ∷ []) (tagOf the-type phase) → onCard next client sender nonce card proof addressed phase ≡ refused 18
   unfolding onCard
   no-cards Idle k = refl
   no-cards (Stamps asked best counted) k = refl
@@ -60,15 +60,15 @@ module _ (client : Client) (sender : ReplicaId) (nonce : ℕ) (card : List ℕ) 
   no-cards (WriteBack timestamp counted) k = refl
 
   module _ (phase : Phase) (asked : ℕ) (best : Timestamp) (counted showed : ReplicaSet) (e : phase ≡ Cards asked best counted showed) where
-    pub card-refused : (eqb nonce asked && (eqb (addressed .0) (client .id .0) && isNew counted sender)) ≡ false → onCard client sender nonce card proof addressed phase ≡ refused 18
+    pub card-refused : (eqb nonce asked && (eqb (addressed .0) (client .id .0) && isNew counted sender)) ≡ false → onCard next client sender nonce card proof addressed phase ≡ refused 18
     unfolding onCard
-    card-refused h = ap (onCard client sender nonce card proof addressed) e ∙ guard-refuses 18 _ _ h
+    card-refused h = ap (onCard next client sender nonce card proof addressed) e ∙ guard-refuses 18 _ _ h
 
     pub card-taken : (eqb nonce asked && (eqb (addressed .0) (client .id .0) && isNew counted sender)) ≡ true
-        → onCard client sender nonce card proof addressed phase
-        ≡ afterCard asked (bestOf best proof) (with counted sender) (showedBy best proof sender showed) (keepBetterCard best card proof client)
+        → onCard next client sender nonce card proof addressed phase
+        ≡ countCard next asked (bestOf best proof) (with counted sender) (showedBy best proof sender showed) (keepBetterCard best card proof client)
     unfolding onCard
-    card-taken h = ap (onCard client sender nonce card proof addressed) e ∙ guard-passes 18 _ _ h
+    card-taken h = ap (onCard next client sender nonce card proof addressed) e ∙ guard-passes 18 _ _ h
 
 module _ (client : Client) (sender : ReplicaId) (timestamp : ℕ) (digest signature : List ℕ) where
   pub no-prepareds : (phase : Phase) → OneOf (0 ∷ 1 ∷ 3 ∷ 4 ∷ 5 ∷ []) (tagOf the-type phase) → onPrepared client sender timestamp digest signature phase ≡ refused 18

@@ -1,4 +1,6 @@
+pub mod Aims
 pub mod Arrays
 pub mod Leaving
 pub mod Messages
 pub mod Stepping
+pub mod Viewing

@@ -1,4 +1,4 @@
-// The client engine: beginnings of writes and reads, and what a client makes of a message.
+// The client engine: beginnings of writes and reads, and what a client makes of a message. Viewing clients have `viewer`.
 mod answers;
 mod begin;
 mod messages;
@@ -6,6 +6,7 @@ mod read;
 mod record;
 mod replies;
 mod signatures;
+pub mod viewer;
 mod write;
 mod written;
 
@@ -19,18 +20,18 @@ use base::timestamp::Timestamp;
 use protocol::client::Client;
 use protocol::client::ClientAnswer;
 use protocol::client::Phase;
+use read::Aim;
 use wire::card::CardCheck;
 use wire::layout::CARD_ROOM;
 use wire::layout::DIGEST;
 use wire::layout::ENTRIES_ROOM;
 use wire::layout::LONGEST_MESSAGE;
 use wire::layout::SIGNATURES_ROOM;
-use wire::message::Party;
-use wire::message::Reading;
 ghost use mathlib.Core.Path.{_≡_};
-ghost use Rattle.protocol.specs.Client.{idleClient, beginWrite, beginRead, clientStep, beginWriteCall, beginReadCall, clientCall};
+ghost use Rattle.base.specs.Party.{setupOutcome};
+ghost use Rattle.protocol.specs.Client.{idleClient, freshClient, clientIfSetUp, beginWrite, beginRead, clientStep, beginWriteCall, beginReadCall, clientCall};
 ghost use Rattle.protocol.specs.Replica.{withOutput};
-ghost use Rattle.client.specs.Stepping.{Made, Calls};
+ghost use Rattle.client.specs.Stepping.{NonceIfGood, Made, Calls};
 
 // A client that is set up; a record of no client where it is refused.
 pub struct NewClient {
@@ -67,19 +68,25 @@ fn idle(f: u8, id: ClientId, last_nonce: u64) -> Client
     }
 }
 
+// The record before the first operation, or that of no client, by a set-up for this nonce.
+fn set_up(setup: Setup, f: u8, id: ClientId, first_nonce: u64) -> Client
+    requires { ⌜ NonceIfGood setup «first_nonce» ⌝ }
+    ensures { λ r. ⌜ r ≡ clientIfSetUp (setupOutcome setup) (freshClient f id «first_nonce») ⌝ }
+{
+    match setup {
+        Setup::Good => idle(f, id, first_nonce - 1),
+        Setup::Refused(_) => idle(0, ClientId(0), 0),
+    }
+}
+
 // A client before its first operation, or refusal 16.
 pub fn fresh(f: u8, id: ClientId, first_nonce: u64) -> NewClient
     ensures { λ r. ⌜ Made f id «first_nonce» r ⌝ }
 {
-    match base::party::client_setup(f, id, first_nonce) {
-        Setup::Good => NewClient {
-            setup: Setup::Good,
-            client: idle(f, id, first_nonce - 1),
-        },
-        Setup::Refused(number) => NewClient {
-            setup: Setup::Refused(number),
-            client: idle(0, ClientId(0), 0),
-        },
+    let setup = base::party::client_setup(f, id, first_nonce);
+    NewClient {
+        setup: setup,
+        client: set_up(setup, f, id, first_nonce),
     }
 }
 
@@ -117,11 +124,5 @@ pub fn step(client: Client, message: &[u8], verdicts: &[u8], out: &mut [u8]) -> 
     ensures { λ r. ⌜ Calls (clientCall client (now (message .entry)) (now (verdicts .entry)) (now (out .entry)))
         (withOutput (now (out .entry)) (clientStep client (now (message .entry)) (now (verdicts .entry)))) r (now (out .exit)) ⌝ }
 {
-    if out.len() < LONGEST_MESSAGE {
-        return refused(OUTPUT_TOO_SHORT, client);
-    }
-    match wire::acceptance::accept(Party::Client, client.f, message, verdicts) {
-        Reading::Message(fields) => messages::take(client, message, fields, out),
-        Reading::Refused(number) => refused(number, client),
-    }
+    messages::hear(client, message, verdicts, Aim::Read, out)
 }

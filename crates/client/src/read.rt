@@ -1,4 +1,4 @@
-// A read's replies: CARDs, and the WRITTENs that end a write-back.
+// The replies to READ: CARDs of a read or a view, and the WRITTENs that end a write-back.
 use crate::Stepped;
 use crate::answers::done;
 use crate::answers::plain;
@@ -22,8 +22,15 @@ ghost use Prim.Native.Nat.{_≤_};
 ghost use lib.ListN.{length};
 ghost use Rattle.wire.specs.Message.{longest, WRITE};
 ghost use Rattle.wire.specs.Parts.{preparedPart, WholeIfThere};
-ghost use Rattle.protocol.specs.Client.{clientAnswers, currentCard, bestProof, withPhase, turn, send, afterCard, onCard, afterWriteBack};
+ghost use Rattle.protocol.specs.Client.{clientAnswers, currentCard, bestProof, withPhase, turn, send, afterCard, countCard, onCard, afterWriteBack};
+ghost use Rattle.client.specs.Aims.{afterCards};
 ghost use Rattle.client.specs.Leaving.{callOf, Takes, TakesAny};
+
+// What CARDs are gathered for.
+pub enum Aim {
+    Read,
+    View,
+}
 
 // WRITE the best card with its proof; the replicas that showed it count.
 fn write_back(client: Client, best: Timestamp, showed: ReplicaSet, out: &mut [u8]) -> Stepped
@@ -49,26 +56,38 @@ fn write_back(client: Client, best: Timestamp, showed: ReplicaSet, out: &mut [u8
     sent(encoded, with_phase(client, Phase::WriteBack(best, showed)))
 }
 
-// A CARD more was taken.
-fn after_card(
+// A read has its q CARDs.
+fn after_card(client: Client, best: Timestamp, showed: ReplicaSet, out: &mut [u8]) -> Stepped
+    requires { ⌜ longest ≤ length (now out) ⌝ }
+    ensures { λ r. ⌜ Takes (now (out .entry)) (afterCard best showed client) r (now (out .exit)) ⌝ }
+{
+    if showed.is_quorum(client.f) {
+        return done(best, client);
+    }
+    write_back(client, best, showed, out)
+}
+
+// A CARD more was taken. A view is done with q of them, whatever they show.
+fn count_card(
     client: Client,
     nonce: u64,
     best: Timestamp,
     counted: ReplicaSet,
     showed: ReplicaSet,
+    aim: Aim,
     out: &mut [u8],
 ) -> Stepped
     requires { ⌜ longest ≤ length (now out) ⌝ }
-    ensures { λ r. ⌜ Takes (now (out .entry)) (afterCard nonce best counted showed client) r (now (out .exit)) ⌝ }
+    ensures { λ r. ⌜ Takes (now (out .entry)) (countCard (afterCards aim) nonce best counted showed client) r (now (out .exit)) ⌝ }
 {
     if !counted.is_quorum(client.f) {
         let waiting = Phase::Cards(nonce, best, counted, showed);
         return plain(ClientAnswer::Counted, with_phase(client, waiting));
     }
-    if showed.is_quorum(client.f) {
-        return done(best, client);
+    match aim {
+        Aim::Read => after_card(client, best, showed, out),
+        Aim::View => done(best, client),
     }
-    write_back(client, best, showed, out)
 }
 
 // A CARD that passed test 14.
@@ -79,10 +98,11 @@ pub(super) fn on_card<'a>(
     card: &'a [u8],
     proof: &'a [u8],
     addressed: ClientId,
+    aim: Aim,
     out: &mut [u8],
 ) -> Stepped
     requires { ⌜ (longest ≤ length (now out)) × WholeIfThere (now proof) × (length (now card) ≤ 17) ⌝ }
-    ensures { λ r. ⌜ callOf r (now (out .exit)) ≡ clientAnswers client (now (out .entry)) (onCard client sender nonce (now (card .entry)) (preparedPart (now (proof .entry))) addressed (client .phase)) ⌝ }
+    ensures { λ r. ⌜ callOf r (now (out .exit)) ≡ clientAnswers client (now (out .entry)) (onCard (afterCards aim) client sender nonce (now (card .entry)) (preparedPart (now (proof .entry))) addressed (client .phase)) ⌝ }
 {
     let phase = client.phase;
     let Phase::Cards(asked, best, counted, showed) = phase else {
@@ -95,7 +115,7 @@ pub(super) fn on_card<'a>(
     let later = best_of(best, proof);
     let shown = showed_by(best, proof, sender, showed);
     let kept = keep_better_card(client, best, card, proof);
-    after_card(kept, asked, later, counted.with(sender), shown, out)
+    count_card(kept, asked, later, counted.with(sender), shown, aim, out)
 }
 
 // A WRITTEN more was taken in a write-back: with those that showed the timestamp, q end the read.

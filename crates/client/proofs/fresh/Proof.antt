@@ -1,37 +1,21 @@
 -- `client::fresh` meets its contract. Assumes nothing.
-use mathlib.Core.Path.{sym}
-use Rattle.client.proofs.Setups.{is-good, is-refused, good-nonce}
+use mathlib.Core.Path.{ap, _∙_}
+use Rattle.base.specs.Outcome.{Outcome}
+use Rattle.base.specs.Party.{isWriter}
+use Rattle.protocol.specs.Client.{freshClient, clientIfSetUp}
+use Rattle.client.proofs.Setups.{nonce-if-good}
 use borrow.Author.Needs.{needs}
 use Rattle.client.proofs.fresh.Statement.{statement}
 use Rattle.client.proofs.fresh.Tie as tie
 
-sub-idle : tie.Need-sub-idle
-sub-idle c = let s = c .before .before .before .args in let setup = c .before .before .client-setup in good-nonce (s .f) (s .id) (s .first-nonce) (setup .result) (setup .ensures) (c .enum-told .given .1)
+set-up-requires : tie.Need-set-up-requires
+set-up-requires c κs = let s = c .before .args in nonce-if-good (isWriter (s .id)) (s .f) (s .first-nonce) (c .client-setup .result) (c .client-setup .ensures)
 
 returns : tie.Need-returns
 returns c =
-    let s = c .before .before .before .before .args in
-    let setup = c .before .before .before .client-setup in
-    let good = is-good (s .f) (s .id) (s .first-nonce) (setup .result) (setup .ensures) (c .before .enum-told .given .1) in
-    record { setup = sym good; client = rw good (c .idle .ensures) }
-
-returns-2 : tie.Need-returns-2
-returns-2 c =
-    let s = c .before .before .before .before .before .args in
-    let setup = c .before .before .before .before .client-setup in
-    let number = c .before .before .number .given in
-    let no = is-refused (s .f) (s .id) (s .first-nonce) (setup .result) (setup .ensures) (number .0 .0) (number .1) in
-    record { setup = sym no; client = rw no (c .idle2 .ensures) }
+    let s = c .before .before .args in
+    let setup = c .before .client-setup in
+    record { setup = setup .ensures; client = c .set-up .ensures ∙ ap (λ (o : Outcome (Unit {0})). clientIfSetUp o (freshClient (s .f) (s .id) (s .first-nonce))) (setup .ensures) }
 
 pub fresh-spec : {M : Type 1} → statement M
-fresh-spec =
-    tie.close
-    (tie.spec
-    (λ c κs. search needs)
-    (λ c. search needs)
-    sub-idle
-    (λ c κs. search needs)
-    (λ c. search needs)
-    (λ c κs. search needs)
-    returns
-    returns-2)
+fresh-spec = tie.close (tie.spec (λ c κs. search needs) set-up-requires returns)

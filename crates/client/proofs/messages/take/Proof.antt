@@ -1,30 +1,23 @@
 -- `client::messages::take` meets its contract. Assumes nothing.
-use Rattle.client.proofs.Parting.{last-kind}
 use borrow.Author.Needs.{needs}
 use Rattle.client.proofs.messages.take.Statement.{statement}
 use Rattle.client.proofs.messages.take.Tie as tie
 
-take-card-requires : tie.Need-take-card-requires
-take-card-requires c κs =
-    let s = c .before .before .before .before in
-    let rest = c .before .match .rest in
-    (s .pre .0, s .pre .1, last-kind (s .args .client) (s .args .message .now) (s .args .fields) (s .pre .1) (rest .0 .0 .1) (rest .0 .1) (rest .1))
+returns : tie.Need-returns
+returns c = rw (c .before .before .before .before .enum-told .given .1) (c .before .before .take-reply .ensures)
 
-returns-3 : tie.Need-returns-3
-returns-3 c = c .take-written .ensures (c .before .before .before .before .args .out .now)
+returns-2 : tie.Need-returns-2
+returns-2 c = rw (c .before .before .before .before .enum-told2 .given .1) (c .before .before .take-view .ensures)
 
 pub take-spec : {M : Type 1} → statement M
 take-spec =
     tie.close
     (tie.spec
+    (λ c. search needs)
     (λ c κs. search needs)
+    (λ c. search needs)
     (λ c κs. search needs)
-    (λ c κs. search needs)
-    take-card-requires
     (λ c. search needs)
+    returns
     (λ c. search needs)
-    (λ c. search needs)
-    (λ c. search needs)
-    returns-3
-    (λ c. search needs)
-    (λ c. search needs))
+    returns-2)
