@@ -100,7 +100,7 @@ module _ (replica : Replica) (bytes verdicts : List ℕ) where
     prepare-as k digest first second d s l = rw (d, s, l) (step-prepare k)
 
     pub prepare-sender : fields .kind ≡ 2 → (1 ≤ fields .sender) × (fields .sender ≤ 64)
-    prepare-sender k = bounds 1 64 (fields .sender) (handed-prepare (replica .f) bytes verdicts fields e k .ranged)
+    prepare-sender k = bounds 1 64 (fields .sender) (handed-prepare (replica .f) bytes verdicts fields e k .may-send)
 
 -- A call whose step is this outcome, whichever verdicts let its message through.
 pub answers : (replica : Replica) (bytes : List ℕ) (fields : Fields) (old : List ℕ) (stepped : Stepped) (new : List ℕ) (outcome : Outcome Reply)
