@@ -80,7 +80,8 @@ fn count_card(
     requires { ⌜ longest ≤ length (now out) ⌝ }
     ensures { λ r. ⌜ Takes (now (out .entry)) (countCard (afterCards aim) nonce best counted showed client) r (now (out .exit)) ⌝ }
 {
-    if !counted.is_quorum(client.f) {
+    let f = client.f;
+    if !counted.is_quorum(f) {
         let waiting = Phase::Cards(nonce, best, counted, showed);
         return plain(ClientAnswer::Counted, with_phase(client, waiting));
     }

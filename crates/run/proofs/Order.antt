@@ -16,7 +16,7 @@ use Rattle.protocol.specs.Client.{done}
 use Rattle.protocol.specs.Parts.{startCard}
 use Rattle.protocol.specs.declared.client.Client.{Client}
 use Rattle.protocol.specs.declared.client.Phase.the-variants.{Idle}
-use Rattle.run.specs.Claims.{Begins, GoesOn, Finished, Viewed, SameOperation, FinishedBefore, AtOneTimestamp, LiesBefore, Before}
+use Rattle.run.specs.Claims.{Begins, GoesOn, Finished, Viewed, ViewAfter, SameOperation, FinishedBefore, AtOneTimestamp, LiesBefore, Before}
 use Rattle.run.specs.Premises.{Accepted, CardOfRun, eventCard, Premises}
 use Rattle.wire.specs.Acceptance.{client}
 use Rattle.run.specs.Run.{Event, begins-write, begins-read, to-client, Run, partyOf, event, clientAt, answerAt, At, Correct}
@@ -190,7 +190,7 @@ module _ (R : Run) where
     later-write o o′ w l = above-write (o′ .is-write) (o′ .begun) (number (o′ .timestamp)) w (finish o′ .above) (number (o .timestamp)) (settled-by o (o′ .begun) l)
 
     -- A view is above all that was settled when it began.
-    pub view-after : (o : Finished R) (v : Viewed R) → o .finished < v .begun → number (o .timestamp) ≤ number (v .timestamp)
+    pub view-after : ViewAfter R
     view-after o v l = view v .above (number (o .timestamp)) (settled-by o (v .begun) l)
 
     pub in-order : (o o′ : Finished R) → FinishedBefore R o o′ → Before R o′ o → ⊥

@@ -104,6 +104,10 @@ module _ (R : Run) where
   abbrev pub Before : Finished → Finished → Type 0
   Before o o′ = LiesBefore (number (o .timestamp)) (o .is-write) (o .finished) (number (o′ .timestamp)) (o′ .is-write) (o′ .finished)
 
+  -- "a screen that begins after a write or an ordinary read has finished never shows an earlier stamp than that one"
+  abbrev pub ViewAfter : Type 0
+  ViewAfter = (o : Finished) (v : Viewed) → o .finished < v .begun → number (o .timestamp) ≤ number (v .timestamp)
+
   pub record Claims : Type 0 where
     -- "no two genuine prepared proofs, whoever gathered them, carry one stamp and two digests"
     pub one-digest : OneDigest
@@ -117,5 +121,5 @@ module _ (R : Run) where
     pub in-order : (o o′ : Finished) → FinishedBefore o o′ → Before o′ o → ⊥
     -- "a write begun after another finished has a later stamp"
     pub later-write : (o o′ : Finished) → o′ .is-write ≡ true → FinishedBefore o o′ → number (o .timestamp) < number (o′ .timestamp)
-    -- "a screen that begins after a write or an ordinary read has finished never shows an earlier stamp than that one"
-    pub view-after : (o : Finished) (v : Viewed) → o .finished < v .begun → number (o .timestamp) ≤ number (v .timestamp)
+    -- "Their reads, which may fall back during a write, are left out of the ordering of reads and writes."
+    pub view-after : ViewAfter
