@@ -225,13 +225,13 @@ well-told = refl
 pub run : Run
 run = told 3 3 (lit≤ tt) (lit≤ tt) story well-told
 
-answers-as-told : plays (freshStore run) story ≡ true
+answers-as-told : plays (freshStore run 3) story ≡ true
 unfolding run story steps digests plays
 answers-as-told = refl
 
 as-told : Told run story
 unfolding run
-as-told = played run story refl answers-as-told
+as-told = played run 3 story refl answers-as-told
 
 verdicts-true : AllTrue run story
 unfolding run story messages trueVerdicts
@@ -259,11 +259,11 @@ claims = demand-3 run premises
 
 pub first-write : Finished run
 unfolding story code messages
-first-write = finished-told run story as-told true client-1 0 15 _ _ _ at-1·1 service (service, refl) refl (lit< tt) refl refl refl
+first-write = finished-told run story as-told client-1 0 15 _ _ _ at-1·1 service refl (lit< tt) refl refl refl true (service, refl) refl
 
 pub read : Finished run
 unfolding story code messages
-read = finished-told run story as-told false client-2 16 21 _ _ _ at-1·1 service refl refl (lit< tt) refl refl refl
+read = finished-told run story as-told client-2 16 21 _ _ _ at-1·1 service refl (lit< tt) refl refl refl false refl refl
 
 -- Client 2 sends nothing after its READ.
 pub in-one-phase : (t : ℕ) → 16 < t → t < 21 → At run t (client client-2) → answerAt run t ≡ accepted waits
@@ -272,15 +272,15 @@ in-one-phase = only-counted run story as-told client-2 16 21 refl
 
 pub read-with-write-back : Finished run
 unfolding story code messages
-read-with-write-back = finished-told run story as-told false client-3 24 37 _ _ _ at-1·1 service refl refl (lit< tt) refl refl refl
+read-with-write-back = finished-told run story as-told client-3 24 37 _ _ _ at-1·1 service refl (lit< tt) refl refl refl false refl refl
 
 pub second-write : Finished run
 unfolding story code messages
-second-write = finished-told run story as-told true client-2 30 47 _ _ _ at-2·2 lathe (lathe, refl) refl (lit< tt) refl refl refl
+second-write = finished-told run story as-told client-2 30 47 _ _ _ at-2·2 lathe refl (lit< tt) refl refl refl true (lathe, refl) refl
 
 pub third-write : Finished run
 unfolding story code messages
-third-write = finished-told run story as-told true client-1 48 65 _ _ _ at-3·1 service (service, refl) refl (lit< tt) refl refl refl
+third-write = finished-told run story as-told client-1 48 65 _ _ _ at-3·1 service refl (lit< tt) refl refl refl true (service, refl) refl
 
 -- A read and a write overlap: each began before the other finished.
 pub overlap : (read-with-write-back .begun < second-write .finished) × (second-write .begun < read-with-write-back .finished)

@@ -67,13 +67,13 @@ well-told = refl
 run : Run
 run = told 4 2 (lit≤ tt) (lit≤ tt) story well-told
 
-answers-as-told : plays (freshStore run) story ≡ true
+answers-as-told : plays (freshStore run 2) story ≡ true
 unfolding run story steps digests plays
 answers-as-told = refl
 
 as-told : Told run story
 unfolding run
-as-told = played run story refl answers-as-told
+as-told = played run 2 story refl answers-as-told
 
 no-other-cards : NoOtherCards run story cards
 unfolding story messages cards
@@ -81,11 +81,11 @@ no-other-cards = refl
 
 finished-later : Finished run
 unfolding story code messages
-finished-later = finished-told run story as-told false client-1 0 3 _ _ _ timestamp service refl refl (lit< tt) refl refl refl
+finished-later = finished-told run story as-told client-1 0 3 _ _ _ timestamp service refl (lit< tt) refl refl refl false refl refl
 
 finished-stale : Finished run
 unfolding story code messages
-finished-stale = finished-told run story as-told false client-2 4 7 _ _ _ start startCard refl refl (lit< tt) refl refl refl
+finished-stale = finished-told run story as-told client-2 4 7 _ _ _ start startCard refl (lit< tt) refl refl refl false refl refl
 
 pub verdicts-needed : VerdictsNeeded
 unfolding run count within finished-told finished-later finished-stale
