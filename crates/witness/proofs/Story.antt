@@ -22,7 +22,7 @@ use Rattle.base.specs.declared.party.ReplicaId.{ReplicaId}
 use Rattle.base.specs.declared.timestamp.Timestamp.{Timestamp}
 use Rattle.protocol.specs.Client.{Answer, send, waits, done, ended}
 use Rattle.run.specs.Claims.{GoesOn, Begins, Finished, Viewed, Genuine}
-use Rattle.run.specs.Premises.{TrueVerdicts, TrueFor, TrueAt, eventCard, Accepted, CardOfRun}
+use Rattle.run.specs.Premises.{TrueVerdicts, TrueFor, TrueAt, eventCard, Accepted, CardOfRun, FewFaulty, Premises}
 use Rattle.wire.specs.Acceptance.{Sender, replica, client}
 use Rattle.run.specs.Run.{Event, begins-write, begins-read, to-replica, to-client, partyOf, HasBytes, CorrectIn, Run, event, answerTo, answerAt, At, Sent}
 use Rattle.wire.specs.Decode.{decode}
@@ -373,6 +373,10 @@ module _ (R : Run) (lines : List Line) (told : Told R lines) where
   pub different-digests : (cards : List Known) → NoOtherCards R lines cards → rightDigests cards ≡ true → differentDigests cards ≡ true → (card card′ : List ℕ) → CardOfRun R card → CardOfRun R card′ → sha256 card ≡ sha256 card′ → card ≡ card′
   different-digests cards no-other right all card card′ of-run of-run′ e =
       different cards card card′ right all (is-one cards card (known cards card no-other of-run)) (is-one cards card′ (known cards card′ no-other of-run′)) e
+
+  pub premises-told : (cards : List Known) → FewFaulty R → AllTrue R lines → NoOtherCards R lines cards → rightDigests cards ≡ true → differentDigests cards ≡ true → Premises R
+  premises-told cards few-faulty all-true no-other right all =
+      record { few-faulty = few-faulty; true-verdicts = true-verdicts all-true; different-digests = different-digests cards no-other right all }
 
   -- ---- Between two events
 
