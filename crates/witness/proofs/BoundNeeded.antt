@@ -68,13 +68,13 @@ well-told = refl
 run : Run
 run = told 2 0 (lit≤ tt) (lit≤ tt) story well-told
 
-answers-as-told : plays (freshStore run) story ≡ true
+answers-as-told : plays (freshStore run 0) story ≡ true
 unfolding run story steps plays
 answers-as-told = refl
 
 as-told : Told run story
 unfolding run
-as-told = played run story refl answers-as-told
+as-told = played run 0 story refl answers-as-told
 
 verdicts-true : AllTrue run story
 unfolding run story messages trueVerdicts

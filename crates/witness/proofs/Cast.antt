@@ -2,12 +2,14 @@
 use mathlib.Core.Path.{_≡_, refl}
 use mathlib.Core.Bool.{true}
 use mathlib.Core.List.{List, [], _∷_, _++_}
+use mathlib.Core.Option.{none}
 use Prim.Native.Nat.{ℕ, _+_}
 use lib.ListN.{replicate}
 use Rattle.base.specs.declared.party.ClientId.{ClientId}
 use Rattle.base.specs.declared.party.ReplicaId.{ReplicaId}
+use Rattle.base.specs.declared.timestamp.Timestamp.{Timestamp}
 use Rattle.protocol.specs.Parts.{startCard}
-use Rattle.wire.specs.Message.{Message, encode}
+use Rattle.wire.specs.Message.{Message, CARD, encode}
 use Rattle.wire.specs.Proof.{Entry}
 use Rattle.witness.proofs.Cards.{Known, rightDigests, differentDigests}
 use Rattle.witness.proofs.Computing.{messages, digests}
@@ -36,6 +38,10 @@ client-3 = record { 0 = 3 }
 abbrev pub client-4 : ClientId
 client-4 = record { 0 = 4 }
 
+-- A viewing client.
+abbrev pub viewer-65 : ClientId
+viewer-65 = record { 0 = 65 }
+
 -- The numbers of timestamps: 1·1 is that of 1.1.
 abbrev pub 1·1 : ℕ
 1·1 = 257
@@ -49,6 +55,9 @@ abbrev pub 2·2 : ℕ
 abbrev pub 3·1 : ℕ
 3·1 = 769
 
+abbrev pub at-1·1 : Timestamp
+at-1·1 = record { count = 1; client = client-1 }
+
 -- Signatures are made up: 64 times the same byte.
 abbrev pub signature : ReplicaId → List ℕ
 signature id = replicate 64 (id .0)
@@ -61,6 +70,10 @@ from-client id message = encode message (replicate 64 (100 + id .0))
 
 abbrev pub entry : ReplicaId → Entry
 entry id = record { signer = id; signature = signature id }
+
+-- A CARD that shows 0.0, as if nothing had been written.
+abbrev pub stale : ℕ → ClientId → ReplicaId → Message
+stale nonce to id = CARD id nonce startCard none to
 
 -- So many verdicts 1: on a message's own signature, or on a proof's three entries, or on both; and one verdict 0.
 abbrev pub one : List ℕ

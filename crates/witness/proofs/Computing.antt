@@ -6,8 +6,9 @@ use Rattle.base.specs.Range.{within}
 use Rattle.base.specs.ReplicaSet.{has, with}
 use Rattle.base.specs.Rising.{rising}
 use Rattle.base.specs.Same.{same}
-use Rattle.protocol.specs.Client.{gathered, beginWrite, beginRead, afterStamp, onStamp, afterPrepared, onPrepared, afterWritten, afterWriteBack, onWritten, afterCard, onCard, clientStep, onReply}
+use Rattle.protocol.specs.Client.{gathered, beginWrite, beginRead, afterStamp, onStamp, afterPrepared, onPrepared, afterWritten, afterWriteBack, onWritten, afterCard, countCard, onCard, clientStep, onReply}
 use Rattle.protocol.specs.Replica.{freshRegister, afterPrepare, afterWrite, replicaStep, onRequest}
+use Rattle.protocol.specs.Viewer.{afterView, viewerStep, onViewerReply}
 use Rattle.run.specs.Run.{replicaAt, clientAt, answerTo}
 use Rattle.wire.specs.Card.{table, readFields, goodCardMap, readCard}
 use Rattle.wire.specs.Acceptance.{admits, admitted}
@@ -23,7 +24,7 @@ unfolding fromBytes toBytes guard within same rules place field kinds ofKind fra
 messages = tt
 
 unfoldable pub steps : Unit {0}
-unfolding messages count has with rising entriesOf all oneEach shaped proven checked admits admitted proofOutcome table readFields goodCardMap readCard freshRegister afterPrepare afterWrite onRequest replicaStep gathered beginWrite beginRead afterStamp onStamp afterPrepared onPrepared afterWritten afterWriteBack onWritten afterCard onCard onReply clientStep replicaAt clientAt answerTo
+unfolding messages count has with rising entriesOf all oneEach shaped proven checked admits admitted proofOutcome table readFields goodCardMap readCard freshRegister afterPrepare afterWrite onRequest replicaStep gathered beginWrite beginRead afterStamp onStamp afterPrepared onPrepared afterWritten afterWriteBack onWritten afterCard countCard onCard onReply clientStep afterView onViewerReply viewerStep replicaAt clientAt answerTo
 steps = tt
 
 unfoldable pub digests : Unit {0}

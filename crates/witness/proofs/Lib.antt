@@ -3,7 +3,9 @@ pub mod BoundNeeded
 pub mod Cards
 pub mod Cast
 pub mod Computing
+pub mod FirstWrite
 pub mod NotEmpty
 pub mod Replay
 pub mod Story
 pub mod VerdictsNeeded
+pub mod Viewing

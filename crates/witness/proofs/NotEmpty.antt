@@ -1,7 +1,7 @@
 -- A run at f = 1 that meets the premises, so that the theorem says something of it: three writes, two reads, replica 4 and client 4 faulty. Assumes nothing.
 use mathlib.Core.Path.{_≡_, refl, subst}
 use mathlib.Core.Bool.{true, false, false≢true}
-use mathlib.Core.List.{List, [], _∷_}
+use mathlib.Core.List.{List, [], _∷_, _++_}
 use mathlib.Core.Option.{none, some}
 use Prim.Native.Nat.{ℕ, _<_}
 use lib.Dec.{lit<, lit≤}
@@ -12,58 +12,26 @@ use Rattle.base.specs.declared.party.ClientId.{ClientId}
 use Rattle.base.specs.declared.party.ReplicaId.{ReplicaId}
 use Rattle.base.specs.declared.timestamp.Timestamp.{Timestamp}
 use Rattle.protocol.specs.Client.{send, waits, done}
-use Rattle.protocol.specs.Parts.{startCard}
 use Rattle.run.proofs.Demand3.{demand-3}
 use Rattle.run.specs.Claims.{Finished, Genuine, Claims}
 use Rattle.run.specs.Premises.{Premises}
 use Rattle.run.specs.Run.{begins-write, begins-read, to-replica, to-client, Run, event, answerAt, At, Correct, Sent}
 use Rattle.wire.specs.Acceptance.{replica, client}
-use Rattle.wire.specs.Message.{Message, READ-STAMP, PREPARE, WRITE, READ, STAMP, PREPARED, WRITTEN, CARD}
+use Rattle.wire.specs.Message.{Message, READ-STAMP, PREPARE, WRITE, READ, STAMP, PREPARED, WRITTEN}
 use Rattle.wire.specs.Proof.{PreparedProof, WrittenProof}
 use Rattle.witness.proofs.Answers.{code}
-use Rattle.witness.proofs.Cast.{replica-1, replica-2, replica-3, replica-4, client-1, client-2, client-3, client-4, 1·1, 1·4, 2·2, 3·1, entry, from-replica, from-client, one, three, four, seven, not-genuine, service, lathe, scrapped, service-digest, lathe-digest, cards, right-digests, different-cards}
+use Rattle.witness.proofs.Cast.{replica-1, replica-2, replica-3, replica-4, client-1, client-2, client-3, client-4, 1·1, 1·4, 2·2, 3·1, at-1·1, entry, from-replica, from-client, stale, one, three, four, seven, not-genuine, service, lathe, scrapped, service-digest, lathe-digest, cards, right-digests, different-cards}
 use Rattle.witness.proofs.Computing.{messages, steps, digests}
+use Rattle.witness.proofs.FirstWrite.{proof, prepared, write, written, shows, write-under-way, write-done}
 use Rattle.witness.proofs.Replay.{plays, freshStore, played}
-use Rattle.witness.proofs.Story.{Line, _↝_, _↛_, each, wellTold, told, Told, hasBytes, NoOtherCards, AllTrue, trueVerdicts, true-verdicts, different-digests, only-counted, Sends, sends-told, done-told, refused-told, finished-told, allBytes, genuine-told}
+use Rattle.witness.proofs.Story.{Line, _↝_, _↛_, each, wellTold, told, Told, hasBytes, NoOtherCards, AllTrue, trueVerdicts, premises-told, only-counted, Sends, sends-told, done-told, refused-told, finished-told, allBytes, genuine-told}
 
 -- ---- What is said
 
--- The first write: client 1 writes `service` at 1.1. The faulty replica's signature counts in the proof.
-
-abbrev at-1·1 : Timestamp
-at-1·1 = record { count = 1; client = client-1 }
-
-abbrev proof : PreparedProof
-proof = record { timestamp = 1·1; digest = service-digest; entries = entry replica-1 ∷ entry replica-2 ∷ entry replica-4 ∷ [] }
-
-abbrev asks-stamp : Message
-asks-stamp = READ-STAMP client-1 1
-
-abbrev stamp : ReplicaId → Message
-stamp id = STAMP id 1 none client-1
-
-abbrev prepare : Message
-prepare = PREPARE client-1 1·1 service-digest none none
-
-abbrev prepared : ReplicaId → Message
-prepared id = PREPARED id 1·1 service-digest
-
-abbrev write : Message
-write = WRITE client-1 service proof
-
-abbrev written : ReplicaId → Message
-written id = WRITTEN id 1·1
-
--- The reads of clients 2 and 3. A stale CARD shows 0.0, as if nothing had been written.
+-- After the first write, the reads of clients 2 and 3.
 
 abbrev asks-card : ClientId → Message
 asks-card id = READ id 1
-
-abbrev shows : ClientId → ReplicaId → Message
-shows to id = CARD id 1 service (some proof) to
-
-abbrev stale : ReplicaId → Message
-stale id = CARD id 1 startCard none client-3
 
 abbrev write-back : Message
 write-back = WRITE client-3 service proof
@@ -134,43 +102,28 @@ written-3 id = WRITTEN id 3·1
 -- ---- What happens: replicas 1 to 3 and clients 1 to 3 are correct
 
 story : List Line
+unfolding write-under-way write-done
 story =
-    -- 0 to 5: client 1 begins a write and gets the STAMPs of replicas 1 and 2, and one that replica 4 made up. It asks for 1.1.
-    begins-write client-1 service ↝ send asks-stamp
-    ∷ to-replica replica-1 (from-client client-1 asks-stamp) one ↝ send (stamp replica-1)
-    ∷ to-replica replica-2 (from-client client-1 asks-stamp) one ↝ send (stamp replica-2)
-    ∷ to-client client-1 (from-replica replica-1 stamp) one ↝ waits
-    ∷ to-client client-1 (from-replica replica-2 stamp) one ↝ waits
-    ∷ to-client client-1 (from-replica replica-4 stamp) one ↝ send prepare
-    -- 6 to 10: the PREPAREDs of replicas 1 and 2, and of replica 4: they are the proof.
-    ∷ to-replica replica-1 (from-client client-1 prepare) one ↝ send (prepared replica-1)
-    ∷ to-replica replica-2 (from-client client-1 prepare) one ↝ send (prepared replica-2)
-    ∷ to-client client-1 (from-replica replica-1 prepared) one ↝ waits
-    ∷ to-client client-1 (from-replica replica-2 prepared) one ↝ waits
-    ∷ to-client client-1 (from-replica replica-4 prepared) one ↝ send write
-    -- 11 to 15: the WRITTENs of replicas 1 and 2, and of replica 4: the write is done.
-    ∷ to-replica replica-1 (from-client client-1 write) four ↝ send (written replica-1)
-    ∷ to-replica replica-2 (from-client client-1 write) four ↝ send (written replica-2)
-    ∷ to-client client-1 (from-replica replica-1 written) one ↝ waits
-    ∷ to-client client-1 (from-replica replica-2 written) one ↝ waits
-    ∷ to-client client-1 (from-replica replica-4 written) one ↝ done at-1·1 service
+    -- 0 to 15: the first write.
+    write-under-way
+    ++ write-done
     -- 16 to 21: client 2 reads. Replicas 1, 2 and 4 show 1.1: it is done in one phase.
-    ∷ begins-read client-2 ↝ send (asks-card client-2)
-    ∷ to-replica replica-1 (from-client client-2 (asks-card client-2)) one ↝ send (shows client-2 replica-1)
-    ∷ to-replica replica-2 (from-client client-2 (asks-card client-2)) one ↝ send (shows client-2 replica-2)
-    ∷ to-client client-2 (from-replica replica-1 (shows client-2)) four ↝ waits
-    ∷ to-client client-2 (from-replica replica-2 (shows client-2)) four ↝ waits
-    ∷ to-client client-2 (from-replica replica-4 (shows client-2)) four ↝ done at-1·1 service
+    ++ begins-read client-2 ↝ send (asks-card client-2)
+    ∷ to-replica replica-1 (from-client client-2 (asks-card client-2)) one ↝ send (shows 1 client-2 replica-1)
+    ∷ to-replica replica-2 (from-client client-2 (asks-card client-2)) one ↝ send (shows 1 client-2 replica-2)
+    ∷ to-client client-2 (from-replica replica-1 (shows 1 client-2)) four ↝ waits
+    ∷ to-client client-2 (from-replica replica-2 (shows 1 client-2)) four ↝ waits
+    ∷ to-client client-2 (from-replica replica-4 (shows 1 client-2)) four ↝ done at-1·1 service
     -- 22 and 23: client 4 asks replica 3 for 1.4 with one digest, and then with another.
     ∷ to-replica replica-3 (from-client client-4 (asks-1·4 service-digest)) one ↝ send (PREPARED replica-3 1·4 service-digest)
     ∷ to-replica replica-3 (from-client client-4 (asks-1·4 lathe-digest)) one ↛ 15
     -- 24 to 29: client 3 reads. Replica 4 shows 0.0, so that only two show 1.1: it is written back.
     ∷ begins-read client-3 ↝ send (asks-card client-3)
-    ∷ to-replica replica-1 (from-client client-3 (asks-card client-3)) one ↝ send (shows client-3 replica-1)
-    ∷ to-replica replica-2 (from-client client-3 (asks-card client-3)) one ↝ send (shows client-3 replica-2)
-    ∷ to-client client-3 (from-replica replica-1 (shows client-3)) four ↝ waits
-    ∷ to-client client-3 (from-replica replica-2 (shows client-3)) four ↝ waits
-    ∷ to-client client-3 (from-replica replica-4 stale) one ↝ send write-back
+    ∷ to-replica replica-1 (from-client client-3 (asks-card client-3)) one ↝ send (shows 1 client-3 replica-1)
+    ∷ to-replica replica-2 (from-client client-3 (asks-card client-3)) one ↝ send (shows 1 client-3 replica-2)
+    ∷ to-client client-3 (from-replica replica-1 (shows 1 client-3)) four ↝ waits
+    ∷ to-client client-3 (from-replica replica-2 (shows 1 client-3)) four ↝ waits
+    ∷ to-client client-3 (from-replica replica-4 (stale 1 client-3)) one ↝ send write-back
     -- 30 to 35: before that is done client 2 begins a write. All show 1.1, so it asks for 2.2.
     ∷ begins-write client-2 lathe ↝ send asks-stamp-2
     ∷ to-replica replica-1 (from-client client-2 asks-stamp-2) one ↝ send (stamp-2 replica-1)
@@ -225,13 +178,13 @@ well-told = refl
 pub run : Run
 run = told 3 3 (lit≤ tt) (lit≤ tt) story well-told
 
-answers-as-told : plays (freshStore run) story ≡ true
+answers-as-told : plays (freshStore run 3) story ≡ true
 unfolding run story steps digests plays
 answers-as-told = refl
 
 as-told : Told run story
 unfolding run
-as-told = played run story refl answers-as-told
+as-told = played run 3 story refl answers-as-told
 
 verdicts-true : AllTrue run story
 unfolding run story messages trueVerdicts
@@ -245,12 +198,7 @@ no-other-cards = refl
 
 pub premises : Premises run
 unfolding run count within
-premises =
-    record {
-      few-faulty = lit≤ tt;
-      true-verdicts = true-verdicts run story as-told verdicts-true;
-      different-digests = different-digests run story as-told cards no-other-cards right-digests different-cards;
-    }
+premises = premises-told run story as-told cards (lit≤ tt) verdicts-true no-other-cards right-digests different-cards
 
 pub claims : Claims run
 claims = demand-3 run premises
@@ -259,11 +207,11 @@ claims = demand-3 run premises
 
 pub first-write : Finished run
 unfolding story code messages
-first-write = finished-told run story as-told true client-1 0 15 _ _ _ at-1·1 service (service, refl) refl (lit< tt) refl refl refl
+first-write = finished-told run story as-told client-1 0 15 _ _ _ at-1·1 service refl (lit< tt) refl refl refl true (service, refl) refl
 
 pub read : Finished run
 unfolding story code messages
-read = finished-told run story as-told false client-2 16 21 _ _ _ at-1·1 service refl refl (lit< tt) refl refl refl
+read = finished-told run story as-told client-2 16 21 _ _ _ at-1·1 service refl (lit< tt) refl refl refl false refl refl
 
 -- Client 2 sends nothing after its READ.
 pub in-one-phase : (t : ℕ) → 16 < t → t < 21 → At run t (client client-2) → answerAt run t ≡ accepted waits
@@ -272,15 +220,15 @@ in-one-phase = only-counted run story as-told client-2 16 21 refl
 
 pub read-with-write-back : Finished run
 unfolding story code messages
-read-with-write-back = finished-told run story as-told false client-3 24 37 _ _ _ at-1·1 service refl refl (lit< tt) refl refl refl
+read-with-write-back = finished-told run story as-told client-3 24 37 _ _ _ at-1·1 service refl (lit< tt) refl refl refl false refl refl
 
 pub second-write : Finished run
 unfolding story code messages
-second-write = finished-told run story as-told true client-2 30 47 _ _ _ at-2·2 lathe (lathe, refl) refl (lit< tt) refl refl refl
+second-write = finished-told run story as-told client-2 30 47 _ _ _ at-2·2 lathe refl (lit< tt) refl refl refl true (lathe, refl) refl
 
 pub third-write : Finished run
 unfolding story code messages
-third-write = finished-told run story as-told true client-1 48 65 _ _ _ at-3·1 service (service, refl) refl (lit< tt) refl refl refl
+third-write = finished-told run story as-told client-1 48 65 _ _ _ at-3·1 service refl (lit< tt) refl refl refl true (service, refl) refl
 
 -- A read and a write overlap: each began before the other finished.
 pub overlap : (read-with-write-back .begun < second-write .finished) × (second-write .begun < read-with-write-back .finished)
@@ -333,7 +281,7 @@ unfolding run story
 its-written-counts = (refl, done-told run story as-told 15 _ at-1·1 service refl)
 
 -- Its CARD of 0.0 forces the write-back.
-pub its-stale-card-forces-write-back : (event run 29 ≡ some (to-client client-3 (from-replica replica-4 stale) (1 ∷ []))) × Sends run 29 (WRITE client-3 service proof)
+pub its-stale-card-forces-write-back : (event run 29 ≡ some (to-client client-3 (from-replica replica-4 (stale 1 client-3)) (1 ∷ []))) × Sends run 29 (WRITE client-3 service proof)
 unfolding run story
 its-stale-card-forces-write-back = (refl, sends-told run story as-told 29 _ write-back refl)
 

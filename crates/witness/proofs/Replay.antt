@@ -15,11 +15,11 @@ use Rattle.base.specs.Outcome.{Outcome}
 use Rattle.base.specs.Same.{same}
 use Rattle.base.specs.declared.party.ClientId.{ClientId}
 use Rattle.base.specs.declared.party.ReplicaId.{ReplicaId}
-use Rattle.protocol.specs.Client.{Answer, Turn, freshClient, beginWrite, beginRead, clientStep}
+use Rattle.protocol.specs.Client.{Answer, Turn, freshClient, beginWrite, beginRead}
 use Rattle.protocol.specs.Replica.{Reply, freshReplica, replicaStep}
 use Rattle.protocol.specs.declared.client.Client.{Client}
 use Rattle.protocol.specs.declared.replica.Replica.{Replica}
-use Rattle.run.specs.Run.{Event, begins-write, begins-read, to-replica, to-client, nextReplica, nextClient, afterAtReplica, afterAtClient, replicaAnswer, clientAnswer, Run, event, replicaAt, clientAt, answerTo}
+use Rattle.run.specs.Run.{Event, begins-write, begins-read, to-replica, to-client, nextReplica, nextClient, clientHears, afterAtReplica, afterAtClient, replicaAnswer, clientAnswer, Run, event, replicaAt, clientAt, answerTo}
 use Rattle.base.proofs.Same.{same-equal}
 use Rattle.witness.proofs.Answers.{code}
 use Rattle.witness.proofs.Story.{Line, Each, eventsOf, Told}
@@ -111,7 +111,7 @@ abbrev play : Store → Event → Played
 play store (begins-write id card) = atClient store id (λ before. beginWrite before card)
 play store (begins-read id) = atClient store id beginRead
 play store (to-replica id bytes verdicts) = atReplica store id (λ before. replicaStep before bytes verdicts)
-play store (to-client id bytes verdicts) = atClient store id (λ before. clientStep before bytes verdicts)
+play store (to-client id bytes verdicts) = atClient store id (λ before. clientHears id before bytes verdicts)
 
 -- The lines' answers are those of their events, all at parties of the store.
 unfoldable pub plays : Store → List Line → Bool
@@ -122,12 +122,12 @@ plays store (line ∷ lines) =
     (inStore store (line .event) && same (code (played .answer)) (code (line .answer))) && plays (played .next) lines
 
 module _ (R : Run) where
-  -- The fresh records of replicas 1 to 4 and clients 1 to 3; place 0 is no party's.
-  abbrev pub freshStore : Store
-  freshStore =
+  -- The fresh records of replicas 1 to 4 and clients 1 to c; place 0 is no party's.
+  abbrev pub freshStore : ℕ → Store
+  freshStore c =
       record {
         replicas = records 5 (λ i. freshReplica (R .f) (replica-of i));
-        clients = records 4 (λ i. freshClient (R .f) (client-of i) (R .first-nonce (client-of i)));
+        clients = records (suc c) (λ i. freshClient (R .f) (client-of i) (R .first-nonce (client-of i)));
       }
 
   -- The store has the run's records before event t.
@@ -135,12 +135,12 @@ module _ (R : Run) where
     replicas : Right no-replica (store .replicas) (λ i. replicaAt R (replica-of i) t)
     clients : Right no-client (store .clients) (λ i. clientAt R (client-of i) t)
 
-  fresh-holds : Holds 0 freshStore
+  fresh-holds : (c : ℕ) → Holds 0 (freshStore c)
   unfolding replicaAt clientAt
-  fresh-holds =
+  fresh-holds c =
       record {
         replicas = records-right no-replica 5 (λ i. freshReplica (R .f) (replica-of i));
-        clients = records-right no-client 4 (λ i. freshClient (R .f) (client-of i) (R .first-nonce (client-of i)));
+        clients = records-right no-client (suc c) (λ i. freshClient (R .f) (client-of i) (R .first-nonce (client-of i)));
       }
 
   -- What an event leaves to a party is what the run has next.
@@ -178,7 +178,7 @@ module _ (R : Run) where
       record {
         replicas = λ i inside. holds .replicas i inside ∙ next-replica t (to-client id bytes verdicts) found i;
         clients = λ i inside.
-            steps-right no-client (store .clients) (λ j. clientAt R (client-of j) t) (id .0) (λ c. nextClient c (clientStep c bytes verdicts)) (ltb-true (id .0) (length (store .clients)) there) (holds .clients) i inside
+            steps-right no-client (store .clients) (λ j. clientAt R (client-of j) t) (id .0) (λ c. nextClient c (clientHears id c bytes verdicts)) (ltb-true (id .0) (length (store .clients)) there) (holds .clients) i inside
             ∙ next-client t (to-client id bytes verdicts) found i;
       }
 
@@ -189,7 +189,7 @@ module _ (R : Run) where
   answers-right t store (to-replica id bytes verdicts) there holds =
       ap (λ (r : Replica). replicaAnswer (replicaStep r bytes verdicts)) (sym (holds .replicas (id .0) (ltb-true (id .0) (length (store .replicas)) there)))
   answers-right t store (to-client id bytes verdicts) there holds =
-      ap (λ (c : Client). clientAnswer (clientStep c bytes verdicts)) (sym (holds .clients (id .0) (ltb-true (id .0) (length (store .clients)) there)))
+      ap (λ (c : Client). clientAnswer (clientHears id c bytes verdicts)) (sym (holds .clients (id .0) (ltb-true (id .0) (length (store .clients)) there)))
 
   each-played : (t : ℕ) (store : Store) (lines : List Line) → ((i : ℕ) → event R (t + i) ≡ getElem? (eventsOf lines) i) → Holds t store → plays store lines ≡ true
       → Each (λ s line. code (answerTo R s (some (line .event))) ≡ code (line .answer)) t lines
@@ -205,9 +205,9 @@ module _ (R : Run) where
             (still-holds t store (line .event) found (here .0) holds) (both .1),
       )
 
-  pub played : (lines : List Line) → R .events ≡ eventsOf lines → plays freshStore lines ≡ true → Told R lines
-  played lines told test =
+  pub played : (c : ℕ) (lines : List Line) → R .events ≡ eventsOf lines → plays (freshStore c) lines ≡ true → Told R lines
+  played c lines told test =
       record {
         events = told;
-        answers = each-played 0 freshStore lines (λ i. let now : 0 + i ≡ i = omega arith in subst (λ (s : ℕ). event R s ≡ getElem? (eventsOf lines) i) (sym now) (ap (λ (es : List Event). getElem? es i) told)) fresh-holds test;
+        answers = each-played 0 (freshStore c) lines (λ i. let now : 0 + i ≡ i = omega arith in subst (λ (s : ℕ). event R s ≡ getElem? (eventsOf lines) i) (sym now) (ap (λ (es : List Event). getElem? es i) told)) (fresh-holds c) test;
       }

@@ -14,14 +14,15 @@ use Rattle.base.proofs.Booleans.{and-true-both}
 use Rattle.base.proofs.Range.{inside, bounds}
 use Rattle.base.specs.BigEndian.{Bytes}
 use Rattle.base.specs.Outcome.{Outcome, accepted, refused}
+use Rattle.base.specs.Party.{isWriter, isViewer}
 use Rattle.base.specs.Range.{within}
 use Rattle.base.specs.Same.{same}
 use Rattle.base.specs.declared.party.ClientId.{ClientId}
 use Rattle.base.specs.declared.party.ReplicaId.{ReplicaId}
 use Rattle.base.specs.declared.timestamp.Timestamp.{Timestamp}
 use Rattle.protocol.specs.Client.{Answer, send, waits, done, ended}
-use Rattle.run.specs.Claims.{GoesOn, Begins, Finished, Genuine}
-use Rattle.run.specs.Premises.{TrueVerdicts, TrueFor, TrueAt, eventCard, CardOfRun}
+use Rattle.run.specs.Claims.{GoesOn, Begins, Finished, Viewed, Genuine}
+use Rattle.run.specs.Premises.{TrueVerdicts, TrueFor, TrueAt, eventCard, Accepted, CardOfRun, FewFaulty, Premises}
 use Rattle.wire.specs.Acceptance.{Sender, replica, client}
 use Rattle.run.specs.Run.{Event, begins-write, begins-read, to-replica, to-client, partyOf, HasBytes, CorrectIn, Run, event, answerTo, answerAt, At, Sent}
 use Rattle.wire.specs.Decode.{decode}
@@ -106,7 +107,7 @@ lineOf lines t e found = go (getElem? lines t) refl
         let there : some (line .event) ≡ some e = sym (ap eventIn at) ∙ sym (event-in t lines) ∙ found in
         (line, at, cc)
 
--- ---- A run from its lines: its bytes are bytes, and its events are at correct parties
+-- ---- A run from its lines: its bytes are bytes, writers begin its writes, and its events are at correct parties
 
 unfoldable pub allBytes : List ℕ → Bool
 allBytes [] = true
@@ -132,6 +133,12 @@ has-bytes (begins-read id) h = tt
 has-bytes (to-replica id bytes verdicts) h = all-bytes bytes h
 has-bytes (to-client id bytes verdicts) h = all-bytes bytes h
 
+abbrev writerBegins : Event → Bool
+writerBegins (begins-write id card) = isWriter id
+writerBegins (begins-read id) = true
+writerBegins (to-replica id bytes verdicts) = true
+writerBegins (to-client id bytes verdicts) = true
+
 abbrev pub correctIn : (ReplicaId → Bool) → (ClientId → Bool) → Sender → Bool
 correctIn replicas clients (replica id) = replicas id
 correctIn replicas clients (client id) = clients id
@@ -152,15 +159,17 @@ abbrev pub clientsTo : ℕ → ClientId → Bool
 clientsTo c id = within 1 c (id .0)
 
 abbrev pub wellTold : ℕ → ℕ → ℕ → Line → Bool
-wellTold r c t line = hasBytes (line .event) && correctIn (replicasTo r) (clientsTo c) (partyOf (line .event))
+wellTold r c t line = hasBytes (line .event) && (writerBegins (line .event) && correctIn (replicasTo r) (clientsTo c) (partyOf (line .event)))
 
-module _ (r c : ℕ) (at-most-four : r ≤ 4) (at-most-64 : c ≤ 64) (lines : List Line) (good : each (wellTold r c) 0 lines ≡ true) where
-  pub well-told : (t : ℕ) (e : Event) → getElem? (eventsOf lines) t ≡ some e → (hasBytes e ≡ true) × (correctIn (replicasTo r) (clientsTo c) (partyOf e) ≡ true)
+module _ (r c : ℕ) (at-most-four : r ≤ 4) (at-most-96 : c ≤ 96) (lines : List Line) (good : each (wellTold r c) 0 lines ≡ true) where
+  pub well-told : (t : ℕ) (e : Event) → getElem? (eventsOf lines) t ≡ some e → (hasBytes e ≡ true) × (writerBegins e ≡ true) × (correctIn (replicasTo r) (clientsTo c) (partyOf e) ≡ true)
   well-told t e found =
       let at = lineOf lines t e found in
       let test = each-tested (wellTold r c) t lines (at .0) good (at .1) in
       let here : wellTold r c t (record { event = e; answer = at .0 .answer }) ≡ true = subst (λ (x : Event). wellTold r c t (record { event = x; answer = at .0 .answer }) ≡ true) (at .2) test in
-      and-true-both (hasBytes e) (correctIn (replicasTo r) (clientsTo c) (partyOf e)) here
+      let both = and-true-both (hasBytes e) (writerBegins e && correctIn (replicasTo r) (clientsTo c) (partyOf e)) here in
+      let rest = and-true-both (writerBegins e) (correctIn (replicasTo r) (clientsTo c) (partyOf e)) (both .1) in
+      (both .0, rest .0, rest .1)
 
   abbrev pub told : Run
   told =
@@ -172,9 +181,10 @@ module _ (r c : ℕ) (at-most-four : r ≤ 4) (at-most-64 : c ≤ 64) (lines : L
         events = eventsOf lines;
         f-in-range = inside 1 5 1 (lit≤ tt) (lit≤ tt);
         replicas-in-range = λ id h. let b = bounds 1 r (id .0) h in inside 1 4 (id .0) (b .0) (omega arith);
-        clients-in-range = λ id h. let b = bounds 1 c (id .0) h in (inside 1 64 (id .0) (b .0) (omega arith), lit≤ tt, lit< tt);
+        clients-in-range = λ id h. let b = bounds 1 c (id .0) h in (inside 1 96 (id .0) (b .0) (omega arith), lit≤ tt, lit< tt);
+        writers-begin = λ t id card found. well-told t (begins-write id card) found .1;
         have-bytes = λ t e found. has-bytes e (well-told t e found .0);
-        at-correct = λ t e found. correct-in (replicasTo r) (clientsTo c) (partyOf e) (well-told t e found .1);
+        at-correct = λ t e found. correct-in (replicasTo r) (clientsTo c) (partyOf e) (well-told t e found .2);
       }
 
 -- ---- Who sent what
@@ -364,6 +374,10 @@ module _ (R : Run) (lines : List Line) (told : Told R lines) where
   different-digests cards no-other right all card card′ of-run of-run′ e =
       different cards card card′ right all (is-one cards card (known cards card no-other of-run)) (is-one cards card′ (known cards card′ no-other of-run′)) e
 
+  pub premises-told : (cards : List Known) → FewFaulty R → AllTrue R lines → NoOtherCards R lines cards → rightDigests cards ≡ true → differentDigests cards ≡ true → Premises R
+  premises-told cards few-faulty all-true no-other right all =
+      record { few-faulty = few-faulty; true-verdicts = true-verdicts all-true; different-digests = different-digests cards no-other right all }
+
   -- ---- Between two events
 
   between : (good : List ℕ → Bool) (party : Sender) (begun finished : ℕ) → AllBetween lines good party begun finished → (t : ℕ) → begun < t → t < finished → At R t party → good (code (answerAt R t)) ≡ true
@@ -400,25 +414,53 @@ module _ (R : Run) (lines : List Line) (told : Told R lines) where
   pub refused-told : (t : ℕ) (e : Event) (number : ℕ) → getElem? lines t ≡ some (e ↛ number) → answerAt R t ≡ refused number
   refused-told t e number at = is-refused (answerAt R t) number (answer-told t (e ↛ number) at)
 
-  -- An operation that begins and is done, with neither done nor ended between.
-  unfoldable pub finished-told : (w : Bool) (id : ClientId) (begun finished : ℕ) (first last : Event) (answer : Answer) (timestamp : Timestamp) (card : List ℕ)
-      → Begins R w id (some first) → getElem? lines begun ≡ some (first ↝ answer) → begun < finished
-      → getElem? lines finished ≡ some (last ↝ done timestamp card) → partyOf last ≡ client id → AllBetween lines goesOn (client id) begun finished → Finished R
-  finished-told w id begun finished first last answer timestamp card begins begun-at after done-at by all =
-      record {
-        id = id;
-        is-write = w;
-        begun = begun;
-        finished = finished;
-        timestamp = timestamp;
-        card = card;
-        begins = subst (Begins R w id) (sym (event-told begun (first ↝ answer) begun-at)) begins;
-        not-refused = is-accepted (answerAt R begun) answer (answer-told begun (first ↝ answer) begun-at);
-        after = after;
-        at-client = (last, event-told finished (last ↝ done timestamp card) done-at, by);
-        is-done = done-told finished last timestamp card done-at;
-        none-between = none-between id begun finished all;
-      }
+  -- A client's operation that begins and is done, with neither done nor ended between: a writer's, and a view.
+  module _ (id : ClientId) (begun finished : ℕ) (first last : Event) (answer : Answer) (timestamp : Timestamp) (card : List ℕ)
+      (begun-at : getElem? lines begun ≡ some (first ↝ answer)) (after : begun < finished)
+      (done-at : getElem? lines finished ≡ some (last ↝ done timestamp card)) (by : partyOf last ≡ client id) (all : AllBetween lines goesOn (client id) begun finished) where
+    pub begins-told : (w : Bool) → Begins R w id (some first) → Begins R w id (event R begun)
+    begins-told w begins = subst (Begins R w id) (sym (event-told begun (first ↝ answer) begun-at)) begins
+
+    pub not-refused-told : Accepted R begun
+    not-refused-told = is-accepted (answerAt R begun) answer (answer-told begun (first ↝ answer) begun-at)
+
+    pub done-by : At R finished (client id)
+    done-by = (last, event-told finished (last ↝ done timestamp card) done-at, by)
+
+    unfoldable pub finished-told : (w : Bool) → Begins R w id (some first) → isWriter id ≡ true → Finished R
+    finished-told w begins by-writer =
+        record {
+          id = id;
+          by-writer = by-writer;
+          is-write = w;
+          begun = begun;
+          finished = finished;
+          timestamp = timestamp;
+          card = card;
+          begins = begins-told w begins;
+          not-refused = not-refused-told;
+          after = after;
+          at-client = done-by;
+          is-done = done-told finished last timestamp card done-at;
+          none-between = none-between id begun finished all;
+        }
+
+    unfoldable pub viewed-told : Begins R false id (some first) → isViewer id ≡ true → Viewed R
+    viewed-told begins by-viewer =
+        record {
+          id = id;
+          by-viewer = by-viewer;
+          begun = begun;
+          finished = finished;
+          timestamp = timestamp;
+          card = card;
+          begins = begins-told false begins;
+          not-refused = not-refused-told;
+          after = after;
+          at-client = done-by;
+          is-done = done-told finished last timestamp card done-at;
+          none-between = none-between id begun finished all;
+        }
 
   -- A prepared proof that passes 9 to 11 with verdicts that are true at the end of the run.
   pub genuine-told : (proof : PreparedProof) (verdicts : List ℕ) → allBytes (preparedBytes proof) ≡ true → readPrepared (preparedBytes proof) ≡ accepted proof

@@ -3,7 +3,7 @@ use mathlib.Core.Path.{_≡_, refl}
 use mathlib.Core.Logic.{inl}
 use mathlib.Core.Bool.{true, false, not}
 use mathlib.Core.List.{List, [], _∷_}
-use mathlib.Core.Option.{none, some}
+use mathlib.Core.Option.{some}
 use Prim.Native.Nat.{ℕ, _≤_}
 use lib.Dec.{lit<, lit≤}
 use Rattle.base.specs.Counting.{count}
@@ -11,7 +11,6 @@ use Rattle.base.specs.Party.{replicaCount}
 use Rattle.base.specs.Range.{within}
 use Rattle.base.specs.Timestamp.{start}
 use Rattle.base.specs.declared.party.ReplicaId.{ReplicaId}
-use Rattle.base.specs.declared.timestamp.Timestamp.{Timestamp}
 use Rattle.protocol.specs.Client.{send, waits, done}
 use Rattle.protocol.specs.Parts.{startCard}
 use Rattle.run.proofs.Demand3.{demand-3}
@@ -22,7 +21,7 @@ use Rattle.wire.specs.Message.{Message, READ, CARD}
 use Rattle.wire.specs.Proof.{PreparedProof}
 use Rattle.wire.specs.Sha256.{sha256}
 use Rattle.witness.proofs.Answers.{code}
-use Rattle.witness.proofs.Cast.{replica-1, replica-2, replica-3, client-1, client-2, 1·1, entry, from-replica, one, four, service, service-digest, cards, right-digests, different-cards}
+use Rattle.witness.proofs.Cast.{replica-1, replica-2, replica-3, client-1, client-2, 1·1, at-1·1, entry, from-replica, stale, one, four, service, service-digest, cards, right-digests, different-cards}
 use Rattle.witness.proofs.Computing.{messages, steps, digests}
 use Rattle.witness.proofs.Replay.{plays, freshStore, played}
 use Rattle.witness.proofs.Story.{Line, _↝_, each, wellTold, told, Told, hasBytes, NoOtherCards, different-digests, finished-told}
@@ -36,28 +35,22 @@ pub record VerdictsNeeded : Type 0 where
 
 -- ---- What happens: client 1 reads 1.1 and then client 2 reads 0.0, although nobody wrote
 
-abbrev timestamp : Timestamp
-timestamp = record { count = 1; client = client-1 }
-
 abbrev proof : PreparedProof
 proof = record { timestamp = 1·1; digest = service-digest; entries = entry replica-1 ∷ entry replica-2 ∷ entry replica-3 ∷ [] }
 
 abbrev later : ReplicaId → Message
 later id = CARD id 1 service (some proof) client-1
 
-abbrev stale : ReplicaId → Message
-stale id = CARD id 1 startCard none client-2
-
 story : List Line
 story =
     begins-read client-1 ↝ send (READ client-1 1)
     ∷ to-client client-1 (from-replica replica-1 later) four ↝ waits
     ∷ to-client client-1 (from-replica replica-2 later) four ↝ waits
-    ∷ to-client client-1 (from-replica replica-3 later) four ↝ done timestamp service
+    ∷ to-client client-1 (from-replica replica-3 later) four ↝ done at-1·1 service
     ∷ begins-read client-2 ↝ send (READ client-2 1)
-    ∷ to-client client-2 (from-replica replica-1 stale) one ↝ waits
-    ∷ to-client client-2 (from-replica replica-2 stale) one ↝ waits
-    ∷ to-client client-2 (from-replica replica-3 stale) one ↝ done start startCard
+    ∷ to-client client-2 (from-replica replica-1 (stale 1 client-2)) one ↝ waits
+    ∷ to-client client-2 (from-replica replica-2 (stale 1 client-2)) one ↝ waits
+    ∷ to-client client-2 (from-replica replica-3 (stale 1 client-2)) one ↝ done start startCard
     ∷ []
 
 well-told : each (wellTold 4 2) 0 story ≡ true
@@ -67,13 +60,13 @@ well-told = refl
 run : Run
 run = told 4 2 (lit≤ tt) (lit≤ tt) story well-told
 
-answers-as-told : plays (freshStore run) story ≡ true
+answers-as-told : plays (freshStore run 2) story ≡ true
 unfolding run story steps digests plays
 answers-as-told = refl
 
 as-told : Told run story
 unfolding run
-as-told = played run story refl answers-as-told
+as-told = played run 2 story refl answers-as-told
 
 no-other-cards : NoOtherCards run story cards
 unfolding story messages cards
@@ -81,11 +74,11 @@ no-other-cards = refl
 
 finished-later : Finished run
 unfolding story code messages
-finished-later = finished-told run story as-told false client-1 0 3 _ _ _ timestamp service refl refl (lit< tt) refl refl refl
+finished-later = finished-told run story as-told client-1 0 3 _ _ _ at-1·1 service refl (lit< tt) refl refl refl false refl refl
 
 finished-stale : Finished run
 unfolding story code messages
-finished-stale = finished-told run story as-told false client-2 4 7 _ _ _ start startCard refl refl (lit< tt) refl refl refl
+finished-stale = finished-told run story as-told client-2 4 7 _ _ _ start startCard refl (lit< tt) refl refl refl false refl refl
 
 pub verdicts-needed : VerdictsNeeded
 unfolding run count within finished-told finished-later finished-stale

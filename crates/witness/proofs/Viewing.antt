@@ -1,0 +1,157 @@
+-- A run at f = 1 that meets the premises, with one write and three views: they fall back while the write is under way, and show it when it is done. Assumes nothing.
+use mathlib.Core.Path.{_≡_, refl}
+use mathlib.Core.Bool.{true, false≢true}
+use mathlib.Core.List.{List, [], _∷_, _++_}
+use mathlib.Core.Option.{some}
+use Prim.Native.Nat.{ℕ, _≤_, _<_}
+use lib.Dec.{lit<, lit≤}
+use Rattle.base.specs.Counting.{count}
+use Rattle.base.specs.Range.{within}
+use Rattle.base.specs.Timestamp.{number, start}
+use Rattle.base.specs.declared.party.ClientId.{ClientId}
+use Rattle.base.specs.declared.party.ReplicaId.{ReplicaId}
+use Rattle.protocol.specs.Client.{Answer, send, waits, done}
+use Rattle.protocol.specs.Parts.{startCard}
+use Rattle.run.proofs.Demand3.{demand-3}
+use Rattle.run.specs.Claims.{Finished, Viewed}
+use Rattle.run.specs.Premises.{Premises}
+use Rattle.run.specs.Run.{begins-read, to-replica, to-client, Run, event, Correct}
+use Rattle.wire.specs.Acceptance.{replica}
+use Rattle.wire.specs.Message.{Message, READ}
+use Rattle.witness.proofs.Answers.{code}
+use Rattle.witness.proofs.Cast.{replica-1, replica-2, replica-3, replica-4, client-1, viewer-65, at-1·1, from-replica, from-client, stale, one, four, service, cards, right-digests, different-cards}
+use Rattle.witness.proofs.Computing.{messages, steps, digests}
+use Rattle.witness.proofs.FirstWrite.{shows, write-under-way, write-done}
+use Rattle.witness.proofs.Replay.{plays, freshStore, played}
+use Rattle.witness.proofs.Story.{Line, _↝_, each, wellTold, told, Told, hasBytes, NoOtherCards, AllTrue, trueVerdicts, premises-told, finished-told, viewed-told}
+
+-- A view begun after a write was done shows that write, although the CARD that makes its quorum is a faulty replica's and shows 0.0.
+pub record ShowsWrite (R : Run) : Type 0 where
+  pub write : Finished R
+  pub write-is : (write .is-write ≡ true) × (write .timestamp ≡ at-1·1) × (write .card ≡ service)
+  pub view : Viewed R
+  pub begun-after : write .finished < view .begun
+  pub faulty : ReplicaId
+  pub is-faulty : Correct R (replica faulty) → ⊥
+  pub nonce : ℕ
+  pub last-card : event R (view .finished) ≡ some (to-client (view .id) (from-replica faulty (stale nonce (view .id))) one)
+  pub view-shows : (view .timestamp ≡ at-1·1) × (view .card ≡ service)
+
+-- While a write is under way a view shows its timestamp, and the viewing client's next view an earlier one. In an order by
+-- timestamps the second view would lie before the first, which was done before it began.
+pub record FallsBack (R : Run) : Type 0 where
+  pub write : Finished R
+  pub is-write : write .is-write ≡ true
+  pub first : Viewed R
+  pub second : Viewed R
+  pub one-client : first .id ≡ second .id
+  pub under-way : (write .begun < first .begun) × (second .finished < write .finished)
+  pub same-timestamp : first .timestamp ≡ write .timestamp
+  pub begun-after : first .finished < second .begun
+  pub earlier : number (second .timestamp) < number (first .timestamp)
+
+-- ---- What happens: replicas 1 to 3 and clients 1 to 65 are correct
+
+-- A view, of six events: replicas a and b are asked, and b shows 0.0. So does replica 4, which is faulty and makes the quorum.
+abbrev view : ℕ → ReplicaId → (ℕ → ClientId → ReplicaId → Message) → List ℕ → ReplicaId → Answer → List Line
+view nonce a card verdicts b shown =
+    begins-read viewer-65 ↝ send (READ viewer-65 nonce)
+    ∷ to-replica a (from-client viewer-65 (READ viewer-65 nonce)) one ↝ send (card nonce viewer-65 a)
+    ∷ to-replica b (from-client viewer-65 (READ viewer-65 nonce)) one ↝ send (stale nonce viewer-65 b)
+    ∷ to-client viewer-65 (from-replica a (card nonce viewer-65)) verdicts ↝ waits
+    ∷ to-client viewer-65 (from-replica b (stale nonce viewer-65)) one ↝ waits
+    ∷ to-client viewer-65 (from-replica replica-4 (stale nonce viewer-65)) one ↝ shown
+    ∷ []
+
+story : List Line
+unfolding write-under-way write-done
+story =
+    -- 0 to 11: client 1 writes 1.1, and its WRITE has reached replica 1.
+    write-under-way
+    -- 12 to 17: replica 1 shows 1.1.
+    ++ view 1 replica-1 shows four replica-2 (done at-1·1 service)
+    -- 18 to 23: replicas 2 and 3 show 0.0.
+    ++ view 2 replica-2 stale one replica-3 (done start startCard)
+    -- 24 to 27: the WRITE reaches replica 2, and the write is done.
+    ++ write-done
+    -- 28 to 33: replica 2 shows 1.1, and replica 3 still 0.0.
+    ++ view 3 replica-2 shows four replica-3 (done at-1·1 service)
+
+well-told : each (wellTold 3 65) 0 story ≡ true
+unfolding story messages hasBytes
+well-told = refl
+
+pub run : Run
+run = told 3 65 (lit≤ tt) (lit≤ tt) story well-told
+
+answers-as-told : plays (freshStore run 65) story ≡ true
+unfolding run story steps digests plays
+answers-as-told = refl
+
+as-told : Told run story
+unfolding run
+as-told = played run 65 story refl answers-as-told
+
+verdicts-true : AllTrue run story
+unfolding run story messages trueVerdicts
+verdicts-true = refl
+
+no-other-cards : NoOtherCards run story cards
+unfolding story messages cards
+no-other-cards = refl
+
+pub premises : Premises run
+unfolding run count within
+premises = premises-told run story as-told cards (lit≤ tt) verdicts-true no-other-cards right-digests different-cards
+
+-- ---- The write and the views
+
+write : Finished run
+unfolding story code messages
+write = finished-told run story as-told client-1 0 27 _ _ _ at-1·1 service refl (lit< tt) refl refl refl true (service, refl) refl
+
+first-view : Viewed run
+unfolding story code messages
+first-view = viewed-told run story as-told viewer-65 12 17 _ _ _ at-1·1 service refl (lit< tt) refl refl refl refl refl
+
+second-view : Viewed run
+unfolding story code messages
+second-view = viewed-told run story as-told viewer-65 18 23 _ _ _ start startCard refl (lit< tt) refl refl refl refl refl
+
+third-view : Viewed run
+unfolding story code messages
+third-view = viewed-told run story as-told viewer-65 28 33 _ _ _ at-1·1 service refl (lit< tt) refl refl refl refl refl
+
+pub shows-write : ShowsWrite run
+unfolding run story within finished-told viewed-told write third-view
+shows-write =
+    record {
+      write = write;
+      write-is = (refl, refl, refl);
+      view = third-view;
+      begun-after = lit< tt;
+      faulty = replica-4;
+      is-faulty = λ correct. false≢true correct;
+      nonce = 3;
+      last-card = refl;
+      view-shows = (refl, refl);
+    }
+
+-- The claim about views, at this one.
+pub not-earlier : number (shows-write .write .timestamp) ≤ number (shows-write .view .timestamp)
+not-earlier = demand-3 run premises .view-after (shows-write .write) (shows-write .view) (shows-write .begun-after)
+
+pub falls-back : FallsBack run
+unfolding finished-told viewed-told write first-view second-view
+falls-back =
+    record {
+      write = write;
+      is-write = refl;
+      first = first-view;
+      second = second-view;
+      one-client = refl;
+      under-way = (lit< tt, lit< tt);
+      same-timestamp = refl;
+      begun-after = lit< tt;
+      earlier = lit< tt;
+    }
