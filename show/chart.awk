@@ -69,7 +69,7 @@ function survey(    n, word) {
         take(n)
         if (says == "new") section++
         if (says == "ready" && split(line[n], word, " ") == 3) note_party("replica " word[3])
-        if (call == "write" || call == "read" || call == "to-client") note_party(whom)
+        if (begins_operation(call) || call == "to-client") note_party(whom)
         if (number_of(handed) && says != "unread") arrives[section, number_of(handed), whom] = 1
     }
     section = 0
@@ -201,7 +201,7 @@ function sends(client,    i, hex) {
 }
 
 function begins(client,    what, i) {
-    what = call == "write" ? "write " in_words(text) : "read"
+    what = call == "write" ? "write " in_words(text) : call
     box(says == "refused" ? "wrong" : "begin", client, what (says == "refused" ? ": " said : ""))
     if (says != "sent") return
     reading[client] = call == "read"
@@ -217,7 +217,7 @@ function rows(    n) {
         else if (says == "unread") caption("unread", "unread: " line[n])
         else if (call == "to-replica") n = replica_row(n)
         else if (call == "to-client") n = client_row(n)
-        else if (call == "write" || call == "read") begins(whom)
+        else if (begins_operation(call)) begins(whom)
         else if (call == "keep") box("disk", whom, "image taken")
         else if (call == "restore") box("disk", whom, "back from its image")
         else if (says == "refused") caption("unread", line[n] ": " said)

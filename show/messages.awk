@@ -54,6 +54,11 @@ function named(hex) {
 # The party that sent a message, by what it says itself.
 function source(hex) { return (kind(hex) > 4 ? "replica " : "client ") sender(hex) }
 
+function begins_operation(call) { return call == "write" || call == "read" || call == "view" }
+
+# A viewing client stands among the clients: its number tells it from a writer.
+function role(name) { return name == "viewer" ? "client" : name }
+
 # Takes a line apart: call and whom it is about, the card of a write (text), the message that is handed over; and its answer.
 # Remembers what was sent.
 function take(n,    word, from) {
@@ -63,14 +68,15 @@ function take(n,    word, from) {
     whom = ""
     message = ""
     handed = ""
-    if (call == "to-replica" || call == "to-client") {
-        whom = substr(call, 4) " " word[from + 2]
+    if (call == "to-replica" || call == "to-client" || call == "to-viewer") {
+        whom = role(substr(call, 4)) " " word[from + 2]
+        call = "to-" role(substr(call, 4))
         handed = word[from + 3]
         message = substr(handed, 1, 1) == "@" ? sent[substr(handed, 2) + 0] : handed
-    } else if (call == "write" || call == "read")
+    } else if (begins_operation(call))
         whom = "client " word[from + 2]
     else if (call == "keep" || call == "restore")
-        whom = word[from + 2] " " word[from + 3]
+        whom = role(word[from + 2]) " " word[from + 3]
     text = call == "write" ? word[from + 3] : ""
     said = answer[n]
     split(said, word, " ")

@@ -1,1 +1,2 @@
-// Concrete runs: the theorem about runs is not empty, and its bound and its true verdicts are needed. This crate has no code.
+// Concrete runs: the theorem about runs is not empty, its bound and its true verdicts are needed, and views fall back. This crate
+// has no code.
