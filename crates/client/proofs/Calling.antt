@@ -20,9 +20,9 @@ use Rattle.protocol.specs.declared.client.Client.{Client}
 use Rattle.protocol.specs.declared.client.ClientAnswer.the-variants.{Refused}
 use Rattle.protocol.specs.declared.client.Phase.the-variants.{Stamps, Cards}
 use Rattle.protocol.proofs.Calls.{long-output, short-output}
-use Rattle.client.specs.Aims.{hears, hearing}
-use Rattle.client.specs.declared.read.Aim.{Aim}
-use Rattle.client.specs.declared.read.Aim.the-variants.{Read, View}
+use Rattle.client.specs.Roles.{roleStep, roleCall}
+use Rattle.client.specs.declared.role.Role.{Role}
+use Rattle.client.specs.declared.role.Role.the-variants.{Ordinary, Viewing}
 use Rattle.client.specs.Leaving.{callOf, plain}
 use Rattle.client.specs.Stepping.{Calls}
 use Rattle.client.specs.declared.Stepped.{Stepped}
@@ -60,11 +60,11 @@ module _ (client : Client) (old : List ℕ) (stepped : Stepped) (new : List ℕ)
   unfolding beginReadCall
   read-calls e = calls (withOutput old (beginRead client)) (short-read client old) e
 
-  pub step-calls : (aim : Aim) (bytes verdicts : List ℕ) → callOf stepped new ≡ clientAnswers client old (withOutput old (hears aim client bytes verdicts))
-      → Calls (hearing aim client bytes verdicts old) (withOutput old (hears aim client bytes verdicts)) stepped new
+  pub step-calls : (role : Role) (bytes verdicts : List ℕ) → callOf stepped new ≡ clientAnswers client old (withOutput old (roleStep role client bytes verdicts))
+      → Calls (roleCall role client bytes verdicts old) (withOutput old (roleStep role client bytes verdicts)) stepped new
   unfolding clientCall viewerCall
-  step-calls Read bytes verdicts e = calls (withOutput old (clientStep client bytes verdicts)) (short-step client old Read bytes verdicts) e
-  step-calls View bytes verdicts e = calls (withOutput old (viewerStep client bytes verdicts)) (short-step client old View bytes verdicts) e
+  step-calls Ordinary bytes verdicts e = calls (withOutput old (clientStep client bytes verdicts)) (short-step client old Ordinary bytes verdicts) e
+  step-calls Viewing bytes verdicts e = calls (withOutput old (viewerStep client bytes verdicts)) (short-step client old Viewing bytes verdicts) e
 
   -- An output that is long enough.
   pub behind-output : (step after : Outcome Turn) → longest ≤ length old → step ≡ after → callOf stepped new ≡ clientAnswers client old after → callOf stepped new ≡ clientAnswers client old (withOutput old step)

@@ -29,9 +29,9 @@ use Rattle.protocol.specs.Client.{onStamp, onPrepared, onWritten, onCard, onRep
 use Rattle.protocol.specs.Parts.{cardStands, startCard}
 use Rattle.protocol.specs.Viewer.{onViewerReply, viewerStep}
 use Rattle.protocol.specs.declared.client.Client.{Client}
-use Rattle.client.specs.Aims.{afterCards, hears}
-use Rattle.client.specs.declared.read.Aim.{Aim}
-use Rattle.client.specs.declared.read.Aim.the-variants.{Read, View}
+use Rattle.client.specs.Roles.{afterCards, roleStep}
+use Rattle.client.specs.declared.role.Role.{Role}
+use Rattle.client.specs.declared.role.Role.the-variants.{Ordinary, Viewing}
 use Rattle.client.specs.Messages.{afterTests, Passing}
 
 -- A card that passes 14 has at most 17 bytes.
@@ -40,49 +40,49 @@ standing-short card none e = rw (same-equal card startCard e) (omega arith)
 standing-short card (some proof) e = card-short card (and-true-both (isCard card) (same (sha256 card) (proof .digest)) e .0)
 
 -- The step is what follows for the message that was let through.
-pub passed-step : (aim : Aim) (client : Client) (bytes verdicts : List ℕ) (fields : Fields) → acceptance AtClient (client .f) bytes verdicts ≡ accepted fields
-    → hears aim client bytes verdicts ≡ afterTests aim client bytes
+pub passed-step : (role : Role) (client : Client) (bytes verdicts : List ℕ) (fields : Fields) → acceptance AtClient (client .f) bytes verdicts ≡ accepted fields
+    → roleStep role client bytes verdicts ≡ afterTests role client bytes
 unfolding afterTests clientStep viewerStep
-passed-step Read client bytes verdicts fields e =
+passed-step Ordinary client bytes verdicts fields e =
     let found = acceptance-accepted AtClient (client .f) bytes verdicts fields e in
     rw (admitted-passed AtClient (client .f) bytes verdicts (found .0) (found .1) .decodes, found .1)
-passed-step View client bytes verdicts fields e =
+passed-step Viewing client bytes verdicts fields e =
     let found = acceptance-accepted AtClient (client .f) bytes verdicts fields e in
     rw (admitted-passed AtClient (client .f) bytes verdicts (found .0) (found .1) .decodes, found .1)
 
-pub step-refused : (aim : Aim) (client : Client) (bytes verdicts : List ℕ) (n : ℕ) → acceptance AtClient (client .f) bytes verdicts ≡ refused n → hears aim client bytes verdicts ≡ refused n
+pub step-refused : (role : Role) (client : Client) (bytes verdicts : List ℕ) (n : ℕ) → acceptance AtClient (client .f) bytes verdicts ≡ refused n → roleStep role client bytes verdicts ≡ refused n
 unfolding clientStep viewerStep
-step-refused Read client bytes verdicts n e = rw (acceptance-refused AtClient (client .f) bytes verdicts n e)
-step-refused View client bytes verdicts n e = rw (acceptance-refused AtClient (client .f) bytes verdicts n e)
+step-refused Ordinary client bytes verdicts n e = rw (acceptance-refused AtClient (client .f) bytes verdicts n e)
+step-refused Viewing client bytes verdicts n e = rw (acceptance-refused AtClient (client .f) bytes verdicts n e)
 
 module _ (client : Client) (bytes : List ℕ) (fields : Fields) (p : Passing (client .f) bytes fields) where
-  pub stamp-step : fields .kind ≡ 5 → afterTests Read client bytes ≡ onStamp client (replica (fields .sender)) (fields .nonce) (preparedPart (partAt bytes (fields .prepared))) (fields .addressed) (client .phase)
+  pub stamp-step : fields .kind ≡ 5 → afterTests Ordinary client bytes ≡ onStamp client (replica (fields .sender)) (fields .nonce) (preparedPart (partAt bytes (fields .prepared))) (fields .addressed) (client .phase)
   unfolding afterTests onReply
   stamp-step k = rw (handed-stamp (client .f) bytes (p .verdicts) fields (p .passes) k .decodes)
 
   pub prepared-step : fields .kind ≡ 6
-      → afterTests Read client bytes ≡ onPrepared client (replica (fields .sender)) (number (fields .timestamp)) (partAt bytes (fields .digest)) (partAt bytes (fields .signature)) (client .phase)
+      → afterTests Ordinary client bytes ≡ onPrepared client (replica (fields .sender)) (number (fields .timestamp)) (partAt bytes (fields .digest)) (partAt bytes (fields .signature)) (client .phase)
   unfolding afterTests onReply
   prepared-step k =
       rw (handed-prepared (client .f) bytes (p .verdicts) fields (p .passes) k .decodes)
       (ap (λ (own : List ℕ). onPrepared client (replica (fields .sender)) (number (fields .timestamp)) (partAt bytes (fields .digest)) own (client .phase)) (sym (signature-is AtClient (client .f) bytes (p .verdicts) fields (p .passes))))
 
-  pub written-step : fields .kind ≡ 7 → afterTests Read client bytes ≡ onWritten client (replica (fields .sender)) (number (fields .timestamp)) (partAt bytes (fields .signature)) (client .phase)
+  pub written-step : fields .kind ≡ 7 → afterTests Ordinary client bytes ≡ onWritten client (replica (fields .sender)) (number (fields .timestamp)) (partAt bytes (fields .signature)) (client .phase)
   unfolding afterTests onReply
   written-step k =
       rw (handed-written (client .f) bytes (p .verdicts) fields (p .passes) k .decodes)
       (ap (λ (own : List ℕ). onWritten client (replica (fields .sender)) (number (fields .timestamp)) own (client .phase)) (sym (signature-is AtClient (client .f) bytes (p .verdicts) fields (p .passes))))
 
-  pub card-step : (aim : Aim) → fields .kind ≡ 8
-      → afterTests aim client bytes
+  pub card-step : (role : Role) → fields .kind ≡ 8
+      → afterTests role client bytes
       ≡ guard 14 (cardStands (cardAt bytes (fields .card)) (preparedPart (partAt bytes (fields .prepared))))
-      (onCard (afterCards aim) client (replica (fields .sender)) (fields .nonce) (cardAt bytes (fields .card)) (preparedPart (partAt bytes (fields .prepared))) (fields .addressed) (client .phase))
+      (onCard (afterCards role) client (replica (fields .sender)) (fields .nonce) (cardAt bytes (fields .card)) (preparedPart (partAt bytes (fields .prepared))) (fields .addressed) (client .phase))
   unfolding afterTests onReply onViewerReply
-  card-step Read k = rw (handed-card (client .f) bytes (p .verdicts) fields (p .passes) k .decodes)
-  card-step View k = rw (handed-card (client .f) bytes (p .verdicts) fields (p .passes) k .decodes)
+  card-step Ordinary k = rw (handed-card (client .f) bytes (p .verdicts) fields (p .passes) k .decodes)
+  card-step Viewing k = rw (handed-card (client .f) bytes (p .verdicts) fields (p .passes) k .decodes)
 
   -- A view awaits no other kind.
-  pub no-view : (fields .kind ≡ 8 → ⊥) → afterTests View client bytes ≡ refused 18
+  pub no-view : (fields .kind ≡ 8 → ⊥) → afterTests Viewing client bytes ≡ refused 18
   unfolding afterTests onViewerReply
   no-view other =
       ⊎-elim (λ k. rw (handed-stamp (client .f) bytes (p .verdicts) fields (p .passes) k .decodes))

@@ -23,9 +23,9 @@ use Rattle.protocol.specs.declared.client.Client.{Client}
 use Rattle.protocol.specs.declared.client.Phase.{Phase}
 use Rattle.protocol.specs.declared.client.Phase.the-variants.{Idle, Stamps, Prepareds, Writtens, Cards, WriteBack}
 use Rattle.protocol.proofs.ArrayLaws.{card-in-short}
-use Rattle.client.specs.Aims.{afterCards, hears}
-use Rattle.client.specs.declared.read.Aim.{Aim}
-use Rattle.client.specs.declared.read.Aim.the-variants.{Read, View}
+use Rattle.client.specs.Roles.{afterCards, roleStep}
+use Rattle.client.specs.declared.role.Role.{Role}
+use Rattle.client.specs.declared.role.Role.the-variants.{Ordinary, Viewing}
 
 pub data Short : Outcome Turn → Type 0 where
   refuses : {number : ℕ} → Short (refused number)
@@ -81,25 +81,25 @@ short-written client sender timestamp signature (Writtens asked held) = short-gu
 short-written client sender timestamp signature (Cards asked best held showed) = refuses
 short-written client sender timestamp signature (WriteBack asked held) = short-guard 18 _ _ (short-cond (isQuorum (client .f) (with held sender)) _ _ (finishes (short-card client)) waiting)
 
-short-enough : (aim : Aim) (best : Timestamp) (showed : ReplicaSet) (client : Client) → Short (afterCards aim best showed client)
+short-enough : (role : Role) (best : Timestamp) (showed : ReplicaSet) (client : Client) → Short (afterCards role best showed client)
 unfolding afterCard afterView
-short-enough Read best showed client = short-cond (isQuorum (client .f) showed) _ _ (finishes (short-card client)) sends
-short-enough View best showed client = finishes (short-card client)
+short-enough Ordinary best showed client = short-cond (isQuorum (client .f) showed) _ _ (finishes (short-card client)) sends
+short-enough Viewing best showed client = finishes (short-card client)
 
-short-cards : (aim : Aim) (nonce : ℕ) (best : Timestamp) (held showed : ReplicaSet) (client : Client) → Short (countCard (afterCards aim) nonce best held showed client)
+short-cards : (role : Role) (nonce : ℕ) (best : Timestamp) (held showed : ReplicaSet) (client : Client) → Short (countCard (afterCards role) nonce best held showed client)
 unfolding countCard
-short-cards aim nonce best held showed client = short-cond (isQuorum (client .f) held) _ _ (short-enough aim best showed client) waiting
+short-cards role nonce best held showed client = short-cond (isQuorum (client .f) held) _ _ (short-enough role best showed client) waiting
 
-short-on-card : (aim : Aim) (client : Client) (sender : ReplicaId) (nonce : ℕ) (card : List ℕ) (proof : Option PreparedProof) (addressed : ClientId) (phase : Phase)
-    → Short (onCard (afterCards aim) client sender nonce card proof addressed phase)
+short-on-card : (role : Role) (client : Client) (sender : ReplicaId) (nonce : ℕ) (card : List ℕ) (proof : Option PreparedProof) (addressed : ClientId) (phase : Phase)
+    → Short (onCard (afterCards role) client sender nonce card proof addressed phase)
 unfolding onCard
-short-on-card aim client sender nonce card proof addressed Idle = refuses
-short-on-card aim client sender nonce card proof addressed (Stamps asked best held) = refuses
-short-on-card aim client sender nonce card proof addressed (Prepareds asked held) = refuses
-short-on-card aim client sender nonce card proof addressed (Writtens asked held) = refuses
-short-on-card aim client sender nonce card proof addressed (Cards asked best held showed) =
-    short-guard 18 _ _ (short-cards aim asked (bestOf best proof) (with held sender) (showedBy best proof sender showed) (keepBetterCard best card proof client))
-short-on-card aim client sender nonce card proof addressed (WriteBack asked held) = refuses
+short-on-card role client sender nonce card proof addressed Idle = refuses
+short-on-card role client sender nonce card proof addressed (Stamps asked best held) = refuses
+short-on-card role client sender nonce card proof addressed (Prepareds asked held) = refuses
+short-on-card role client sender nonce card proof addressed (Writtens asked held) = refuses
+short-on-card role client sender nonce card proof addressed (Cards asked best held showed) =
+    short-guard 18 _ _ (short-cards role asked (bestOf best proof) (with held sender) (showedBy best proof sender showed) (keepBetterCard best card proof client))
+short-on-card role client sender nonce card proof addressed (WriteBack asked held) = refuses
 
 module _ (client : Client) where
   short-reply : (signature : List ℕ) (message : Message) → Short (onReply client signature message)
@@ -107,7 +107,7 @@ module _ (client : Client) where
   short-reply signature (STAMP sender nonce proof addressed) = short-stamp client sender nonce proof addressed (client .phase)
   short-reply signature (PREPARED sender timestamp digest) = short-prepared client sender timestamp digest signature (client .phase)
   short-reply signature (WRITTEN sender timestamp) = short-written client sender timestamp signature (client .phase)
-  short-reply signature (CARD sender nonce card proof addressed) = short-guard 14 _ _ (short-on-card Read client sender nonce card proof addressed (client .phase))
+  short-reply signature (CARD sender nonce card proof addressed) = short-guard 14 _ _ (short-on-card Ordinary client sender nonce card proof addressed (client .phase))
   short-reply signature (READ-STAMP sender nonce) = refuses
   short-reply signature (PREPARE sender timestamp digest proof last) = refuses
   short-reply signature (WRITE sender card proof) = refuses
@@ -115,7 +115,7 @@ module _ (client : Client) where
 
   short-view : (message : Message) → Short (onViewerReply client message)
   unfolding onViewerReply
-  short-view (CARD sender nonce card proof addressed) = short-guard 14 _ _ (short-on-card View client sender nonce card proof addressed (client .phase))
+  short-view (CARD sender nonce card proof addressed) = short-guard 14 _ _ (short-on-card Viewing client sender nonce card proof addressed (client .phase))
   short-view (STAMP sender nonce proof addressed) = refuses
   short-view (PREPARED sender timestamp digest) = refuses
   short-view (WRITTEN sender timestamp) = refuses
@@ -137,7 +137,7 @@ module _ (client : Client) where
     unfolding beginRead
     short-read = short-guard 1 _ _ (short-guard 17 _ _ sends)
 
-    pub short-step : (aim : Aim) (bytes verdicts : List ℕ) → Short (withOutput old (hears aim client bytes verdicts))
+    pub short-step : (role : Role) (bytes verdicts : List ℕ) → Short (withOutput old (roleStep role client bytes verdicts))
     unfolding clientStep viewerStep
-    short-step Read bytes verdicts = short-guard 1 _ _ (short-next _ (short-reply (signature bytes)) (admitted AtClient (client .f) bytes verdicts))
-    short-step View bytes verdicts = short-guard 1 _ _ (short-next _ short-view (admitted AtClient (client .f) bytes verdicts))
+    short-step Ordinary bytes verdicts = short-guard 1 _ _ (short-next _ (short-reply (signature bytes)) (admitted AtClient (client .f) bytes verdicts))
+    short-step Viewing bytes verdicts = short-guard 1 _ _ (short-next _ short-view (admitted AtClient (client .f) bytes verdicts))

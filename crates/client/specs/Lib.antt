@@ -1,6 +1,6 @@
-pub mod Aims
 pub mod Arrays
 pub mod Leaving
 pub mod Messages
+pub mod Roles
 pub mod Stepping
 pub mod Viewing

@@ -11,13 +11,13 @@ use Rattle.wire.specs.declared.message.Party.the-variants.{Client as AtClient}
 use Rattle.protocol.specs.Client.{Turn, onReply}
 use Rattle.protocol.specs.Viewer.{onViewerReply}
 use Rattle.protocol.specs.declared.client.Client.{Client}
-use Rattle.client.specs.declared.read.Aim.{Aim}
-use Rattle.client.specs.declared.read.Aim.the-variants.{Read, View}
+use Rattle.client.specs.declared.role.Role.{Role}
+use Rattle.client.specs.declared.role.Role.the-variants.{Ordinary, Viewing}
 
 -- What follows for the message that the bytes are.
-unfoldable pub afterTests : Aim → Client → List ℕ → Outcome Turn
-afterTests Read client bytes = decode AtClient bytes >>= onReply client (signature bytes)
-afterTests View client bytes = decode AtClient bytes >>= onViewerReply client
+unfoldable pub afterTests : Role → Client → List ℕ → Outcome Turn
+afterTests Ordinary client bytes = decode AtClient bytes >>= onReply client (signature bytes)
+afterTests Viewing client bytes = decode AtClient bytes >>= onViewerReply client
 
 -- A message that tests 2 to 11 let through at a client with this f, with some verdicts.
 pub record Passing (f : ℕ) (bytes : List ℕ) (fields : Fields) : Type 0 where

@@ -5,6 +5,7 @@ mod messages;
 mod read;
 mod record;
 mod replies;
+mod role;
 mod signatures;
 pub mod viewer;
 mod write;
@@ -20,7 +21,7 @@ use base::timestamp::Timestamp;
 use protocol::client::Client;
 use protocol::client::ClientAnswer;
 use protocol::client::Phase;
-use read::Aim;
+use role::Role;
 use wire::card::CardCheck;
 use wire::layout::CARD_ROOM;
 use wire::layout::DIGEST;
@@ -124,5 +125,5 @@ pub fn step(client: Client, message: &[u8], verdicts: &[u8], out: &mut [u8]) -> 
     ensures { λ r. ⌜ Calls (clientCall client (now (message .entry)) (now (verdicts .entry)) (now (out .entry)))
         (withOutput (now (out .entry)) (clientStep client (now (message .entry)) (now (verdicts .entry)))) r (now (out .exit)) ⌝ }
 {
-    messages::hear(client, message, verdicts, Aim::Read, out)
+    messages::hear(client, message, verdicts, Role::Ordinary, out)
 }

@@ -1,9 +1,9 @@
 // What a client makes of bytes: tests 1 to 11, then the message by its kind, whose parts are handed on.
 use crate::Stepped;
 use crate::answers::refused;
-use crate::read::Aim;
 use crate::read::on_card;
 use crate::replies::card_stands;
+use crate::role::Role;
 use crate::write::on_prepared;
 use crate::write::on_stamp;
 use crate::written::on_written;
@@ -25,14 +25,14 @@ ghost use lib.ListN.{length};
 ghost use Rattle.wire.specs.Message.{longest};
 ghost use Rattle.protocol.specs.Client.{clientAnswers};
 ghost use Rattle.protocol.specs.Replica.{withOutput};
-ghost use Rattle.client.specs.Aims.{hears, hearing};
+ghost use Rattle.client.specs.Roles.{roleStep, roleCall};
 ghost use Rattle.client.specs.Messages.{Passing, afterTests};
 ghost use Rattle.client.specs.Leaving.{callOf};
 ghost use Rattle.client.specs.Stepping.{Calls};
 
 fn take_stamp(client: Client, message: &[u8], fields: Fields, out: &mut [u8]) -> Stepped
     requires { ⌜ (longest ≤ length (now out)) × Passing (client .f) (now message) fields × (fields .kind ≡ 5) ⌝ }
-    ensures { λ r. ⌜ callOf r (now (out .exit)) ≡ clientAnswers client (now (out .entry)) (afterTests Aim.Read client (now (message .entry))) ⌝ }
+    ensures { λ r. ⌜ callOf r (now (out .exit)) ≡ clientAnswers client (now (out .entry)) (afterTests Role.Ordinary client (now (message .entry))) ⌝ }
 {
     let proof_at = fields.prepared;
     let addressed = fields.addressed;
@@ -49,7 +49,7 @@ fn take_stamp(client: Client, message: &[u8], fields: Fields, out: &mut [u8]) ->
 
 fn take_prepared(client: Client, message: &[u8], fields: Fields, out: &mut [u8]) -> Stepped
     requires { ⌜ (longest ≤ length (now out)) × Passing (client .f) (now message) fields × (fields .kind ≡ 6) ⌝ }
-    ensures { λ r. ⌜ callOf r (now (out .exit)) ≡ clientAnswers client (now (out .entry)) (afterTests Aim.Read client (now (message .entry))) ⌝ }
+    ensures { λ r. ⌜ callOf r (now (out .exit)) ≡ clientAnswers client (now (out .entry)) (afterTests Role.Ordinary client (now (message .entry))) ⌝ }
 {
     let digest_at = fields.digest;
     let signature_at = fields.signature;
@@ -67,7 +67,7 @@ fn take_prepared(client: Client, message: &[u8], fields: Fields, out: &mut [u8])
 
 fn take_written(client: Client, message: &[u8], fields: Fields) -> Stepped
     requires { ⌜ Passing (client .f) (now message) fields × (fields .kind ≡ 7) ⌝ }
-    ensures { λ r. ⌜ ((old : List ℕ) → callOf r old ≡ clientAnswers client old (afterTests Aim.Read client (now (message .entry)))) ⌝ }
+    ensures { λ r. ⌜ ((old : List ℕ) → callOf r old ≡ clientAnswers client old (afterTests Role.Ordinary client (now (message .entry)))) ⌝ }
 {
     let signature_at = fields.signature;
     let timestamp = fields.timestamp;
@@ -75,9 +75,9 @@ fn take_written(client: Client, message: &[u8], fields: Fields) -> Stepped
     on_written(client, sender, timestamp, part(message, signature_at))
 }
 
-fn take_card(client: Client, message: &[u8], fields: Fields, aim: Aim, out: &mut [u8]) -> Stepped
+fn take_card(client: Client, message: &[u8], fields: Fields, role: Role, out: &mut [u8]) -> Stepped
     requires { ⌜ (longest ≤ length (now out)) × Passing (client .f) (now message) fields × (fields .kind ≡ 8) ⌝ }
-    ensures { λ r. ⌜ callOf r (now (out .exit)) ≡ clientAnswers client (now (out .entry)) (afterTests aim client (now (message .entry))) ⌝ }
+    ensures { λ r. ⌜ callOf r (now (out .exit)) ≡ clientAnswers client (now (out .entry)) (afterTests role client (now (message .entry))) ⌝ }
 {
     let card_at = fields.card;
     let proof_at = fields.prepared;
@@ -95,7 +95,7 @@ fn take_card(client: Client, message: &[u8], fields: Fields, aim: Aim, out: &mut
         card,
         proof,
         addressed,
-        aim,
+        role,
         out,
     )
 }
@@ -103,36 +103,36 @@ fn take_card(client: Client, message: &[u8], fields: Fields, aim: Aim, out: &mut
 // At an ordinary client.
 fn take_reply(client: Client, message: &[u8], fields: Fields, out: &mut [u8]) -> Stepped
     requires { ⌜ (longest ≤ length (now out)) × Passing (client .f) (now message) fields ⌝ }
-    ensures { λ r. ⌜ callOf r (now (out .exit)) ≡ clientAnswers client (now (out .entry)) (afterTests Aim.Read client (now (message .entry))) ⌝ }
+    ensures { λ r. ⌜ callOf r (now (out .exit)) ≡ clientAnswers client (now (out .entry)) (afterTests Role.Ordinary client (now (message .entry))) ⌝ }
 {
     let kind = fields.kind;
     match kind {
         5 => take_stamp(client, message, fields, out),
         6 => take_prepared(client, message, fields, out),
         7 => take_written(client, message, fields),
-        _ => take_card(client, message, fields, Aim::Read, out),
+        _ => take_card(client, message, fields, Role::Ordinary, out),
     }
 }
 
 // At a viewing client, which awaits CARDs alone.
 fn take_view(client: Client, message: &[u8], fields: Fields, out: &mut [u8]) -> Stepped
     requires { ⌜ (longest ≤ length (now out)) × Passing (client .f) (now message) fields ⌝ }
-    ensures { λ r. ⌜ callOf r (now (out .exit)) ≡ clientAnswers client (now (out .entry)) (afterTests Aim.View client (now (message .entry))) ⌝ }
+    ensures { λ r. ⌜ callOf r (now (out .exit)) ≡ clientAnswers client (now (out .entry)) (afterTests Role.Viewing client (now (message .entry))) ⌝ }
 {
     let kind = fields.kind;
     if kind != 8 {
         return refused(NOT_AWAITED, client);
     }
-    take_card(client, message, fields, Aim::View, out)
+    take_card(client, message, fields, Role::Viewing, out)
 }
 
-fn take(client: Client, message: &[u8], fields: Fields, aim: Aim, out: &mut [u8]) -> Stepped
+fn take(client: Client, message: &[u8], fields: Fields, role: Role, out: &mut [u8]) -> Stepped
     requires { ⌜ (longest ≤ length (now out)) × Passing (client .f) (now message) fields ⌝ }
-    ensures { λ r. ⌜ callOf r (now (out .exit)) ≡ clientAnswers client (now (out .entry)) (afterTests aim client (now (message .entry))) ⌝ }
+    ensures { λ r. ⌜ callOf r (now (out .exit)) ≡ clientAnswers client (now (out .entry)) (afterTests role client (now (message .entry))) ⌝ }
 {
-    match aim {
-        Aim::Read => take_reply(client, message, fields, out),
-        Aim::View => take_view(client, message, fields, out),
+    match role {
+        Role::Ordinary => take_reply(client, message, fields, out),
+        Role::Viewing => take_view(client, message, fields, out),
     }
 }
 
@@ -141,17 +141,17 @@ pub(super) fn hear(
     client: Client,
     message: &[u8],
     verdicts: &[u8],
-    aim: Aim,
+    role: Role,
     out: &mut [u8],
 ) -> Stepped
-    ensures { λ r. ⌜ Calls (hearing aim client (now (message .entry)) (now (verdicts .entry)) (now (out .entry)))
-        (withOutput (now (out .entry)) (hears aim client (now (message .entry)) (now (verdicts .entry)))) r (now (out .exit)) ⌝ }
+    ensures { λ r. ⌜ Calls (roleCall role client (now (message .entry)) (now (verdicts .entry)) (now (out .entry)))
+        (withOutput (now (out .entry)) (roleStep role client (now (message .entry)) (now (verdicts .entry)))) r (now (out .exit)) ⌝ }
 {
     if out.len() < LONGEST_MESSAGE {
         return refused(OUTPUT_TOO_SHORT, client);
     }
     match wire::acceptance::accept(Party::Client, client.f, message, verdicts) {
-        Reading::Message(fields) => take(client, message, fields, aim, out),
+        Reading::Message(fields) => take(client, message, fields, role, out),
         Reading::Refused(number) => refused(number, client),
     }
 }

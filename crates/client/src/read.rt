@@ -9,6 +9,7 @@ use crate::replies::best_of;
 use crate::replies::is_awaited;
 use crate::replies::keep_better_card;
 use crate::replies::showed_by;
+use crate::role::Role;
 use base::party::ClientId;
 use base::party::ReplicaId;
 use base::refusal::NOT_AWAITED;
@@ -23,14 +24,8 @@ ghost use lib.ListN.{length};
 ghost use Rattle.wire.specs.Message.{longest, WRITE};
 ghost use Rattle.wire.specs.Parts.{preparedPart, WholeIfThere};
 ghost use Rattle.protocol.specs.Client.{clientAnswers, currentCard, bestProof, withPhase, turn, send, afterCard, countCard, onCard, afterWriteBack};
-ghost use Rattle.client.specs.Aims.{afterCards};
+ghost use Rattle.client.specs.Roles.{afterCards};
 ghost use Rattle.client.specs.Leaving.{callOf, Takes, TakesAny};
-
-// What CARDs are gathered for.
-pub enum Aim {
-    Read,
-    View,
-}
 
 // WRITE the best card with its proof; the replicas that showed it count.
 fn write_back(client: Client, best: Timestamp, showed: ReplicaSet, out: &mut [u8]) -> Stepped
@@ -74,20 +69,20 @@ fn count_card(
     best: Timestamp,
     counted: ReplicaSet,
     showed: ReplicaSet,
-    aim: Aim,
+    role: Role,
     out: &mut [u8],
 ) -> Stepped
     requires { ⌜ longest ≤ length (now out) ⌝ }
-    ensures { λ r. ⌜ Takes (now (out .entry)) (countCard (afterCards aim) nonce best counted showed client) r (now (out .exit)) ⌝ }
+    ensures { λ r. ⌜ Takes (now (out .entry)) (countCard (afterCards role) nonce best counted showed client) r (now (out .exit)) ⌝ }
 {
     let f = client.f;
     if !counted.is_quorum(f) {
         let waiting = Phase::Cards(nonce, best, counted, showed);
         return plain(ClientAnswer::Counted, with_phase(client, waiting));
     }
-    match aim {
-        Aim::Read => after_card(client, best, showed, out),
-        Aim::View => done(best, client),
+    match role {
+        Role::Ordinary => after_card(client, best, showed, out),
+        Role::Viewing => done(best, client),
     }
 }
 
@@ -99,11 +94,11 @@ pub(super) fn on_card<'a>(
     card: &'a [u8],
     proof: &'a [u8],
     addressed: ClientId,
-    aim: Aim,
+    role: Role,
     out: &mut [u8],
 ) -> Stepped
     requires { ⌜ (longest ≤ length (now out)) × WholeIfThere (now proof) × (length (now card) ≤ 17) ⌝ }
-    ensures { λ r. ⌜ callOf r (now (out .exit)) ≡ clientAnswers client (now (out .entry)) (onCard (afterCards aim) client sender nonce (now (card .entry)) (preparedPart (now (proof .entry))) addressed (client .phase)) ⌝ }
+    ensures { λ r. ⌜ callOf r (now (out .exit)) ≡ clientAnswers client (now (out .entry)) (onCard (afterCards role) client sender nonce (now (card .entry)) (preparedPart (now (proof .entry))) addressed (client .phase)) ⌝ }
 {
     let phase = client.phase;
     let Phase::Cards(asked, best, counted, showed) = phase else {
@@ -116,7 +111,7 @@ pub(super) fn on_card<'a>(
     let later = best_of(best, proof);
     let shown = showed_by(best, proof, sender, showed);
     let kept = keep_better_card(client, best, card, proof);
-    count_card(kept, asked, later, counted.with(sender), shown, aim, out)
+    count_card(kept, asked, later, counted.with(sender), shown, role, out)
 }
 
 // A WRITTEN more was taken in a write-back: with those that showed the timestamp, q end the read.

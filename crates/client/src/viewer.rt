@@ -1,7 +1,7 @@
 // The viewing client's engine (document 02: viewing desk): a view is a read that ends with its CARDs.
 use crate::Stepped;
 use crate::messages::hear;
-use crate::read::Aim;
+use crate::role::Role;
 use base::party::ClientId;
 use base::party::Setup;
 use protocol::client::Client;
@@ -74,5 +74,5 @@ pub fn step(viewer: Viewer, message: &[u8], verdicts: &[u8], out: &mut [u8]) -> 
         (withOutput (now (out .entry)) (viewerStep (viewer .client) (now (message .entry)) (now (verdicts .entry)))) (ofViewer r) (now (out .exit)) ⌝ }
 {
     let client = viewer.client;
-    viewed(hear(client, message, verdicts, Aim::View, out))
+    viewed(hear(client, message, verdicts, Role::Viewing, out))
 }

@@ -1,7 +1,7 @@
 -- `client::messages::hear` meets its contract. Assumes nothing.
 use mathlib.Core.Path.{sym, ap, _∙_}
 use Rattle.wire.specs.Decode.{readingOutcome}
-use Rattle.client.specs.Aims.{hears}
+use Rattle.client.specs.Roles.{roleStep}
 use Rattle.client.proofs.Calling.{step-calls, too-short, is-refused, behind-output}
 use Rattle.client.proofs.Parting.{step-refused, passed-step}
 use borrow.Author.Needs.{needs}
@@ -14,7 +14,7 @@ returns c =
     let bytes = a .message .now in
     let verdicts = a .verdicts .now in
     let old = a .out .now in
-    step-calls (a .client) old (c .refused .result) old (a .aim) bytes verdicts (too-short (a .client) old (c .refused .result) (hears (a .aim) (a .client) bytes verdicts) (c .before .if1 .taken) (c .refused .ensures))
+    step-calls (a .client) old (c .refused .result) old (a .role) bytes verdicts (too-short (a .client) old (c .refused .result) (roleStep (a .role) (a .client) bytes verdicts) (c .before .if1 .taken) (c .refused .ensures))
 
 take-requires : tie.Need-take-requires
 take-requires c κs =
@@ -35,7 +35,7 @@ returns-2 c =
     let passed = sym (c .before .before .before .before .before .before .before .accept .ensures) ∙ ap readingOutcome (c .before .before .before .before .before .fields .given .1) in
     let fields = c .before .before .before .before .before .fields .given .0 .0 in
     let taken = c .before .before .take in
-    step-calls (a .client) old (taken .result) (taken .last .1 .1 .1 .1 .0) (a .aim) bytes verdicts (behind-output (a .client) old (taken .result) (taken .last .1 .1 .1 .1 .0) (hears (a .aim) (a .client) bytes verdicts) _ (c .before .before .before .before .before .before .before .before .if1 .left) (passed-step (a .aim) (a .client) bytes verdicts fields passed) (taken .ensures))
+    step-calls (a .client) old (taken .result) (taken .last .1 .1 .1 .1 .0) (a .role) bytes verdicts (behind-output (a .client) old (taken .result) (taken .last .1 .1 .1 .1 .0) (roleStep (a .role) (a .client) bytes verdicts) _ (c .before .before .before .before .before .before .before .before .if1 .left) (passed-step (a .role) (a .client) bytes verdicts fields passed) (taken .ensures))
 
 returns-3 : tie.Need-returns-3
 returns-3 c =
@@ -45,7 +45,7 @@ returns-3 c =
     let old = a .out .now in
     let number = c .before .before .number .given .0 .0 in
     let no = sym (c .before .before .before .before .accept .ensures) ∙ ap readingOutcome (c .before .before .number .given .1) in
-    step-calls (a .client) old (c .refused2 .result) old (a .aim) bytes verdicts (is-refused (a .client) old (c .refused2 .result) (hears (a .aim) (a .client) bytes verdicts) number (c .before .before .before .before .before .if1 .left) (step-refused (a .aim) (a .client) bytes verdicts number no) (c .refused2 .ensures))
+    step-calls (a .client) old (c .refused2 .result) old (a .role) bytes verdicts (is-refused (a .client) old (c .refused2 .result) (roleStep (a .role) (a .client) bytes verdicts) number (c .before .before .before .before .before .if1 .left) (step-refused (a .role) (a .client) bytes verdicts number no) (c .refused2 .ensures))
 
 pub hear-spec : {M : Type 1} → statement M
 hear-spec =

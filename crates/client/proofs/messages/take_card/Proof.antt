@@ -10,7 +10,7 @@ use Rattle.wire.specs.Parts.{partAt, cardAt, preparedPart}
 use Rattle.protocol.specs.Client.{onCard, clientAnswers}
 use Rattle.protocol.specs.Parts.{cardStands}
 use Rattle.protocol.specs.declared.client.ClientAnswer.the-variants.{Refused}
-use Rattle.client.specs.Aims.{afterCards}
+use Rattle.client.specs.Roles.{afterCards}
 use Rattle.client.proofs.Answering.{plain-call}
 use Rattle.client.proofs.Parting.{card-step, proof-there, standing-short}
 use Rattle.client.proofs.messages.take_card.Statement.{statement}
@@ -35,7 +35,7 @@ returns c =
     let x = c .before .before in
     let s = start (x .before) in
     let a = s .args in
-    rw (card-step (a .client) (a .message .now) (a .fields) (s .pre .1) (a .aim) (s .pre .2), guard-refuses 14 _ _ (asked x ∙ not-true _ (c .before .if1 .taken)))
+    rw (card-step (a .client) (a .message .now) (a .fields) (s .pre .1) (a .role) (s .pre .2), guard-refuses 14 _ _ (asked x ∙ not-true _ (c .before .if1 .taken)))
     (plain-call (c .refused .result) (a .out .now) (a .client) (Refused 14) (c .refused .ensures))
 
 on-card-requires : tie.Need-on-card-requires
@@ -55,9 +55,9 @@ returns-2 c =
     let s = start p in
     let a = s .args in
     let fields = a .fields in
-    rw (card-step (a .client) (a .message .now) fields (s .pre .1) (a .aim) (s .pre .2), guard-passes 14 _ _ (asked x ∙ not-false _ (e .if1 .left)))
+    rw (card-step (a .client) (a .message .now) fields (s .pre .1) (a .role) (s .pre .2), guard-passes 14 _ _ (asked x ∙ not-false _ (e .if1 .left)))
     (o .on-card .ensures
-    ∙ ap₂ (λ (card proof : List ℕ). clientAnswers (a .client) (a .out .now) (onCard (afterCards (a .aim)) (a .client) (replica (fields .sender)) (fields .nonce) card (preparedPart proof) (fields .addressed) (a .client .phase))) (p .before .card .ensures) (p .part .ensures))
+    ∙ ap₂ (λ (card proof : List ℕ). clientAnswers (a .client) (a .out .now) (onCard (afterCards (a .role)) (a .client) (replica (fields .sender)) (fields .nonce) card (preparedPart proof) (fields .addressed) (a .client .phase))) (p .before .card .ensures) (p .part .ensures))
 
 pub take-card-spec : {M : Type 1} → statement M
 take-card-spec =
