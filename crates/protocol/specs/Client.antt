@@ -385,7 +385,7 @@ afterCard best showed client =
     cond (enough client showed) (turn (done best (currentCard client)) (withPhase Idle client))
     (turn (send (WRITE (client .id) (currentCard client) (bestProof client best))) (withPhase (WriteBack best showed) client))
 
--- "q CARDs give the largest stamp"
+-- "from q CARDs take the largest stamp": until then it waits.
 unfoldable pub countCard : AfterCards → ℕ → Timestamp → ReplicaSet → ReplicaSet → Client → Outcome Turn
 countCard next nonce best counted showed client =
     cond (enough client counted) (next best showed client) (turn waits (withPhase (Cards nonce best counted showed) client))

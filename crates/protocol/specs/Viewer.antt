@@ -14,6 +14,7 @@ use Rattle.protocol.specs.Replica.{withOutput}
 use Rattle.protocol.specs.declared.client.Client.{Client}
 use Rattle.protocol.specs.declared.client.Phase.the-variants.{Idle}
 
+-- 16 as at a client, but for the number: then the record is that of no client.
 abbrev pub madeViewer : ℕ → ClientId → ℕ → Client
 madeViewer f id firstNonce = clientIfSetUp (viewerSetup f id firstNonce) (freshClient f id firstNonce)
 

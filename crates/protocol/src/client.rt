@@ -16,7 +16,7 @@ pub enum Phase {
     Prepareds(Timestamp, ReplicaSet),
     // WRITTENs that end a write: timestamp, counted.
     Writtens(Timestamp, ReplicaSet),
-    // CARDs for a read: nonce, largest timestamp, counted, and those of them that showed it.
+    // CARDs for a read or a view: nonce, largest timestamp, counted, and those of them that showed it.
     Cards(u64, Timestamp, ReplicaSet, ReplicaSet),
     // WRITTENs that end a write-back: timestamp, counted, the replicas that showed it among them.
     WriteBack(Timestamp, ReplicaSet),
