@@ -47,7 +47,7 @@ impl Replica {
         room: usize,
     ) -> Result<Answer, Refusal> {
         check_room(room)?;
-        let message = check(bytes, verdicts, READ_TIMESTAMP..=READ, CLIENTS, self.f)?;
+        let message = Receiver::Replica.check(bytes, verdicts, self.f)?;
         let reply = match message.kind {
             READ_TIMESTAMP => self.show_timestamp(&message),
             PREPARE => self.prepare(&message)?,

@@ -273,23 +273,8 @@ fn fields(message: &Message) -> String {
     .concat()
 }
 
-/// The message that a party that takes these kinds reads: tests 2 to 5.
-fn read(bytes: &[u8], to_replica: bool) -> Result<Message, Refusal> {
-    let kinds = if to_replica {
-        READ_TIMESTAMP..=READ
-    } else {
-        TIMESTAMP..=CARD
-    };
-    // Without verdicts 7 refuses what passes 2 to 6, and no sender breaks 6.
-    match check(bytes, &[], kinds, 0..=u8::MAX, 1) {
-        Err(7) => Message::decode(bytes),
-        Err(refusal) => Err(refusal),
-        Ok(_) => unreachable!("a message has a signature, and no verdict came with it"),
-    }
-}
-
-fn reading(bytes: &[u8], to_replica: bool, tally: &mut Tally) -> String {
-    match read(bytes, to_replica) {
+fn reading(bytes: &[u8], receiver: Receiver, tally: &mut Tally) -> String {
+    match receiver.read(bytes) {
         Ok(message) => {
             tally.count(format!(
                 "read {}",
@@ -334,15 +319,18 @@ fn entry_signatures(message: &Message) -> Vec<String> {
 }
 
 /// The signatures of a message that passes 2 to 5, and that there is no further one.
-fn signatures(bytes: &[u8], to_replica: bool, tally: &mut Tally) -> String {
-    let message = match read(bytes, to_replica) {
+fn signatures(bytes: &[u8], receiver: Receiver, tally: &mut Tally) -> String {
+    let message = match receiver.read(bytes) {
         Ok(message) => message,
         Err(refusal) => return format!("signatures 0 refused {refusal}"),
     };
     if message.prepared.is_some() && message.written.is_some() {
         tally.count("signatures of both proofs");
     }
-    let sender = if to_replica { "client" } else { "replica" };
+    let sender = match receiver {
+        Receiver::Replica => "client",
+        Receiver::Client => "replica",
+    };
     let own = signature(sender, &message);
     let others = entry_signatures(&message);
     format!(
@@ -352,18 +340,34 @@ fn signatures(bytes: &[u8], to_replica: bool, tally: &mut Tally) -> String {
     )
 }
 
-/// The party that takes the kind, most of the time: what it reads, and the signatures.
+/// The party that takes the kind, most of the time.
+fn receiver(random: &mut Random, kind: Option<u8>) -> Receiver {
+    let takes = kind.is_some_and(|kind| kind <= READ);
+    if takes != random.percent(10) {
+        Receiver::Replica
+    } else {
+        Receiver::Client
+    }
+}
+
+fn letter(receiver: Receiver) -> char {
+    match receiver {
+        Receiver::Replica => 'h',
+        Receiver::Client => 'd',
+    }
+}
+
+/// What a party reads, and the signatures.
 fn reading_lines(random: &mut Random, bytes: &[u8], tally: &mut Tally) -> [Line; 2] {
-    let takes = bytes.get(2).is_some_and(|kind| *kind <= READ);
-    let to_replica = takes != random.percent(10);
-    let letter = if to_replica { 'h' } else { 'd' };
+    let receiver = receiver(random, bytes.get(2).copied());
+    let letter = letter(receiver);
     let read = Line {
         text: format!("{letter} {}", hex(bytes)).into_bytes(),
-        expected: reading(bytes, to_replica, tally),
+        expected: reading(bytes, receiver, tally),
     };
     let signed = Line {
         text: format!("s {letter} {}", hex(bytes)).into_bytes(),
-        expected: signatures(bytes, to_replica, tally),
+        expected: signatures(bytes, receiver, tally),
     };
     [read, signed]
 }
