@@ -238,6 +238,12 @@ impl Player {
         }
     }
 
+    /// What the replicas hold.
+    pub fn held(&self) -> Vec<Timestamp> {
+        let replicas = self.replicas.present.values();
+        replicas.map(Replica::timestamp).collect()
+    }
+
     /// The line with a message named by its number written out in hex.
     pub fn spelled_out(&self, line: &str) -> String {
         let spell = |word: &str| {

@@ -1,11 +1,15 @@
-//! Messages for the program `messages`: two at a time for the later card, and the first by itself for its fields and signatures.
+//! Messages for the program `messages`: two at a time for the later card, and the first by itself for its fields and
+//! signatures; and others with verdicts.
 use crate::cards::{damaged_card, good_card};
+use crate::forge::trimmed;
+use crate::judgements;
 use crate::model::message::*;
 use crate::model::random::Random;
 use crate::program::{hex, Failure, Line, Program};
 use crate::tally::Tally;
 
 const PAIRS: usize = 10_000;
+const JUDGEMENTS: usize = 12_000;
 const ROOM: usize = 262_144;
 
 pub const FLOORS: [(&str, usize); 21] = [
@@ -88,31 +92,18 @@ fn of_kind(random: &mut Random) -> Message {
     } else {
         random.pick(&[READ_TIMESTAMP, PREPARE, READ, TIMESTAMP, PREPARED, WRITTEN])
     };
-    let mut message = Message::new(kind, random.byte());
-    message.signature = random.bytes();
-    let shows_proof = random.percent(75);
-    if [READ_TIMESTAMP, READ, TIMESTAMP, CARD].contains(&kind) {
-        message.nonce = Some(random.number());
-    }
-    if [PREPARE, PREPARED, WRITTEN].contains(&kind) {
-        message.timestamp = Some(timestamp(random));
-    }
-    if [PREPARE, PREPARED].contains(&kind) {
-        message.digest = Some(random.bytes());
-    }
-    if [WRITE, CARD].contains(&kind) {
-        message.card = Some(card(random));
-    }
-    if kind == WRITE || [PREPARE, TIMESTAMP, CARD].contains(&kind) && shows_proof {
-        message.prepared = Some(prepared(random));
-    }
-    if kind == PREPARE && random.percent(50) {
-        message.written = Some(written(random));
-    }
-    if [TIMESTAMP, CARD].contains(&kind) {
-        message.addressed = Some(random.byte());
-    }
-    message
+    let shows_proof = kind == WRITE || random.percent(75);
+    trimmed(Message {
+        nonce: Some(random.number()),
+        timestamp: Some(timestamp(random)),
+        digest: Some(random.bytes()),
+        card: Some(card(random)),
+        prepared: Some(prepared(random)).filter(|_| shows_proof),
+        written: Some(written(random)).filter(|_| random.percent(50)),
+        addressed: Some(random.byte()),
+        signature: random.bytes(),
+        ..Message::new(kind, random.byte())
+    })
 }
 
 /// Puts a field into a message or takes it out, so that the bits may be no kind's.
@@ -341,7 +332,7 @@ fn signatures(bytes: &[u8], receiver: Receiver, tally: &mut Tally) -> String {
 }
 
 /// The party that takes the kind, most of the time.
-fn receiver(random: &mut Random, kind: Option<u8>) -> Receiver {
+pub fn receiver(random: &mut Random, kind: Option<u8>) -> Receiver {
     let takes = kind.is_some_and(|kind| kind <= READ);
     if takes != random.percent(10) {
         Receiver::Replica
@@ -350,7 +341,7 @@ fn receiver(random: &mut Random, kind: Option<u8>) -> Receiver {
     }
 }
 
-fn letter(receiver: Receiver) -> char {
+pub fn letter(receiver: Receiver) -> char {
     match receiver {
         Receiver::Replica => 'h',
         Receiver::Client => 'd',
@@ -391,5 +382,9 @@ fn lines(random: &mut Random, tally: &mut Tally) -> [Line; 3] {
 pub fn compare(program: &Program, random: &mut Random, tally: &mut Tally) -> Result<(), Failure> {
     let lines: Vec<Line> = (0..PAIRS).flat_map(|_| lines(random, tally)).collect();
     program.must_answer(&lines, ROOM)?;
+    let judged: Vec<Line> = (0..JUDGEMENTS)
+        .map(|_| judgements::line(random, tally))
+        .collect();
+    program.must_answer(&judged, ROOM)?;
     program.must_say_rest(ROOM)
 }
