@@ -1,4 +1,4 @@
-// Calls of a client.
+// Calls of a client, and what is done with the record of one.
 use crate::answers::Answer;
 use crate::answers::COUNTED;
 use crate::answers::ENDED;
@@ -14,8 +14,10 @@ use crate::log::handed;
 use crate::tasks::Call;
 use crate::tasks::Held;
 use crate::tasks::Task;
+use crate::tasks::Whom;
 use crate::tasks::behind_lent;
 use crate::tasks::lent;
+use crate::viewers;
 use base::party::ClientId;
 use base::party::Setup;
 use base::slices::front;
@@ -24,21 +26,18 @@ use protocol::client::Client;
 use protocol::client::ClientAnswer;
 
 // What a call leaves.
-struct ClientCalled {
-    client: Client,
-    answer: Answer,
+pub struct ClientCalled {
+    pub client: Client,
+    pub answer: Answer,
 }
 
-pub fn nobody() -> [Client; 130] {
+pub fn nobody() -> [Client; 194] {
     let none = client::fresh(0, ClientId(0), 0).client;
-    [none; 130]
+    [none; 194]
 }
 
 // A refused set-up leaves what was set up before.
-fn set_up(before: Client, f: u8, id: u8, nonce: u64) -> ClientCalled {
-    let made = client::fresh(f, ClientId(id), nonce);
-    let setup = made.setup;
-    let client = made.client;
+pub fn made(setup: Setup, client: Client, before: Client) -> ClientCalled {
     match setup {
         Setup::Good => ClientCalled {
             client: client,
@@ -51,7 +50,14 @@ fn set_up(before: Client, f: u8, id: u8, nonce: u64) -> ClientCalled {
     }
 }
 
-fn copy(client: Client, said: u8) -> ClientCalled {
+fn set_up(before: Client, f: u8, id: u8, nonce: u64) -> ClientCalled {
+    let new = client::fresh(f, ClientId(id), nonce);
+    let setup = new.setup;
+    let client = new.client;
+    made(setup, client, before)
+}
+
+pub fn copy(client: Client, said: u8) -> ClientCalled {
     ClientCalled {
         client: client,
         answer: plain(Outcome::Said(said)),
@@ -68,7 +74,7 @@ fn outcome(answer: ClientAnswer) -> Outcome {
     }
 }
 
-fn called(stepped: Stepped) -> ClientCalled {
+pub fn called(stepped: Stepped) -> ClientCalled {
     let answer = stepped.answer;
     let card = stepped.card;
     let client = stepped.client;
@@ -96,11 +102,15 @@ fn step(client: Client, message: &[u8], verdicts: &[u8], out: &mut [u8]) -> Clie
 
 fn call(
     client: Client,
+    whom: Whom,
     call: Call,
     message: &Message,
     verdicts: &Verdicts,
     out: &mut [u8],
 ) -> ClientCalled {
+    if let Whom::Viewer = whom {
+        return viewers::call(client, call, message, verdicts, out);
+    }
     match call {
         Call::SetUp(f, id, nonce) => set_up(client, f, id, nonce),
         Call::Write(n) => begin_write(client, front(message, n), out),
@@ -110,7 +120,7 @@ fn call(
     }
 }
 
-// What a line about a client does: answers the record that it leaves.
+// What a line about a client or a viewing client does: answers the record that it leaves.
 pub fn turn(
     before: Client,
     task: Task,
@@ -131,7 +141,8 @@ pub fn turn(
         &mut message,
         &mut verdicts,
     );
-    let called = call(before, asked, &message, &verdicts, &mut out[0..room]);
+    let whom = task.whom;
+    let called = call(before, whom, asked, &message, &verdicts, &mut out[0..room]);
     let client = called.client;
     let answer = called.answer;
     finish(answer, task, line, &out, held, store, sent);
