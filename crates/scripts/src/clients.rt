@@ -1,4 +1,4 @@
-// Calls of a client, and what is done with the record of one.
+// Calls of a client, or of a viewing client: its record is a client's too.
 use crate::answers::Answer;
 use crate::answers::COUNTED;
 use crate::answers::ENDED;
@@ -50,14 +50,17 @@ pub fn made(setup: Setup, client: Client, before: Client) -> ClientCalled {
     }
 }
 
-fn set_up(before: Client, f: u8, id: u8, nonce: u64) -> ClientCalled {
+fn set_up(before: Client, whom: Whom, f: u8, id: u8, nonce: u64) -> ClientCalled {
+    if let Whom::Viewer = whom {
+        return viewers::set_up(before, f, id, nonce);
+    }
     let new = client::fresh(f, ClientId(id), nonce);
     let setup = new.setup;
     let client = new.client;
     made(setup, client, before)
 }
 
-pub fn copy(client: Client, said: u8) -> ClientCalled {
+fn copy(client: Client, said: u8) -> ClientCalled {
     ClientCalled {
         client: client,
         answer: plain(Outcome::Said(said)),
@@ -92,11 +95,23 @@ fn begin_write(client: Client, card: &[u8], out: &mut [u8]) -> ClientCalled {
     called(client::begin_write(client, card, out))
 }
 
-fn begin_read(client: Client, out: &mut [u8]) -> ClientCalled {
+fn begin_read(client: Client, whom: Whom, out: &mut [u8]) -> ClientCalled {
+    if let Whom::Viewer = whom {
+        return viewers::begin_view(client, out);
+    }
     called(client::begin_read(client, out))
 }
 
-fn step(client: Client, message: &[u8], verdicts: &[u8], out: &mut [u8]) -> ClientCalled {
+fn step(
+    client: Client,
+    whom: Whom,
+    message: &[u8],
+    verdicts: &[u8],
+    out: &mut [u8],
+) -> ClientCalled {
+    if let Whom::Viewer = whom {
+        return viewers::step(client, message, verdicts, out);
+    }
     called(client::step(client, message, verdicts, out))
 }
 
@@ -108,14 +123,11 @@ fn call(
     verdicts: &Verdicts,
     out: &mut [u8],
 ) -> ClientCalled {
-    if let Whom::Viewer = whom {
-        return viewers::call(client, call, message, verdicts, out);
-    }
     match call {
-        Call::SetUp(f, id, nonce) => set_up(client, f, id, nonce),
+        Call::SetUp(f, id, nonce) => set_up(client, whom, f, id, nonce),
         Call::Write(n) => begin_write(client, front(message, n), out),
-        Call::Read => begin_read(client, out),
-        Call::HandOver(n, m) => step(client, front(message, n), front(verdicts, m), out),
+        Call::Read => begin_read(client, whom, out),
+        Call::HandOver(n, m) => step(client, whom, front(message, n), front(verdicts, m), out),
         Call::Copy(said) => copy(client, said),
     }
 }
