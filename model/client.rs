@@ -1,24 +1,9 @@
 //! The model of a client (a desk of document 01).
+use super::asker::{latest, Asker, Shown};
 use super::card::keeps_table;
 use super::message::*;
 use super::sha256::sha256;
 use std::collections::{BTreeMap, BTreeSet};
-
-/// What a replica showed in a TIMESTAMP or a CARD.
-#[derive(Clone)]
-struct Shown {
-    replica: u8,
-    proof: Option<PreparedProof>,
-    card: Vec<u8>,
-}
-
-impl Shown {
-    fn timestamp(&self) -> Timestamp {
-        self.proof
-            .as_ref()
-            .map_or(Timestamp::START, |proof| proof.timestamp)
-    }
-}
 
 #[derive(Clone)]
 enum Phase {
@@ -50,30 +35,10 @@ enum Phase {
 
 #[derive(Clone)]
 pub struct Client {
-    f: u8,
-    id: u8,
-    /// The nonce of the next operation; `None` after 2^64 - 1 was used.
-    next_nonce: Option<u64>,
-    /// The nonce of the operation begun last.
-    nonce: u64,
+    asker: Asker,
     /// Of the client's own last finished write.
     written: Option<WrittenProof>,
     phase: Phase,
-}
-
-/// The first of the replies with the largest timestamp.
-fn latest(replies: Vec<Shown>) -> Shown {
-    let later = |best: Shown, next: Shown| {
-        if next.timestamp() > best.timestamp() {
-            next
-        } else {
-            best
-        }
-    };
-    replies
-        .into_iter()
-        .reduce(later)
-        .expect("a quorum of replies")
 }
 
 /// The map keeps the replicas in rising order.
@@ -86,13 +51,8 @@ fn entries(replies: BTreeMap<u8, Signature>) -> Vec<Entry> {
 
 impl Client {
     pub fn new(f: u8, id: u8, first_nonce: u64) -> Result<Client, Refusal> {
-        let in_range = FAULT_BOUNDS.contains(&f) && CLIENTS.contains(&id) && first_nonce != 0;
-        refuse_if(16, !in_range)?;
         Ok(Client {
-            f,
-            id,
-            next_nonce: Some(first_nonce),
-            nonce: 0,
+            asker: Asker::new(f, id, WRITERS, first_nonce)?,
             written: None,
             phase: Phase::Idle,
         })
@@ -106,7 +66,7 @@ impl Client {
             card: card.to_vec(),
             replies: Vec::new(),
         };
-        Ok(self.ask(READ_TIMESTAMP))
+        Ok(self.asker.ask(READ_TIMESTAMP))
     }
 
     pub fn begin_read(&mut self, room: usize) -> Result<Answer, Refusal> {
@@ -115,22 +75,12 @@ impl Client {
         self.phase = Phase::Read {
             replies: Vec::new(),
         };
-        Ok(self.ask(READ))
+        Ok(self.asker.ask(READ))
     }
 
     fn take_nonce(&mut self) -> Result<(), Refusal> {
-        refuse_if(17, !matches!(self.phase, Phase::Idle))?;
-        self.nonce = self.next_nonce.ok_or(17)?;
-        self.next_nonce = self.nonce.checked_add(1);
-        Ok(())
-    }
-
-    fn ask(&self, kind: u8) -> Answer {
-        let question = Message {
-            nonce: Some(self.nonce),
-            ..Message::new(kind, self.id)
-        };
-        Answer::Sent(question.encode())
+        let busy = !matches!(self.phase, Phase::Idle);
+        self.asker.take_nonce(busy)
     }
 
     pub fn receive(
@@ -139,29 +89,17 @@ impl Client {
         verdicts: &[u8],
         room: usize,
     ) -> Result<Answer, Refusal> {
-        check_room(room)?;
-        let reply = check(
-            bytes,
-            verdicts,
-            TIMESTAMP..=CARD,
-            1..=replicas(self.f),
-            self.f,
-        )?;
-        reply.check_card()?;
+        let reply = self.asker.check_reply(bytes, verdicts, room)?;
         refuse_if(18, !self.awaits(&reply))?;
         Ok(self.take(reply))
     }
 
     /// Test 18.
     fn awaits(&self, reply: &Message) -> bool {
-        let mine = reply.nonce == Some(self.nonce) && reply.addressed == Some(self.id);
         let sender = reply.sender;
-        let is_new = |replies: &[Shown]| replies.iter().all(|earlier| earlier.replica != sender);
         match &self.phase {
             Phase::Idle => false,
-            Phase::ReadTimestamps { replies, .. } => {
-                reply.kind == TIMESTAMP && mine && is_new(replies)
-            }
+            Phase::ReadTimestamps { replies, .. } => self.asker.awaits(TIMESTAMP, replies, reply),
             Phase::Prepare {
                 card,
                 timestamp,
@@ -179,7 +117,7 @@ impl Client {
                     && reply.timestamp == Some(*timestamp)
                     && !replies.contains_key(&sender)
             }
-            Phase::Read { replies } => reply.kind == CARD && mine && is_new(replies),
+            Phase::Read { replies } => self.asker.awaits(CARD, replies, reply),
             Phase::WriteBack {
                 timestamp, counted, ..
             } => {
@@ -192,16 +130,11 @@ impl Client {
 
     /// Takes an awaited reply; a quorum of them ends the phase.
     fn take(&mut self, reply: Message) -> Answer {
-        let quorum = quorum(self.f);
+        let quorum = quorum(self.asker.f);
         let full = match &mut self.phase {
             Phase::Idle => unreachable!("an idle client awaits nothing"),
             Phase::ReadTimestamps { replies, .. } | Phase::Read { replies } => {
-                let card = reply.card.unwrap_or_default();
-                replies.push(Shown {
-                    replica: reply.sender,
-                    proof: reply.prepared,
-                    card,
-                });
+                replies.push(Shown::new(reply));
                 replies.len() == quorum
             }
             Phase::Prepare { replies, .. } | Phase::Write { replies, .. } => {
@@ -261,7 +194,7 @@ impl Client {
     }
 
     fn send_prepare(&mut self, card: Vec<u8>, latest: Shown) -> Answer {
-        let Some(timestamp) = latest.timestamp().successor(self.id) else {
+        let Some(timestamp) = latest.timestamp().successor(self.asker.id) else {
             return Answer::Ended;
         };
         let request = Message {
@@ -269,7 +202,7 @@ impl Client {
             digest: Some(sha256(&card)),
             prepared: latest.proof,
             written: self.written.clone(),
-            ..Message::new(PREPARE, self.id)
+            ..Message::new(PREPARE, self.asker.id)
         };
         self.phase = Phase::Prepare {
             card,
@@ -283,7 +216,7 @@ impl Client {
         let request = Message {
             card: Some(card.to_vec()),
             prepared: Some(proof),
-            ..Message::new(WRITE, self.id)
+            ..Message::new(WRITE, self.asker.id)
         };
         Answer::Sent(request.encode())
     }
@@ -298,7 +231,7 @@ impl Client {
         let counted: BTreeSet<u8> = showed.map(|reply| reply.replica).collect();
         let Shown { card, proof, .. } = latest(replies);
         match proof {
-            Some(proof) if counted.len() < quorum(self.f) => {
+            Some(proof) if counted.len() < quorum(self.asker.f) => {
                 let answer = self.send_write(&card, proof);
                 self.phase = Phase::WriteBack {
                     card,

@@ -1,4 +1,4 @@
-//! Messages, their parts, and the tests 1 to 11 and 14, which need no record.
+//! Messages, their parts, and the tests 1 to 11, 14 and 19, which need no record.
 use super::card::{keeps_table, STARTING_CARD};
 use super::sha256::sha256;
 use std::ops::RangeInclusive;
@@ -10,8 +10,12 @@ pub type Signature = [u8; 64];
 pub type Refusal = u8;
 
 pub const LONGEST_MESSAGE: usize = 1579;
-/// The numbers of the clients (desks).
-pub const CLIENTS: RangeInclusive<u8> = 1..=64;
+/// The numbers of the clients that write (desks), which timestamps name.
+pub const WRITERS: RangeInclusive<u8> = 1..=64;
+/// The numbers of the viewing clients (viewing desks of document 02).
+pub const VIEWERS: RangeInclusive<u8> = 65..=96;
+/// The numbers of all clients, which senders and addressed clients have.
+pub const CLIENTS: RangeInclusive<u8> = 1..=96;
 /// The fault bounds f (the allowance).
 pub const FAULT_BOUNDS: RangeInclusive<u8> = 1..=5;
 
@@ -63,7 +67,7 @@ impl Timestamp {
     }
 
     fn in_range(self) -> bool {
-        self.count != 0 && CLIENTS.contains(&self.client)
+        self.count != 0 && WRITERS.contains(&self.client)
     }
 }
 
@@ -358,30 +362,54 @@ fn is_quorum(entries: &[Entry], f: u8) -> bool {
     entries.len() == quorum(f) && rising && in_range
 }
 
-/// Tests 2 to 11 for a party that takes these kinds from these senders.
-pub fn check(
-    bytes: &[u8],
-    verdicts: &[u8],
-    kinds: RangeInclusive<u8>,
-    senders: RangeInclusive<u8>,
-    f: u8,
-) -> Result<Message, Refusal> {
-    let message = Message::decode(bytes)?;
-    refuse_if(
-        5,
-        !kinds.contains(&message.kind) || !message.has_bits_of_kind(),
-    )?;
-    refuse_if(6, !senders.contains(&message.sender))?;
-    refuse_if(
-        7,
-        verdicts.len() != message.signatures() || verdicts.iter().any(|&verdict| verdict > 1),
-    )?;
-    refuse_if(8, verdicts[0] == 0)?;
-    refuse_if(9, message.quorums().any(|entries| !is_quorum(entries, f)))?;
-    refuse_if(10, verdicts[1..].contains(&0))?;
-    refuse_if(
-        11,
-        message.timestamps().any(|timestamp| !timestamp.in_range()),
-    )?;
-    Ok(message)
+/// Who is handed a message.
+#[derive(Clone, Copy, PartialEq)]
+pub enum Receiver {
+    Replica,
+    /// A client of either kind.
+    Client,
+}
+
+impl Receiver {
+    fn kinds(self) -> RangeInclusive<u8> {
+        match self {
+            Receiver::Replica => READ_TIMESTAMP..=READ,
+            Receiver::Client => TIMESTAMP..=CARD,
+        }
+    }
+
+    fn senders(self, f: u8) -> RangeInclusive<u8> {
+        match self {
+            Receiver::Replica => CLIENTS,
+            Receiver::Client => 1..=replicas(f),
+        }
+    }
+
+    /// Tests 2 to 5.
+    pub fn read(self, bytes: &[u8]) -> Result<Message, Refusal> {
+        let message = Message::decode(bytes)?;
+        let fits = self.kinds().contains(&message.kind) && message.has_bits_of_kind();
+        refuse_if(5, !fits)?;
+        Ok(message)
+    }
+
+    /// Tests 2 to 11, with 19 behind 6.
+    pub fn check(self, bytes: &[u8], verdicts: &[u8], f: u8) -> Result<Message, Refusal> {
+        let message = self.read(bytes)?;
+        refuse_if(6, !self.senders(f).contains(&message.sender))?;
+        let views = self == Receiver::Replica && VIEWERS.contains(&message.sender);
+        refuse_if(19, views && message.kind != READ)?;
+        refuse_if(
+            7,
+            verdicts.len() != message.signatures() || verdicts.iter().any(|&verdict| verdict > 1),
+        )?;
+        refuse_if(8, verdicts[0] == 0)?;
+        refuse_if(9, message.quorums().any(|entries| !is_quorum(entries, f)))?;
+        refuse_if(10, verdicts[1..].contains(&0))?;
+        refuse_if(
+            11,
+            message.timestamps().any(|timestamp| !timestamp.in_range()),
+        )?;
+        Ok(message)
+    }
 }

@@ -1,5 +1,7 @@
 //! An independent model of the register, written from the specification and not from the proved code: replicas, clients,
-//! messages, cards and digests, and what a script of calls prints. The comparisons in tests/ and the bench rest on it.
+//! viewing clients, messages, cards and digests, and what a script of calls prints. The comparisons in tests/ and the bench
+//! rest on it.
+pub mod asker;
 pub mod card;
 pub mod client;
 pub mod message;
@@ -7,3 +9,4 @@ pub mod random;
 pub mod replica;
 pub mod script;
 pub mod sha256;
+pub mod viewer;

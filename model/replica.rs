@@ -40,6 +40,13 @@ impl Replica {
         })
     }
 
+    /// The held timestamp.
+    pub fn timestamp(&self) -> Timestamp {
+        self.held
+            .as_ref()
+            .map_or(Timestamp::START, |held| held.proof.timestamp)
+    }
+
     pub fn receive(
         &mut self,
         bytes: &[u8],
@@ -47,7 +54,7 @@ impl Replica {
         room: usize,
     ) -> Result<Answer, Refusal> {
         check_room(room)?;
-        let message = check(bytes, verdicts, READ_TIMESTAMP..=READ, CLIENTS, self.f)?;
+        let message = Receiver::Replica.check(bytes, verdicts, self.f)?;
         let reply = match message.kind {
             READ_TIMESTAMP => self.show_timestamp(&message),
             PREPARE => self.prepare(&message)?,
@@ -114,12 +121,8 @@ impl Replica {
     fn write(&mut self, request: Message) -> Result<Message, Refusal> {
         request.check_card()?;
         let timestamp = request.prepared_timestamp();
-        let held = self
-            .held
-            .as_ref()
-            .map_or(Timestamp::START, |held| held.proof.timestamp);
-        if let (true, Some(card), Some(proof)) = (timestamp > held, request.card, request.prepared)
-        {
+        let is_later = timestamp > self.timestamp();
+        if let (true, Some(card), Some(proof)) = (is_later, request.card, request.prepared) {
             self.held = Some(Held { card, proof });
         }
         Ok(Message {

@@ -2,6 +2,7 @@
 use super::client::Client;
 use super::message::{Answer, Message, Refusal, Timestamp};
 use super::replica::Replica;
+use super::viewer::Viewer;
 use std::collections::BTreeMap;
 use std::fmt;
 
@@ -135,6 +136,7 @@ impl<T: Clone> Parties<T> {
 pub struct Player {
     replicas: Parties<Replica>,
     clients: Parties<Client>,
+    viewers: Parties<Viewer>,
     sent: Vec<Vec<u8>>,
 }
 
@@ -151,7 +153,7 @@ impl Player {
         output.unwrap_or(Output::Unread)
     }
 
-    /// Everything but the four calls.
+    /// Everything but the calls.
     fn arrange(&mut self, words: &[&str]) -> Option<Output> {
         match *words {
             ["new"] => {
@@ -166,20 +168,27 @@ impl Player {
                 let (f, id, nonce) = (f.parse().ok()?, id.parse().ok()?, nonce.parse().ok()?);
                 Some(self.clients.set_up(id, Client::new(f, id, nonce)))
             }
+            ["viewer", f, id, nonce] => {
+                let (f, id, nonce) = (f.parse().ok()?, id.parse().ok()?, nonce.parse().ok()?);
+                Some(self.viewers.set_up(id, Viewer::new(f, id, nonce)))
+            }
             ["keep", "replica", id] => self.replicas.keep(id),
             ["keep", "client", id] => self.clients.keep(id),
+            ["keep", "viewer", id] => self.viewers.keep(id),
             ["restore", "replica", id] => self.replicas.restore(id),
             ["restore", "client", id] => self.clients.restore(id),
+            ["restore", "viewer", id] => self.viewers.restore(id),
             _ => None,
         }
     }
 
-    /// The four calls of document 01.
+    /// The four calls of document 01, and the two of a viewing client.
     fn call(&mut self, call: &str, room: usize) -> Option<Output> {
         let words: Vec<&str> = call.split(' ').collect();
         let answer = match *words {
             ["write", id, card] => self.clients.get(id)?.begin_write(&unhex(card)?, room),
             ["read", id] => self.clients.get(id)?.begin_read(room),
+            ["view", id] => self.viewers.get(id)?.begin_view(room),
             ["to-replica", id, message, verdicts] => {
                 let (message, verdicts) = self.delivery(message, verdicts)?;
                 self.replicas.get(id)?.receive(&message, &verdicts, room)
@@ -187,6 +196,10 @@ impl Player {
             ["to-client", id, message, verdicts] => {
                 let (message, verdicts) = self.delivery(message, verdicts)?;
                 self.clients.get(id)?.receive(&message, &verdicts, room)
+            }
+            ["to-viewer", id, message, verdicts] => {
+                let (message, verdicts) = self.delivery(message, verdicts)?;
+                self.viewers.get(id)?.receive(&message, &verdicts, room)
             }
             _ => return None,
         };
@@ -223,6 +236,12 @@ impl Player {
             Ok(Answer::Ended) => Output::Ended,
             Err(refusal) => Output::Refused(refusal),
         }
+    }
+
+    /// What the replicas hold.
+    pub fn held(&self) -> Vec<Timestamp> {
+        let replicas = self.replicas.present.values();
+        replicas.map(Replica::timestamp).collect()
     }
 
     /// The line with a message named by its number written out in hex.

@@ -2,7 +2,7 @@
 use std::process::exit;
 use std::time::{SystemTime, UNIX_EPOCH};
 
-const CALLS: u64 = 400_000;
+const CALLS: u64 = 500_000;
 
 fn number(word: &String) -> u64 {
     word.parse().unwrap_or_else(|_| {

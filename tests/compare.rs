@@ -9,10 +9,12 @@ mod generate;
 mod model;
 mod tally;
 
+use generate::Script;
 use model::random;
 use model::script::{Output, Player};
 use std::io::{self, Write};
 use std::process::{Command, ExitCode, Stdio};
+use tally::Tally;
 
 /// What the program prints for a script.
 fn run_program(program: &str, lines: &[String]) -> io::Result<Vec<String>> {
@@ -146,27 +148,43 @@ impl Failure<'_> {
     }
 }
 
+/// Compares on a script, and counts what occurred. `Ok(false)` where they differ.
+fn compare_script(program: &str, seed: u64, script: Script, tally: &mut Tally) -> io::Result<bool> {
+    let given = run_program(program, &script.lines)?;
+    if let Some(difference) = first_difference(&script.expected, &given) {
+        let mut failure = Failure {
+            program,
+            lines: script.lines,
+            difference,
+        };
+        failure.shrink();
+        failure.print(seed);
+        return Ok(false);
+    }
+    for (line, output) in script.lines.iter().zip(&script.expected) {
+        tally.count(line, output);
+    }
+    for view in &script.views {
+        tally.count_view(view);
+    }
+    Ok(true)
+}
+
 /// Compares until `calls` calls were made. `Ok(false)` where the comparison failed.
 fn compare(program: &str, seed: u64, calls: usize) -> io::Result<bool> {
     let mut random = random::Random::new(seed);
-    let mut tally = tally::Tally::default();
-    while tally.calls < calls {
-        let script = generate::script(&mut random);
-        let given = run_program(program, &script.lines)?;
-        if let Some(difference) = first_difference(&script.expected, &given) {
-            let mut failure = Failure {
-                program,
-                lines: script.lines,
-                difference,
-            };
-            failure.shrink();
-            failure.print(seed);
-            return Ok(false);
+    let mut tally = Tally::default();
+    let mut script = generate::every_sender(&mut random);
+    while compare_script(program, seed, script, &mut tally)? {
+        if tally.calls >= calls {
+            return Ok(occurred_enough(&tally, seed));
         }
-        for (line, output) in script.lines.iter().zip(&script.expected) {
-            tally.count(line, output);
-        }
+        script = generate::script(&mut random);
     }
+    Ok(false)
+}
+
+fn occurred_enough(tally: &Tally, seed: u64) -> bool {
     tally.print();
     let shortfalls = tally.shortfalls();
     for shortfall in &shortfalls {
@@ -175,7 +193,7 @@ fn compare(program: &str, seed: u64, calls: usize) -> io::Result<bool> {
     if shortfalls.is_empty() {
         println!("{} calls compared, seed {seed}: all equal", tally.calls);
     }
-    Ok(shortfalls.is_empty())
+    shortfalls.is_empty()
 }
 
 /// Compares on the scripts in files. `Ok(false)` where one differs.

@@ -1,5 +1,5 @@
-//! Cards, and messages with defects: what damage and faulty parties hand over.
-use crate::model::card::FIELDS;
+//! Cards, sound messages, and messages with defects: what damage and faulty parties hand over.
+use crate::model::card::{FIELDS, STARTING_CARD};
 use crate::model::message::*;
 use crate::model::random::Random;
 use crate::model::sha256::sha256;
@@ -113,6 +113,58 @@ pub fn written_proof(random: &mut Random, timestamp: Timestamp, f: u8) -> Writte
     }
 }
 
+/// The message with just the fields that its kind has.
+pub fn trimmed(full: Message) -> Message {
+    let of = |kinds: &[u8]| kinds.contains(&full.kind);
+    Message {
+        nonce: full
+            .nonce
+            .filter(|_| of(&[READ_TIMESTAMP, READ, TIMESTAMP, CARD])),
+        timestamp: full.timestamp.filter(|_| of(&[PREPARE, PREPARED, WRITTEN])),
+        digest: full.digest.filter(|_| of(&[PREPARE, PREPARED])),
+        card: full.card.filter(|_| of(&[WRITE, CARD])),
+        prepared: full
+            .prepared
+            .filter(|_| of(&[PREPARE, WRITE, TIMESTAMP, CARD])),
+        written: full.written.filter(|_| of(&[PREPARE])),
+        addressed: full.addressed.filter(|_| of(&[TIMESTAMP, CARD])),
+        ..full
+    }
+}
+
+/// A message that only its sender's number can get refused, by a party that holds nothing.
+pub fn sound(random: &mut Random, kind: u8, sender: u8, f: u8) -> Message {
+    let shows = kind == WRITE || random.percent(60);
+    let card = if shows {
+        good_card(random)
+    } else {
+        STARTING_CARD.to_vec()
+    };
+    let shown = Timestamp {
+        count: random.pick(&[1, 2, 255, u32::MAX - 1]),
+        client: random.pick(&[1, 2, 63, 64]),
+    };
+    let proof = prepared_proof(random, shown, sha256(&card), f);
+    let client = if kind == PREPARE {
+        sender
+    } else {
+        shown.client
+    };
+    let count = if shows { shown.count + 1 } else { 1 };
+    let own = Timestamp { count: 1, client };
+    trimmed(Message {
+        nonce: Some(random.number()),
+        timestamp: Some(Timestamp { count, client }),
+        digest: Some(random.bytes()),
+        card: Some(card),
+        prepared: Some(proof).filter(|_| shows),
+        written: Some(written_proof(random, own, f)).filter(|_| random.percent(50)),
+        addressed: Some(random.pick(&[1, 64, 65, 96])),
+        signature: random.bytes(),
+        ..Message::new(kind, sender)
+    })
+}
+
 /// Puts a defect into a field, or answers false where the message has nothing of that sort.
 type Spoiler = fn(&mut Random, &mut Message, u8) -> bool;
 
@@ -181,12 +233,12 @@ fn add_field(random: &mut Random, message: &mut Message, f: u8) -> bool {
 }
 
 fn spoil_sender(random: &mut Random, message: &mut Message, f: u8) -> bool {
-    message.sender = random.pick(&[0, 65, replicas(f) + 1, 255]);
+    message.sender = random.pick(&[0, 97, replicas(f) + 1, 255]);
     true
 }
 
 fn change_sender(random: &mut Random, message: &mut Message, f: u8) -> bool {
-    message.sender = random.pick(&[1, 2, replicas(f), 64]);
+    message.sender = random.pick(&[1, 2, replicas(f), 64, 65, 96]);
     true
 }
 
@@ -226,7 +278,7 @@ fn spoil_entries(random: &mut Random, message: &mut Message, f: u8) -> bool {
 /// Proofs of any number of entries, most often about as many as the longest message has room for.
 fn lengthen_proofs(random: &mut Random, message: &mut Message, _: u8) -> bool {
     let any = random.below(MOST_ENTRIES + 1);
-    let mut left = random.pick(&[any, 20, 21, 22, 22, 23, 24]);
+    let mut left = random.pick(&[any, 20, 21, 22, 22, 23, 23, 24]);
     let mut quorums = quorums(message);
     if quorums.is_empty() {
         return false;
@@ -268,11 +320,12 @@ fn spoil_timestamp(random: &mut Random, message: &mut Message, _: u8) -> bool {
         return false;
     }
     let at = random.below(all.len());
-    match random.below(5) {
+    match random.below(6) {
         0 => *all[at] = Timestamp::START,
         1 => all[at].count = 0,
         2 => all[at].client = 0,
         3 => all[at].client = 65,
+        4 => all[at].client = 96,
         _ => all[at].client = 255,
     }
     true
@@ -355,7 +408,7 @@ fn change_addressed(random: &mut Random, message: &mut Message, _: u8) -> bool {
     if message.addressed.is_none() {
         return false;
     }
-    message.addressed = Some(random.pick(&[0, 1, 2, 64, 65, 255]));
+    message.addressed = Some(random.pick(&[0, 1, 2, 64, 65, 66, 96, 97, 255]));
     true
 }
 

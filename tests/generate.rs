@@ -10,10 +10,17 @@ use std::collections::{BTreeMap, BTreeSet};
 /// Below the 1,048,576 bytes that the proved program reads, with room for the longest line.
 const SCRIPT_BYTES: usize = 990_000;
 
+/// A view that is done: what it shows, and what the replicas hold by then.
+pub struct View {
+    pub shown: Timestamp,
+    pub held: Vec<Timestamp>,
+}
+
 #[derive(Default)]
 pub struct Script {
     pub lines: Vec<String>,
     pub expected: Vec<Output>,
+    pub views: Vec<View>,
     bytes: usize,
     player: Player,
 }
@@ -34,7 +41,21 @@ impl Script {
 #[derive(Clone, Copy)]
 enum Party {
     Replica(u8),
+    /// Of either kind, which its number tells.
     Client(u8),
+}
+
+fn views(id: u8) -> bool {
+    VIEWERS.contains(&id)
+}
+
+/// What a script calls a client with this number.
+fn noun(id: u8) -> &'static str {
+    if views(id) {
+        "viewer"
+    } else {
+        "client"
+    }
 }
 
 /// A message on its way, signed.
@@ -177,6 +198,19 @@ pub fn script(random: &mut Random) -> Script {
     script
 }
 
+/// A request of each kind from each number at one replica, so that none is left to chance.
+pub fn every_sender(random: &mut Random) -> Script {
+    let mut script = Script::default();
+    script.add("replica 1 1".to_string());
+    for kind in READ_TIMESTAMP..=READ {
+        for sender in 0..=u8::MAX {
+            let request = sound(random, kind, sender, 1);
+            script.add(format!("to-replica 1 {} +", hex(&request.encode())));
+        }
+    }
+    script
+}
+
 /// The signing box: bytes that hang on all that is signed, which names the sender.
 fn sign(message: &mut Message) {
     let bytes = message.encode();
@@ -195,7 +229,10 @@ impl<'a> Run<'a> {
             .unwrap();
         let ids = [[1, 2, 64], [3, 5, 4], [63, 64, 1], [7, 62, 33]];
         let ids = random.pick(&ids)[..1 + random.below(3)].to_vec();
-        let clients = ids.iter().map(|&id| ClientView::new(id)).collect();
+        let viewers = [[65, 96], [66, 65], [96, 95], [80, 77]];
+        let viewers = &random.pick(&viewers)[..random.below(3)];
+        let all = ids.iter().chain(viewers);
+        let clients = all.map(|&id| ClientView::new(id)).collect();
         let mut senders = ids;
         senders.push(random.pick(&[1, 2, 6, 64]));
         let cards = vec![STARTING_CARD.to_vec(), good_card(random), good_card(random)];
@@ -230,9 +267,7 @@ impl<'a> Run<'a> {
             self.script.add(format!("replica {} {id}", self.f));
         }
         for at in 0..self.clients.len() {
-            let nonce = self.first_nonce();
-            self.script
-                .add(format!("client {} {} {nonce}", self.f, self.clients[at].id));
+            self.set_up_client(self.clients[at].id);
         }
         for _ in 0..100 + 80 * usize::from(self.f) {
             if self.script.is_full() {
@@ -240,6 +275,12 @@ impl<'a> Run<'a> {
             }
             self.act();
         }
+    }
+
+    fn set_up_client(&mut self, id: u8) {
+        let nonce = self.first_nonce();
+        self.script
+            .add(format!("{} {} {id} {nonce}", noun(id), self.f));
     }
 
     fn first_nonce(&mut self) -> u64 {
@@ -299,6 +340,9 @@ impl<'a> Run<'a> {
         };
         let id = self.clients[at].id;
         let lent = self.lent(40);
+        if views(id) {
+            return self.play_line(Party::Client(id), format!("{lent}view {id}"), None);
+        }
         if self.random.percent(40) {
             return self.play_line(Party::Client(id), format!("{lent}read {id}"), None);
         }
@@ -328,7 +372,7 @@ impl<'a> Run<'a> {
         format!("lent {room} ")
     }
 
-    /// Plays one of the four calls and takes note of its answer. `asking` is the client that a replica answers.
+    /// Plays a call and takes note of its answer. `asking` is the client that a replica answers.
     fn play_line(&mut self, party: Party, line: String, asking: Option<u8>) {
         match (self.script.add(line), party) {
             (Output::Sent(number, message), _) => {
@@ -337,7 +381,11 @@ impl<'a> Run<'a> {
                 sign(&mut message);
                 self.post(party, number, message, asking);
             }
-            (Output::Done(..) | Output::Ended, Party::Client(id)) => self.note_end(id),
+            (Output::Done(shown, _), Party::Client(id)) => {
+                let shown = *shown;
+                self.note_done(id, shown);
+            }
+            (Output::Ended, Party::Client(id)) => self.note_end(id),
             (Output::Refused(17), Party::Client(id)) => self.renew(id),
             _ => (),
         }
@@ -380,9 +428,16 @@ impl<'a> Run<'a> {
     fn renew(&mut self, id: u8) {
         let spent = self.client(id).is_some_and(|client| !client.busy);
         if spent && self.random.percent(60) {
-            let nonce = self.first_nonce();
-            self.script.add(format!("client {} {id} {nonce}", self.f));
+            self.set_up_client(id);
         }
+    }
+
+    fn note_done(&mut self, id: u8, shown: Timestamp) {
+        if views(id) {
+            let held = self.script.player.held();
+            self.script.views.push(View { shown, held });
+        }
+        self.note_end(id);
     }
 
     fn note_end(&mut self, id: u8) {
@@ -419,7 +474,7 @@ impl<'a> Run<'a> {
         let message = number.map_or(hex(&message), |number| format!("@{number}"));
         let line = match party {
             Party::Replica(id) => format!("{lent}to-replica {id} {message} {verdicts}"),
-            Party::Client(id) => format!("{lent}to-client {id} {message} {verdicts}"),
+            Party::Client(id) => format!("{lent}to-{} {id} {message} {verdicts}", noun(id)),
         };
         self.play_line(party, line, asking);
     }
@@ -570,10 +625,10 @@ impl<'a> Run<'a> {
 
     /// A request in the name of some client.
     fn forge_request(&mut self) {
-        let sender = if self.random.percent(92) {
-            self.random.pick(&self.senders)
-        } else {
-            1 + self.random.byte() % 64
+        let sender = match self.random.below(100) {
+            0..=89 => self.random.pick(&self.senders),
+            90..=95 => 1 + self.random.byte() % 64,
+            _ => self.random.byte(),
         };
         let signature = self.random.bytes();
         let kind = 1 + self.random.weighted(&[12, 46, 27, 15]) as u8;
@@ -667,11 +722,11 @@ impl<'a> Run<'a> {
         match self.kept_clients.get(&id) {
             Some(kept) if self.random.percent(60) => {
                 *client = kept.clone();
-                self.script.add(format!("restore client {id}"));
+                self.script.add(format!("restore {} {id}", noun(id)));
             }
             _ => {
                 self.kept_clients.insert(id, client.clone());
-                self.script.add(format!("keep client {id}"));
+                self.script.add(format!("keep {} {id}", noun(id)));
             }
         }
     }
@@ -686,9 +741,10 @@ impl<'a> Run<'a> {
                 self.kept_replicas.remove(&id);
             }
         } else {
-            let id = self.random.pick(&[0, 1, 64, 65, 65, 128, 255]);
+            let id = self.random.pick(&[0, 1, 64, 65, 96, 97, 255]);
             let nonce = self.random.pick(&[0, 0, 1, u64::MAX]);
-            if *self.script.add(format!("client {f} {id} {nonce}")) == Output::Ready {
+            let noun = self.random.pick(&["client", "viewer"]);
+            if *self.script.add(format!("{noun} {f} {id} {nonce}")) == Output::Ready {
                 self.note_end(id);
             }
         }
@@ -701,8 +757,12 @@ impl<'a> Run<'a> {
             "read 40",
             "to-replica 17 - -",
             "to-client 65 - -",
+            "to-viewer 1 - -",
+            "view 1",
             "keep replica 17",
+            "keep viewer 1",
             "restore client 65",
+            "restore viewer 97",
             "lent 1601 read 1",
             "lent 1579 new",
             "what",

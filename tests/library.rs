@@ -8,16 +8,23 @@ mod generate;
 #[allow(dead_code)] // the other comparisons use more of it
 #[path = "../model/mod.rs"]
 mod model;
+#[allow(dead_code)] // the comparison of scripts uses more of it
+mod tally;
 #[path = "../rust/replica.rs"]
 mod wrapper;
 
+use generate::Script;
 use model::random;
 use model::script::{self, unhex, Output, Player};
 use std::collections::BTreeMap;
 use std::process::ExitCode;
+use tally::Tally;
 use wrapper::{Answer, ReplicaId, LONGEST_MESSAGE};
 
 const UNTOUCHED: u8 = 165;
+
+/// What is compared of a script, as it calls it.
+const CALL: &str = "to-replica";
 
 // A line that does not say how much it lends lends enough.
 const _: () = assert!(script::FULL_OUTPUT >= LONGEST_MESSAGE);
@@ -113,7 +120,7 @@ impl Library {
                 let id = id.parse().ok()?;
                 self.servers.insert(id, self.kept.get(&id)?.copy()?);
             }
-            ["to-replica", id, message, verdicts] => {
+            [CALL, id, message, verdicts] => {
                 let message = unhex(message)?;
                 let verdicts = match verdicts {
                     "+" => script::all_genuine(&message),
@@ -137,40 +144,57 @@ impl Library {
     }
 }
 
-/// The number of calls that were compared, or the first line at which the library and the model part.
-fn compare(seed: u64, calls: usize) -> Result<usize, String> {
-    let mut random = random::Random::new(seed);
-    let mut compared = 0;
-    while compared < calls {
-        let script = generate::script(&mut random);
-        let mut model = Player::default();
-        let mut library = Library::default();
-        for (line, expected) in script.lines.iter().zip(&script.expected) {
-            let spelled = model.spelled_out(line);
-            model.play(line);
-            if *expected == Output::Unread {
-                continue;
-            }
-            if library.agrees(&spelled, expected) != Some(true) {
-                return Err(format!("{spelled}\nmust give {expected}"));
-            }
-            compared += usize::from(line.contains("to-replica"));
+/// The first line of a script at which the library and the model part. Counts the calls before it.
+fn compare(script: &Script, tally: &mut Tally) -> Result<(), String> {
+    let mut model = Player::default();
+    let mut library = Library::default();
+    for (line, expected) in script.lines.iter().zip(&script.expected) {
+        let spelled = model.spelled_out(line);
+        model.play(line);
+        if *expected == Output::Unread {
+            continue;
+        }
+        if library.agrees(&spelled, expected) != Some(true) {
+            return Err(format!("{spelled}\nmust give {expected}"));
+        }
+        if line.contains(CALL) {
+            tally.count(line, expected);
         }
     }
-    Ok(compared)
+    Ok(())
+}
+
+/// Compares on scripts until so many calls were made, and tells what occurred.
+fn compare_scripts(seed: u64, calls: usize) -> Result<Tally, String> {
+    let mut random = random::Random::new(seed);
+    let mut tally = Tally::default();
+    compare(&generate::every_sender(&mut random), &mut tally)?;
+    while tally.calls < calls {
+        compare(&generate::script(&mut random), &mut tally)?;
+    }
+    Ok(tally)
 }
 
 fn main() -> ExitCode {
     let words: Vec<String> = std::env::args().skip(1).collect();
     let (seed, calls) = arguments::seed_and_calls(&words);
-    match compare(seed, calls) {
-        Ok(calls) => {
-            println!("{calls} calls of the static library compared, seed {seed}: all equal");
-            ExitCode::SUCCESS
-        }
+    let tally = match compare_scripts(seed, calls) {
+        Ok(tally) => tally,
         Err(difference) => {
             println!("A difference, seed {seed}:\n{difference}");
-            ExitCode::FAILURE
+            return ExitCode::FAILURE;
         }
+    };
+    let shortfalls = tally.shortfalls_of(CALL);
+    for shortfall in &shortfalls {
+        println!("too seldom: {shortfall}");
     }
+    if !shortfalls.is_empty() {
+        return ExitCode::FAILURE;
+    }
+    println!(
+        "{} calls of the static library compared, seed {seed}: all equal",
+        tally.calls
+    );
+    ExitCode::SUCCESS
 }

@@ -1,8 +1,9 @@
 //! How often each call had each answer, and whether that is often enough.
-use crate::model::message::KIND_NAMES;
-use crate::model::message::{Message, LONGEST_MESSAGE};
+use crate::generate::View;
+use crate::model::message::{Message, KIND_NAMES, LONGEST_MESSAGE};
 use crate::model::script::{lent, unhex, Output};
-use std::collections::BTreeMap;
+use std::cmp::Ordering;
+use std::collections::{BTreeMap, BTreeSet};
 
 /// Rows beside the answers: outputs on both sides of test 1; answered messages of the largest length; messages that are too
 /// long (2) or almost (9) by the entries of one proof or of two.
@@ -11,7 +12,11 @@ const LONGEST: &str = "longest";
 const LONG: [&str; 2] = ["long, 2", "long, 9"];
 const BOTH_LONG: [&str; 2] = ["both, 2", "both, 9"];
 
-/// What a line is: the set-up, keeping and restoring of a party, or one of the four calls.
+/// Views that are done while some replica holds a smaller timestamp than they show, the same, or a larger one.
+const HELD: [&str; 3] = ["held less", "held same", "held more"];
+const DONE: &str = "done";
+
+/// What a line is: the set-up, keeping and restoring of a party, or a call.
 struct Column {
     name: &'static str,
     is_call: bool,
@@ -19,8 +24,8 @@ struct Column {
     refusals: &'static [u8],
 }
 
-/// All that can occur, by document 01.
-const COLUMNS: [Column; 6] = [
+/// All that can occur, by documents 01 and 02.
+const COLUMNS: [Column; 9] = [
     Column {
         name: "replica",
         is_call: false,
@@ -34,6 +39,12 @@ const COLUMNS: [Column; 6] = [
         refusals: &[16],
     },
     Column {
+        name: "viewer",
+        is_call: false,
+        rows: &["ready", "kept", "restored"],
+        refusals: &[16],
+    },
+    Column {
         name: "write",
         is_call: true,
         rows: &["READ-STAMP", LENT[0], LENT[1]],
@@ -41,6 +52,12 @@ const COLUMNS: [Column; 6] = [
     },
     Column {
         name: "read",
+        is_call: true,
+        rows: &["READ", LENT[0], LENT[1]],
+        refusals: &[1, 17],
+    },
+    Column {
+        name: "view",
         is_call: true,
         rows: &["READ", LENT[0], LENT[1]],
         refusals: &[1, 17],
@@ -61,20 +78,29 @@ const COLUMNS: [Column; 6] = [
             BOTH_LONG[0],
             BOTH_LONG[1],
         ],
-        refusals: &[1, 2, 3, 4, 5, 6, 7, 8, 9, 10, 11, 12, 13, 14, 15],
+        refusals: &[1, 2, 3, 4, 5, 6, 7, 8, 9, 10, 11, 12, 13, 14, 15, 19],
     },
     Column {
         name: "to-client",
         is_call: true,
         rows: &[
-            "PREPARE", "WRITE", "counted", "done", "ended", LENT[0], LENT[1], LONG[0], LONG[1],
+            "PREPARE", "WRITE", "counted", DONE, "ended", LENT[0], LENT[1], LONG[0], LONG[1],
+        ],
+        refusals: &[1, 2, 3, 4, 5, 6, 7, 8, 9, 10, 11, 14, 18],
+    },
+    Column {
+        name: "to-viewer",
+        is_call: true,
+        rows: &[
+            "counted", DONE, HELD[0], HELD[1], HELD[2], LENT[0], LENT[1], LONG[0], LONG[1],
         ],
         refusals: &[1, 2, 3, 4, 5, 6, 7, 8, 9, 10, 11, 14, 18],
     },
 ];
 
-/// Each must occur at least once in so many calls.
-const ONE_IN: usize = 4_000;
+/// Each must occur at least once in so many calls, and a finished operation more often.
+const ONE_IN: usize = 5_000;
+const DONE_IN: usize = 500;
 /// The bytes of a proof's entry.
 const ENTRY: usize = 65;
 
@@ -89,8 +115,10 @@ fn rows() -> Vec<String> {
     [
         names(&["ready", "kept", "restored"]),
         names(&KIND_NAMES),
-        names(&["counted", "done", "ended"]),
-        (1..=18).map(refusal_row).collect(),
+        names(&["counted", DONE]),
+        names(&HELD),
+        names(&["ended"]),
+        (1..=19).map(refusal_row).collect(),
         names(&LENT),
         names(&[LONGEST]),
         names(&LONG),
@@ -112,6 +140,10 @@ impl Column {
             "keep" | "restore" => words.next()?,
             word => word,
         };
+        Column::named(name)
+    }
+
+    fn named(name: &str) -> Option<&'static Column> {
         COLUMNS.iter().find(|column| column.name == name)
     }
 
@@ -124,7 +156,7 @@ impl Column {
 
 #[derive(Default)]
 pub struct Tally {
-    /// The four calls, of parties that were set up.
+    /// Of parties that were set up.
     pub calls: usize,
     accepted: usize,
     occurred: BTreeMap<(&'static str, String), usize>,
@@ -135,7 +167,7 @@ impl Tally {
         let row = match output {
             Output::Refused(refusal) => refusal_row(*refusal),
             Output::Sent(_, message) => KIND_NAMES[usize::from(message[2]) - 1].to_string(),
-            Output::Done(..) => "done".to_string(),
+            Output::Done(..) => DONE.to_string(),
             Output::Comment(_) | Output::New | Output::Unread => return,
             other => other.to_string(),
         };
@@ -147,6 +179,15 @@ impl Tally {
             self.accepted += usize::from(!matches!(output, Output::Refused(_)));
             self.note_output(column, room);
             self.note_message(column, call, output);
+        }
+    }
+
+    pub fn count_view(&mut self, view: &View) {
+        let column = Column::named("to-viewer").expect("a column's name");
+        let held: BTreeSet<Ordering> = view.held.iter().map(|held| held.cmp(&view.shown)).collect();
+        for order in held {
+            // less is -1, equal 0, greater 1
+            self.note(column, HELD[(order as i8 + 1) as usize]);
         }
     }
 
@@ -212,24 +253,31 @@ impl Tally {
 
     /// What occurred too seldom for the comparison to mean much.
     pub fn shortfalls(&self) -> Vec<String> {
-        let least = self.calls / ONE_IN;
-        let mut short = Vec::new();
-        for column in &COLUMNS {
-            for row in rows() {
-                let times = self.times(column, &row);
-                if column.has(&row) && times < least {
-                    short.push(format!(
-                        "{}, {row}: {times} times, wanted at least {least}",
-                        column.name
-                    ));
-                }
-            }
-        }
+        let names = COLUMNS.iter().map(|column| column.name);
+        let mut short: Vec<String> = names.flat_map(|name| self.shortfalls_of(name)).collect();
         if 3 * self.accepted < self.calls {
             short.push(format!(
                 "{} of {} calls accepted, wanted a third",
                 self.accepted, self.calls
             ));
+        }
+        short
+    }
+
+    /// The same of a single column.
+    pub fn shortfalls_of(&self, name: &str) -> Vec<String> {
+        let column = Column::named(name).expect("a column's name");
+        let mut short = Vec::new();
+        for row in rows() {
+            let times = self.times(column, &row);
+            let one_in = if row == DONE { DONE_IN } else { ONE_IN };
+            let least = self.calls / one_in;
+            if column.has(&row) && times < least {
+                short.push(format!(
+                    "{}, {row}: {times} times, wanted at least {least}",
+                    column.name
+                ));
+            }
         }
         short
     }

@@ -3,6 +3,10 @@
 //! `programs DIRECTORY [SEED]`: DIRECTORY has the programs. Built by
 //! `rustc -O --edition 2021 tests/programs/main.rs -o target/programs`.
 mod cards;
+#[allow(dead_code)] // the other comparisons use more of it
+#[path = "../forge.rs"]
+mod forge;
+mod judgements;
 mod messages;
 #[allow(dead_code)] // the other comparisons use more of it
 #[path = "../../model/mod.rs"]

@@ -1,11 +1,15 @@
-//! Messages for the program `messages`: two at a time for the later card, and the first by itself for its fields and signatures.
+//! Messages for the program `messages`: two at a time for the later card, and the first by itself for its fields and
+//! signatures; and others with verdicts.
 use crate::cards::{damaged_card, good_card};
+use crate::forge::trimmed;
+use crate::judgements;
 use crate::model::message::*;
 use crate::model::random::Random;
 use crate::program::{hex, Failure, Line, Program};
 use crate::tally::Tally;
 
 const PAIRS: usize = 10_000;
+const JUDGEMENTS: usize = 12_000;
 const ROOM: usize = 262_144;
 
 pub const FLOORS: [(&str, usize); 21] = [
@@ -88,31 +92,18 @@ fn of_kind(random: &mut Random) -> Message {
     } else {
         random.pick(&[READ_TIMESTAMP, PREPARE, READ, TIMESTAMP, PREPARED, WRITTEN])
     };
-    let mut message = Message::new(kind, random.byte());
-    message.signature = random.bytes();
-    let shows_proof = random.percent(75);
-    if [READ_TIMESTAMP, READ, TIMESTAMP, CARD].contains(&kind) {
-        message.nonce = Some(random.number());
-    }
-    if [PREPARE, PREPARED, WRITTEN].contains(&kind) {
-        message.timestamp = Some(timestamp(random));
-    }
-    if [PREPARE, PREPARED].contains(&kind) {
-        message.digest = Some(random.bytes());
-    }
-    if [WRITE, CARD].contains(&kind) {
-        message.card = Some(card(random));
-    }
-    if kind == WRITE || [PREPARE, TIMESTAMP, CARD].contains(&kind) && shows_proof {
-        message.prepared = Some(prepared(random));
-    }
-    if kind == PREPARE && random.percent(50) {
-        message.written = Some(written(random));
-    }
-    if [TIMESTAMP, CARD].contains(&kind) {
-        message.addressed = Some(random.byte());
-    }
-    message
+    let shows_proof = kind == WRITE || random.percent(75);
+    trimmed(Message {
+        nonce: Some(random.number()),
+        timestamp: Some(timestamp(random)),
+        digest: Some(random.bytes()),
+        card: Some(card(random)),
+        prepared: Some(prepared(random)).filter(|_| shows_proof),
+        written: Some(written(random)).filter(|_| random.percent(50)),
+        addressed: Some(random.byte()),
+        signature: random.bytes(),
+        ..Message::new(kind, random.byte())
+    })
 }
 
 /// Puts a field into a message or takes it out, so that the bits may be no kind's.
@@ -273,23 +264,8 @@ fn fields(message: &Message) -> String {
     .concat()
 }
 
-/// The message that a party that takes these kinds reads: tests 2 to 5.
-fn read(bytes: &[u8], to_replica: bool) -> Result<Message, Refusal> {
-    let kinds = if to_replica {
-        READ_TIMESTAMP..=READ
-    } else {
-        TIMESTAMP..=CARD
-    };
-    // Without verdicts 7 refuses what passes 2 to 6, and no sender breaks 6.
-    match check(bytes, &[], kinds, 0..=u8::MAX, 1) {
-        Err(7) => Message::decode(bytes),
-        Err(refusal) => Err(refusal),
-        Ok(_) => unreachable!("a message has a signature, and no verdict came with it"),
-    }
-}
-
-fn reading(bytes: &[u8], to_replica: bool, tally: &mut Tally) -> String {
-    match read(bytes, to_replica) {
+fn reading(bytes: &[u8], receiver: Receiver, tally: &mut Tally) -> String {
+    match receiver.read(bytes) {
         Ok(message) => {
             tally.count(format!(
                 "read {}",
@@ -334,15 +310,18 @@ fn entry_signatures(message: &Message) -> Vec<String> {
 }
 
 /// The signatures of a message that passes 2 to 5, and that there is no further one.
-fn signatures(bytes: &[u8], to_replica: bool, tally: &mut Tally) -> String {
-    let message = match read(bytes, to_replica) {
+fn signatures(bytes: &[u8], receiver: Receiver, tally: &mut Tally) -> String {
+    let message = match receiver.read(bytes) {
         Ok(message) => message,
         Err(refusal) => return format!("signatures 0 refused {refusal}"),
     };
     if message.prepared.is_some() && message.written.is_some() {
         tally.count("signatures of both proofs");
     }
-    let sender = if to_replica { "client" } else { "replica" };
+    let sender = match receiver {
+        Receiver::Replica => "client",
+        Receiver::Client => "replica",
+    };
     let own = signature(sender, &message);
     let others = entry_signatures(&message);
     format!(
@@ -352,18 +331,34 @@ fn signatures(bytes: &[u8], to_replica: bool, tally: &mut Tally) -> String {
     )
 }
 
-/// The party that takes the kind, most of the time: what it reads, and the signatures.
+/// The party that takes the kind, most of the time.
+pub fn receiver(random: &mut Random, kind: Option<u8>) -> Receiver {
+    let takes = kind.is_some_and(|kind| kind <= READ);
+    if takes != random.percent(10) {
+        Receiver::Replica
+    } else {
+        Receiver::Client
+    }
+}
+
+pub fn letter(receiver: Receiver) -> char {
+    match receiver {
+        Receiver::Replica => 'h',
+        Receiver::Client => 'd',
+    }
+}
+
+/// What a party reads, and the signatures.
 fn reading_lines(random: &mut Random, bytes: &[u8], tally: &mut Tally) -> [Line; 2] {
-    let takes = bytes.get(2).is_some_and(|kind| *kind <= READ);
-    let to_replica = takes != random.percent(10);
-    let letter = if to_replica { 'h' } else { 'd' };
+    let receiver = receiver(random, bytes.get(2).copied());
+    let letter = letter(receiver);
     let read = Line {
         text: format!("{letter} {}", hex(bytes)).into_bytes(),
-        expected: reading(bytes, to_replica, tally),
+        expected: reading(bytes, receiver, tally),
     };
     let signed = Line {
         text: format!("s {letter} {}", hex(bytes)).into_bytes(),
-        expected: signatures(bytes, to_replica, tally),
+        expected: signatures(bytes, receiver, tally),
     };
     [read, signed]
 }
@@ -387,5 +382,9 @@ fn lines(random: &mut Random, tally: &mut Tally) -> [Line; 3] {
 pub fn compare(program: &Program, random: &mut Random, tally: &mut Tally) -> Result<(), Failure> {
     let lines: Vec<Line> = (0..PAIRS).flat_map(|_| lines(random, tally)).collect();
     program.must_answer(&lines, ROOM)?;
+    let judged: Vec<Line> = (0..JUDGEMENTS)
+        .map(|_| judgements::line(random, tally))
+        .collect();
+    program.must_answer(&judged, ROOM)?;
     program.must_say_rest(ROOM)
 }

@@ -1,5 +1,5 @@
 // Reads messages in hex, one a line, behind `h ` where a replica is handed it and `d ` where a client is, and prints what the reader finds.
-// Behind `hF ` or `dF `, F a fault bound, verdicts follow the message, and it prints what tests 2 to 11 make of both.
+// Behind `hF ` or `dF `, F a fault bound, verdicts follow the message, and it prints what tests 2 to 11, and 19, make of both.
 // Behind `l ` two messages stand, and it prints the later card.
 // Behind `s h ` or `s d ` it prints the message's signatures: how many, whose each is, and the bytes that it covers.
 use base::timestamp::Timestamp;

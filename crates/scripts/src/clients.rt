@@ -1,4 +1,4 @@
-// Calls of a client.
+// Calls of a client, or of a viewing client: its record is a client's too.
 use crate::answers::Answer;
 use crate::answers::COUNTED;
 use crate::answers::ENDED;
@@ -14,8 +14,10 @@ use crate::log::handed;
 use crate::tasks::Call;
 use crate::tasks::Held;
 use crate::tasks::Task;
+use crate::tasks::Whom;
 use crate::tasks::behind_lent;
 use crate::tasks::lent;
+use crate::viewers;
 use base::party::ClientId;
 use base::party::Setup;
 use base::slices::front;
@@ -24,21 +26,18 @@ use protocol::client::Client;
 use protocol::client::ClientAnswer;
 
 // What a call leaves.
-struct ClientCalled {
-    client: Client,
-    answer: Answer,
+pub struct ClientCalled {
+    pub client: Client,
+    pub answer: Answer,
 }
 
-pub fn nobody() -> [Client; 130] {
+pub fn nobody() -> [Client; 194] {
     let none = client::fresh(0, ClientId(0), 0).client;
-    [none; 130]
+    [none; 194]
 }
 
 // A refused set-up leaves what was set up before.
-fn set_up(before: Client, f: u8, id: u8, nonce: u64) -> ClientCalled {
-    let made = client::fresh(f, ClientId(id), nonce);
-    let setup = made.setup;
-    let client = made.client;
+pub fn made(setup: Setup, client: Client, before: Client) -> ClientCalled {
     match setup {
         Setup::Good => ClientCalled {
             client: client,
@@ -49,6 +48,16 @@ fn set_up(before: Client, f: u8, id: u8, nonce: u64) -> ClientCalled {
             answer: plain(Outcome::Refused(number)),
         },
     }
+}
+
+fn set_up(before: Client, whom: Whom, f: u8, id: u8, nonce: u64) -> ClientCalled {
+    if let Whom::Viewer = whom {
+        return viewers::set_up(before, f, id, nonce);
+    }
+    let new = client::fresh(f, ClientId(id), nonce);
+    let setup = new.setup;
+    let client = new.client;
+    made(setup, client, before)
 }
 
 fn copy(client: Client, said: u8) -> ClientCalled {
@@ -68,7 +77,7 @@ fn outcome(answer: ClientAnswer) -> Outcome {
     }
 }
 
-fn called(stepped: Stepped) -> ClientCalled {
+pub fn called(stepped: Stepped) -> ClientCalled {
     let answer = stepped.answer;
     let card = stepped.card;
     let client = stepped.client;
@@ -86,31 +95,44 @@ fn begin_write(client: Client, card: &[u8], out: &mut [u8]) -> ClientCalled {
     called(client::begin_write(client, card, out))
 }
 
-fn begin_read(client: Client, out: &mut [u8]) -> ClientCalled {
+fn begin_read(client: Client, whom: Whom, out: &mut [u8]) -> ClientCalled {
+    if let Whom::Viewer = whom {
+        return viewers::begin_view(client, out);
+    }
     called(client::begin_read(client, out))
 }
 
-fn step(client: Client, message: &[u8], verdicts: &[u8], out: &mut [u8]) -> ClientCalled {
+fn step(
+    client: Client,
+    whom: Whom,
+    message: &[u8],
+    verdicts: &[u8],
+    out: &mut [u8],
+) -> ClientCalled {
+    if let Whom::Viewer = whom {
+        return viewers::step(client, message, verdicts, out);
+    }
     called(client::step(client, message, verdicts, out))
 }
 
 fn call(
     client: Client,
+    whom: Whom,
     call: Call,
     message: &Message,
     verdicts: &Verdicts,
     out: &mut [u8],
 ) -> ClientCalled {
     match call {
-        Call::SetUp(f, id, nonce) => set_up(client, f, id, nonce),
+        Call::SetUp(f, id, nonce) => set_up(client, whom, f, id, nonce),
         Call::Write(n) => begin_write(client, front(message, n), out),
-        Call::Read => begin_read(client, out),
-        Call::HandOver(n, m) => step(client, front(message, n), front(verdicts, m), out),
+        Call::Read => begin_read(client, whom, out),
+        Call::HandOver(n, m) => step(client, whom, front(message, n), front(verdicts, m), out),
         Call::Copy(said) => copy(client, said),
     }
 }
 
-// What a line about a client does: answers the record that it leaves.
+// What a line about a client or a viewing client does: answers the record that it leaves.
 pub fn turn(
     before: Client,
     task: Task,
@@ -131,7 +153,8 @@ pub fn turn(
         &mut message,
         &mut verdicts,
     );
-    let called = call(before, asked, &message, &verdicts, &mut out[0..room]);
+    let whom = task.whom;
+    let called = call(before, whom, asked, &message, &verdicts, &mut out[0..room]);
     let client = called.client;
     let answer = called.answer;
     finish(answer, task, line, &out, held, store, sent);

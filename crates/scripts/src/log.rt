@@ -2,6 +2,7 @@
 use crate::answers::UNREAD;
 use crate::tasks::Call;
 use crate::tasks::Task;
+use crate::tasks::Whom;
 use crate::tasks::place;
 use crate::words::Numeral;
 use crate::words::hex;
@@ -79,6 +80,14 @@ fn message(name: &[u8], store: &Store, sent: usize, to: &mut [u8]) -> Numeral {
     Numeral::Nothing
 }
 
+// What a message to someone is read as.
+fn party(whom: Whom) -> Party {
+    match whom {
+        Whom::Replica => Party::Replica,
+        _ => Party::Client,
+    }
+}
+
 // The verdicts that a word is: `+` for a 1 per signature, which are there already, or hex. A message that cannot be read has none, and is refused before they count.
 fn verdicts(name: &[u8], party: Party, message: &[u8], ones: &mut [u8]) -> Numeral {
     if check::same(name, b"+") {
@@ -126,10 +135,10 @@ pub fn handed(
     ones: &mut Verdicts,
 ) -> Call {
     let call = task.call;
-    let party = task.party;
+    let whom = task.whom;
     match call {
         Call::Write(_) => write(line, bytes),
-        Call::HandOver(_, _) => hand_over(party, line, store, sent, bytes, ones),
+        Call::HandOver(_, _) => hand_over(party(whom), line, store, sent, bytes, ones),
         _ => call,
     }
 }

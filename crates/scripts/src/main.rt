@@ -1,11 +1,13 @@
-// Plays scripts with replicas and clients, a line a call, and prints each answer. Bytes are in hex, `-` for none.
+// Plays scripts with replicas, clients and viewing clients, a line a call, and prints each answer. Bytes are in hex, `-` for none.
 //   new                                set all parties and messages aside
-//   replica F ID, client F ID NONCE    set a party up
-//   write ID CARD, read ID             begin a client's write or read
-//   to-replica ID MESSAGE VERDICTS     hand a message over, `@M` for the M-th that was sent;
-//   to-client ID MESSAGE VERDICTS      as verdicts `+` for a 1 per signature
+//   replica F ID, client F ID NONCE,   set a party up
+//   viewer F ID NONCE
+//   write ID CARD, read ID, view ID    begin a client's write or read, or a viewing client's view
+//   to-replica ID MESSAGE VERDICTS,    hand a message over, `@M` for the M-th that was sent;
+//   to-client ID MESSAGE VERDICTS,     as verdicts `+` for a 1 per signature
+//   to-viewer ID MESSAGE VERDICTS
 //   lent N CALL                        the same with an output of N bytes, 0 to 1,600, in place of 1,600
-//   keep PARTY ID, restore PARTY ID    copy a party's record aside, and put it back; PARTY is replica or client
+//   keep PARTY ID, restore PARTY ID    copy a party's record aside, and put it back; PARTY is replica, client or viewer
 //   # TEXT                             is printed as it stands
 // Any other line, and one about a party that is not set up, is unread.
 mod answers;
@@ -13,18 +15,19 @@ mod clients;
 mod log;
 mod replicas;
 mod tasks;
+mod viewers;
 mod words;
 
 use base::slices::front;
 use libc::STDIN_FILENO;
 use protocol::client::Client;
 use protocol::replica::Replica;
+use tasks::Whom;
 use tasks::place;
-use wire::message::Party;
 
 const SCRIPT: usize = 1_048_576;
 
-fn play_lines(script: &[u8], mut replicas: [Replica; 130], mut clients: [Client; 130]) {
+fn play_lines(script: &[u8], mut replicas: [Replica; 194], mut clients: [Client; 194]) {
     let mut held = tasks::nothing_held();
     let mut store = log::empty();
     let mut sent = 0;
@@ -34,12 +37,11 @@ fn play_lines(script: &[u8], mut replicas: [Replica; 130], mut clients: [Client;
         let line = &script[from..end];
         from = end + 1;
         let task = tasks::of_line(line, &held);
-        held = tasks::held_at(held, task);
-        let party = task.party;
-        let taken = place(task.taken, 129);
-        let left = place(task.left, 129);
-        match party {
-            Party::Replica => {
+        let whom = task.whom;
+        let taken = place(task.taken, 193);
+        let left = place(task.left, 193);
+        match whom {
+            Whom::Replica => {
                 let replica = replicas::turn(
                     replicas[taken],
                     task,
@@ -50,7 +52,8 @@ fn play_lines(script: &[u8], mut replicas: [Replica; 130], mut clients: [Client;
                 );
                 replicas[left] = replica;
             }
-            Party::Client => {
+            // A viewing client's record stands among the clients', who have other numbers.
+            _ => {
                 let client = clients::turn(
                     clients[taken],
                     task,

@@ -26,9 +26,9 @@ struct ReplicaCalled {
     outcome: Outcome,
 }
 
-pub fn nobody() -> [Replica; 130] {
+pub fn nobody() -> [Replica; 194] {
     let none = replica::fresh(0, ReplicaId(0)).replica;
-    [none; 130]
+    [none; 194]
 }
 
 // A refused set-up leaves what was set up before.

@@ -14,15 +14,23 @@ use crate::words::decimal_byte;
 use crate::words::number;
 use crate::words::rest;
 use crate::words::word;
+use base::party::within;
 use base::slices::front;
-use wire::message::Party;
 ghost use Prim.Native.Nat.{_≤_};
+
+// Whom a line is about.
+pub enum Whom {
+    Replica,
+    Client,
+    Viewer,
+}
 
 // What is asked of a party, with the lengths of what it is handed once that is read.
 pub enum Call {
     // f, number and first nonce; a replica has no use for the nonce.
     SetUp(u8, u8, u64),
     Write(usize),
+    // A viewing client's view is a read too.
     Read,
     HandOver(usize, usize),
     // Its record is copied, and the word is said.
@@ -31,19 +39,21 @@ pub enum Call {
 
 // A call, with the place of the record that it takes and the place where it leaves one.
 pub struct Task {
-    pub party: Party,
+    pub whom: Whom,
     pub call: Call,
     pub taken: usize,
     pub left: usize,
 }
 
 // A party's record stands at its number, and the one kept aside so many places behind it. At 0 is nobody, for lines about none.
-const ASIDE: usize = 65;
+const ASIDE: usize = 97;
 
-// Which places hold a record: the replicas' 130, then the clients'.
-pub type Held = [bool; 260];
+// Which places hold a record: the replicas' 194, then the clients', then the same places for the viewing clients.
+pub type Held = [bool; 582];
 
-const FIRST_CLIENT: usize = 130;
+const FIRST_CLIENT: usize = 194;
+
+const FIRST_VIEWER: usize = 388;
 
 // The bytes of output that a call is lent if its line does not say.
 const OUTPUT: u64 = 1_600;
@@ -53,24 +63,30 @@ const TO_REPLICA: usize = 0;
 
 const TO_CLIENT: usize = 1;
 
-const WRITE: usize = 2;
+const TO_VIEWER: usize = 2;
 
-const READ: usize = 3;
+const WRITE: usize = 3;
 
-const LENT: usize = 4;
+const READ: usize = 4;
 
-const REPLICA: usize = 5;
+const VIEW: usize = 5;
 
-const CLIENT: usize = 6;
+const LENT: usize = 6;
 
-const KEEP: usize = 7;
+const REPLICA: usize = 7;
 
-const RESTORE: usize = 8;
+const CLIENT: usize = 8;
 
-const NO_COMMAND: usize = 9;
+const VIEWER: usize = 9;
+
+const KEEP: usize = 10;
+
+const RESTORE: usize = 11;
+
+const NO_COMMAND: usize = 12;
 
 pub fn nothing_held() -> Held {
-    [false; 260]
+    [false; 582]
 }
 
 // A place, 0 for one behind the last.
@@ -85,48 +101,41 @@ pub fn place(at: usize, last: usize) -> usize
 
 // Where a party's record stands, by the word that is its number.
 fn seat(id: &[u8]) -> usize
-    ensures { λ r. ⌜ r ≤ 64 ⌝ }
+    ensures { λ r. ⌜ r ≤ 96 ⌝ }
 {
-    place(number(id) as usize, 64)
+    place(number(id) as usize, 96)
 }
 
 // Where it is noted whether a place holds a record.
-fn note(party: Party, at: usize) -> usize
-    ensures { λ r. ⌜ r ≤ 259 ⌝ }
+fn note(whom: Whom, at: usize) -> usize
+    ensures { λ r. ⌜ r ≤ 581 ⌝ }
 {
-    match party {
-        Party::Replica => place(at, 129),
-        Party::Client => FIRST_CLIENT + place(at, 129),
+    match whom {
+        Whom::Replica => place(at, 193),
+        Whom::Client => FIRST_CLIENT + place(at, 193),
+        Whom::Viewer => FIRST_VIEWER + place(at, 193),
     }
 }
 
-// Notes the record that a task left.
+// Notes the record that a task left; at `new` none is held any more.
 pub fn hold(held: &mut Held, task: Task, answer: Answer) {
-    let party = task.party;
+    let whom = task.whom;
     let outcome = answer.outcome;
     let Outcome::Said(word) = outcome else {
         return;
     };
-    if word == READY {
-        held[note(party, task.left)] = true;
+    if word == NEW {
+        *held = nothing_held();
     }
-    if word == KEPT {
-        held[note(party, task.left)] = true;
-    }
-}
-
-// What is still held when a task begins: nothing at `new`.
-pub fn held_at(held: Held, task: Task) -> Held {
-    let call = task.call;
-    match call {
-        Call::Copy(said) => if said == NEW { nothing_held() } else { held },
-        _ => held,
+    // one of these two words
+    if within(READY, KEPT, word) {
+        held[note(whom, task.left)] = true;
     }
 }
 
 fn nobody(said: u8) -> Task {
     Task {
-        party: Party::Client,
+        whom: Whom::Client,
         call: Call::Copy(said),
         taken: 0,
         left: 0,
@@ -134,13 +143,13 @@ fn nobody(said: u8) -> Task {
 }
 
 // A task of a party that is set up.
-fn of_party(party: Party, call: Call, taken: usize, left: usize, held: &Held) -> Task {
-    let at = note(party, taken);
+fn of_party(whom: Whom, call: Call, taken: usize, left: usize, held: &Held) -> Task {
+    let at = note(whom, taken);
     if !held[at] {
         return nobody(UNREAD);
     }
     Task {
-        party: party,
+        whom: whom,
         call: call,
         taken: taken,
         left: left,
@@ -152,7 +161,7 @@ fn command(name: &[u8]) -> usize {
     let mut n = 0;
     while n < NO_COMMAND {
         let listed = word(
-            b"to-replica to-client write read lent replica client keep restore",
+            b"to-replica to-client to-viewer write read view lent replica client viewer keep restore",
             n,
         );
         if check::same(listed, name) {
@@ -163,7 +172,7 @@ fn command(name: &[u8]) -> usize {
     n
 }
 
-fn set_up(party: Party, f: &[u8], id: &[u8], nonce: &[u8]) -> Task {
+fn set_up(whom: Whom, f: &[u8], id: &[u8], nonce: &[u8]) -> Task {
     let Byte::Value(f) = decimal_byte(f) else {
         return nobody(UNREAD);
     };
@@ -175,7 +184,7 @@ fn set_up(party: Party, f: &[u8], id: &[u8], nonce: &[u8]) -> Task {
     };
     let at = seat(id);
     Task {
-        party: party,
+        whom: whom,
         call: Call::SetUp(f, number, nonce),
         taken: at,
         left: at,
@@ -185,23 +194,27 @@ fn set_up(party: Party, f: &[u8], id: &[u8], nonce: &[u8]) -> Task {
 // `keep PARTY ID` and `restore PARTY ID`
 fn copy(line: &[u8], said: u8, taken: usize, left: usize, held: &Held) -> Task {
     match command(word(line, 1)) {
-        REPLICA => of_party(Party::Replica, Call::Copy(said), taken, left, held),
-        CLIENT => of_party(Party::Client, Call::Copy(said), taken, left, held),
+        REPLICA => of_party(Whom::Replica, Call::Copy(said), taken, left, held),
+        CLIENT => of_party(Whom::Client, Call::Copy(said), taken, left, held),
+        VIEWER => of_party(Whom::Viewer, Call::Copy(said), taken, left, held),
         _ => nobody(UNREAD),
     }
 }
 
-fn of_read(at: usize, held: &Held) -> Task {
-    of_party(Party::Client, Call::Read, at, at, held)
+// `read ID` and `view ID`
+fn of_read(whom: Whom, at: usize, held: &Held) -> Task {
+    of_party(whom, Call::Read, at, at, held)
 }
 
 fn of_call(line: &[u8], held: &Held) -> Task {
     let at = seat(word(line, 1));
     match command(word(line, 0)) {
-        TO_REPLICA => of_party(Party::Replica, Call::HandOver(0, 0), at, at, held),
-        TO_CLIENT => of_party(Party::Client, Call::HandOver(0, 0), at, at, held),
-        WRITE => of_party(Party::Client, Call::Write(0), at, at, held),
-        READ => of_read(seat(rest(line, 1)), held),
+        TO_REPLICA => of_party(Whom::Replica, Call::HandOver(0, 0), at, at, held),
+        TO_CLIENT => of_party(Whom::Client, Call::HandOver(0, 0), at, at, held),
+        TO_VIEWER => of_party(Whom::Viewer, Call::HandOver(0, 0), at, at, held),
+        WRITE => of_party(Whom::Client, Call::Write(0), at, at, held),
+        READ => of_read(Whom::Client, seat(rest(line, 1)), held),
+        VIEW => of_read(Whom::Viewer, seat(rest(line, 1)), held),
         _ => nobody(UNREAD),
     }
 }
@@ -249,8 +262,9 @@ pub fn lent(line: &[u8]) -> usize
 pub fn of_line(line: &[u8], held: &Held) -> Task {
     let at = seat(rest(line, 2));
     match command(word(line, 0)) {
-        REPLICA => set_up(Party::Replica, word(line, 1), rest(line, 2), b"0"),
-        CLIENT => set_up(Party::Client, word(line, 1), word(line, 2), rest(line, 3)),
+        REPLICA => set_up(Whom::Replica, word(line, 1), rest(line, 2), b"0"),
+        CLIENT => set_up(Whom::Client, word(line, 1), word(line, 2), rest(line, 3)),
+        VIEWER => set_up(Whom::Viewer, word(line, 1), word(line, 2), rest(line, 3)),
         KEEP => copy(line, KEPT, at, at + ASIDE, held),
         RESTORE => copy(line, RESTORED, at + ASIDE, at, held),
         NO_COMMAND => other(line),
