@@ -31,7 +31,7 @@ struct Comparison {
     floors: &'static [(&'static str, usize)],
 }
 
-const COMPARISONS: [Comparison; 3] = [
+const COMPARISONS: [Comparison; 4] = [
     Comparison {
         name: "cards",
         run: cards::compare,
@@ -41,6 +41,11 @@ const COMPARISONS: [Comparison; 3] = [
         name: "messages",
         run: messages::compare,
         floors: &messages::FLOORS,
+    },
+    Comparison {
+        name: "messages",
+        run: judgements::compare,
+        floors: &judgements::FLOORS,
     },
     Comparison {
         name: "player",

@@ -1,16 +1,13 @@
-//! Messages for the program `messages`: two at a time for the later card, and the first by itself for its fields and
-//! signatures; and others with verdicts.
+//! Messages for the program `messages`: two at a time for the later card, and the first by itself for its fields and signatures.
 use crate::cards::{damaged_card, good_card};
 use crate::forge::trimmed;
-use crate::judgements;
 use crate::model::message::*;
 use crate::model::random::Random;
 use crate::program::{hex, Failure, Line, Program};
 use crate::tally::Tally;
 
 const PAIRS: usize = 10_000;
-const JUDGEMENTS: usize = 12_000;
-const ROOM: usize = 262_144;
+pub const ROOM: usize = 262_144;
 
 pub const FLOORS: [(&str, usize); 21] = [
     ("first later", 1_000),
@@ -382,9 +379,5 @@ fn lines(random: &mut Random, tally: &mut Tally) -> [Line; 3] {
 pub fn compare(program: &Program, random: &mut Random, tally: &mut Tally) -> Result<(), Failure> {
     let lines: Vec<Line> = (0..PAIRS).flat_map(|_| lines(random, tally)).collect();
     program.must_answer(&lines, ROOM)?;
-    let judged: Vec<Line> = (0..JUDGEMENTS)
-        .map(|_| judgements::line(random, tally))
-        .collect();
-    program.must_answer(&judged, ROOM)?;
     program.must_say_rest(ROOM)
 }
