@@ -6,7 +6,10 @@ const LONGEST_MESSAGE: usize = 1_579;
 const SIGNATURE: usize = 64;
 const ENTRY: usize = 1 + SIGNATURE;
 const MOST_ENTRIES: usize = 11;
-const CLIENTS: u8 = 64;
+/// Clients 1 to 96; those above 64 only read.
+const CLIENTS: u8 = 96;
+const WRITERS: u8 = 64;
+const READ: u8 = 4;
 
 /// The length of a sent message, or the refusal's number.
 pub type Answer = Result<usize, u8>;
@@ -36,15 +39,11 @@ impl Timestamp {
     }
 
     fn is_issued(self) -> bool {
-        self.count() != 0 && is_client(self.client())
+        self.count() != 0 && (1..=WRITERS).contains(&self.client())
     }
 }
 
 const NO_DIGEST: &[u8; 32] = &[0; 32];
-
-fn is_client(number: u8) -> bool {
-    (1..=CLIENTS).contains(&number)
-}
 
 #[derive(Clone, Copy)]
 struct Proof<'a> {
@@ -166,8 +165,11 @@ fn read(message: &[u8]) -> Result<Request<'_>, u8> {
     if !fits {
         return Err(5);
     }
-    if !is_client(request.sender) {
+    if !(1..=CLIENTS).contains(&request.sender) {
         return Err(6);
+    }
+    if request.sender > WRITERS && request.kind != READ {
+        return Err(19);
     }
     Ok(request)
 }

@@ -42,9 +42,10 @@ fn any_card(numbers: &mut Numbers) -> Vec<u8> {
     card
 }
 
-/// A request with few clients and timestamps, so that some are taken; each third has a byte changed, or is cut.
+/// A request with few clients, one of which only reads, and few timestamps, so that some are taken; each third has a byte
+/// changed, or is cut.
 fn any_request(numbers: &mut Numbers) -> Request {
-    let client = 1 + numbers.below(3) as u8;
+    let client = [1, 2, 3, 1, 2, 3, 65][numbers.below(7)];
     let count = 1 + numbers.below(4) as u32;
     let card = any_card(numbers);
     let digest = [sha256(&card), [9; 32]][numbers.below(2)];
@@ -80,10 +81,10 @@ fn any_request(numbers: &mut Numbers) -> Request {
     any
 }
 
-/// Both are handed the same requests, and must answer and write the same. How many were sent, then refused 1 to 15.
-fn compare() -> [u32; 16] {
+/// Both are handed the same requests, and must answer and write the same. How many were sent, then refused 1 to 19.
+fn compare() -> [u32; 20] {
     let mut numbers = Numbers(0x9e37_79b9_7f4a_7c15);
-    let mut answers = [0u32; 16];
+    let mut answers = [0u32; 20];
     for _ in 0..2_000 {
         let (mut proved, mut plain) = (replica::Replica::made(), plain_replica::Replica::made());
         for _ in 0..50 {
@@ -263,7 +264,7 @@ fn main() {
     match arguments.iter().map(String::as_str).collect::<Vec<_>>()[..] {
         [] => {
             println!(
-                "100,000 requests are answered alike; sent, then refused 1 to 15: {:?}",
+                "100,000 requests are answered alike; sent, then refused 1 to 19: {:?}",
                 compare()
             );
             print_all(&steps, print_costs);
