@@ -132,7 +132,7 @@ pub fn trimmed(full: Message) -> Message {
     }
 }
 
-/// A message that only its sender's number can get refused, by a party that holds nothing.
+/// A message that breaks none of 2 to 14, but for its sender's number.
 pub fn sound(random: &mut Random, kind: u8, sender: u8, f: u8) -> Message {
     let shows = kind == WRITE || random.percent(60);
     let card = if shows {

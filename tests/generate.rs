@@ -11,7 +11,7 @@ use std::collections::{BTreeMap, BTreeSet};
 const SCRIPT_BYTES: usize = 990_000;
 
 /// A view that is done: what it shows, and what the replicas hold by then.
-pub struct View {
+pub struct Viewed {
     pub shown: Timestamp,
     pub held: Vec<Timestamp>,
 }
@@ -20,7 +20,7 @@ pub struct View {
 pub struct Script {
     pub lines: Vec<String>,
     pub expected: Vec<Output>,
-    pub views: Vec<View>,
+    pub views: Vec<Viewed>,
     bytes: usize,
     player: Player,
 }
@@ -45,13 +45,13 @@ enum Party {
     Client(u8),
 }
 
-fn views(id: u8) -> bool {
+fn is_viewer(id: u8) -> bool {
     VIEWERS.contains(&id)
 }
 
 /// What a script calls a client with this number.
 fn noun(id: u8) -> &'static str {
-    if views(id) {
+    if is_viewer(id) {
         "viewer"
     } else {
         "client"
@@ -340,7 +340,7 @@ impl<'a> Run<'a> {
         };
         let id = self.clients[at].id;
         let lent = self.lent(40);
-        if views(id) {
+        if is_viewer(id) {
             return self.play_line(Party::Client(id), format!("{lent}view {id}"), None);
         }
         if self.random.percent(40) {
@@ -433,9 +433,9 @@ impl<'a> Run<'a> {
     }
 
     fn note_done(&mut self, id: u8, shown: Timestamp) {
-        if views(id) {
+        if is_viewer(id) {
             let held = self.script.player.held();
-            self.script.views.push(View { shown, held });
+            self.script.views.push(Viewed { shown, held });
         }
         self.note_end(id);
     }

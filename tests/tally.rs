@@ -1,6 +1,6 @@
 //! How often each call had each answer, and whether that is often enough.
-use crate::generate::View;
-use crate::model::message::{Message, KIND_NAMES, LONGEST_MESSAGE};
+use crate::generate::Viewed;
+use crate::model::message::{Message, Timestamp, KIND_NAMES, LONGEST_MESSAGE};
 use crate::model::script::{lent, unhex, Output};
 use std::cmp::Ordering;
 use std::collections::{BTreeMap, BTreeSet};
@@ -182,12 +182,16 @@ impl Tally {
         }
     }
 
-    pub fn count_view(&mut self, view: &View) {
+    pub fn count_view(&mut self, view: &Viewed) {
         let column = Column::named("to-viewer").expect("a column's name");
-        let held: BTreeSet<Ordering> = view.held.iter().map(|held| held.cmp(&view.shown)).collect();
-        for order in held {
-            // less is -1, equal 0, greater 1
-            self.note(column, HELD[(order as i8 + 1) as usize]);
+        let row = |held: &Timestamp| match held.cmp(&view.shown) {
+            Ordering::Less => HELD[0],
+            Ordering::Equal => HELD[1],
+            Ordering::Greater => HELD[2],
+        };
+        let rows: BTreeSet<&str> = view.held.iter().map(row).collect();
+        for row in rows {
+            self.note(column, row);
         }
     }
 
