@@ -21,7 +21,7 @@ use Rattle.wire.specs.Message.{IsDigest, IsSignature, EachFits, PreparedFits, I
 use Rattle.wire.specs.Proof.{Entry, PreparedProof}
 use Rattle.wire.specs.Sha256.{hashValue, hashBytes, padded, sha256}
 use Rattle.wire.specs.Parts.{preparedTimestamp}
-use Rattle.protocol.specs.Client.{gathered, signatureAt, withSignature, bestOf}
+use Rattle.protocol.specs.Client.{gathered, signatureAt, withSignature, isBetter, bestOf}
 use Rattle.protocol.proofs.ArrayLaws.{bytes-none, replaced-length, replaced-bytes}
 use Rattle.protocol.proofs.Fit.{Array, TimestampFits}
 
@@ -91,25 +91,24 @@ pub number-fits : (t : Timestamp) → TimestampFits t → number t < 2 ^ 40
 number-fits t h = omega arith
 
 pub best-fits : (best : Timestamp) (proof : Option PreparedProof) → TimestampFits best → IfThere PreparedFits proof → TimestampFits (bestOf best proof)
-best-fits best none h p = go (ltb (number best) 0)
+best-fits best none h p = go (isBetter best none) refl
   where
-    go : (b : Bool) → TimestampFits (cond b (ofNumber 0) best)
-    go true = (omega arith, omega arith)
-    go false = h
-best-fits best (some proof) h p = go (ltb (number best) (proof .timestamp))
+    go : (b : Bool) → isBetter best none ≡ b → TimestampFits (bestOf best none)
+    go true e = rw e (omega arith, omega arith)
+    go false e = rw e h
+best-fits best (some proof) h p = go (isBetter best (some proof)) refl
   where
-    go : (b : Bool) → TimestampFits (cond b (ofNumber (proof .timestamp)) best)
-    go true = (omega arith, omega arith)
-    go false = h
+    go : (b : Bool) → isBetter best (some proof) ≡ b → TimestampFits (bestOf best (some proof))
+    go true e = rw e (omega arith, omega arith)
+    go false e = rw e h
 
 -- The best of the replies is not before any of them.
 pub best-least : (best : Timestamp) (proof : Option PreparedProof) → (number best ≤ number (bestOf best proof)) × (preparedTimestamp proof ≤ number (bestOf best proof))
-best-least best proof = go (ltb (number best) (preparedTimestamp proof)) refl
+best-least best proof = go (isBetter best proof) refl
   where
-    go : (b : Bool) → ltb (number best) (preparedTimestamp proof) ≡ b
-        → (number best ≤ number (cond b (ofNumber (preparedTimestamp proof)) best)) × (preparedTimestamp proof ≤ number (cond b (ofNumber (preparedTimestamp proof)) best))
-    go true e = let l = ltb-true (number best) (preparedTimestamp proof) e in omega arith
-    go false e = let l = ltb-false (number best) (preparedTimestamp proof) e in omega arith
+    go : (b : Bool) → isBetter best proof ≡ b → (number best ≤ number (bestOf best proof)) × (preparedTimestamp proof ≤ number (bestOf best proof))
+    go true e = let l = ltb-true (number best) (preparedTimestamp proof) e in rw e (omega arith, omega arith)
+    go false e = let l = ltb-false (number best) (preparedTimestamp proof) e in rw e (omega arith, omega arith)
 
 pub successor-fits : (t next : Timestamp) (client : ClientId) → TimestampFits t → client .0 < 256 → successor t client ≡ some next → TimestampFits next
 successor-fits t next client h small e = go (eqb (t .count) 4_294_967_295) refl e

@@ -200,7 +200,7 @@ module _ (before : Client) (verdicts : List ℕ) (message : Message) (passed : P
     after-cards : {next : AfterCards} → Follows before next → isQuorum (before .f) (with counted sender) ≡ true → Accepts (ClientFacts before verdicts message) (next latest showing client)
     unfolding afterCard afterView
     after-cards reads quorum =
-        by-cases (enough client showing)
+        by-cases _
         (λ agree. by-value (took _ (phase-kept before client kept _) tt tt
         (cards-agree sender nonce card proof best counted showed is-message at new stands quorum (quorum-before client kept showing agree)
         (record { answer-is = ap (done latest) better; phase-is = refl }))))
@@ -216,7 +216,7 @@ module _ (before : Client) (verdicts : List ℕ) (message : Message) (passed : P
     count-card : {next : AfterCards} → Follows before next → Accepts (ClientFacts before verdicts message) (countCard next nonce latest (with counted sender) showing client)
     unfolding countCard
     count-card follows =
-        by-cases (enough client (with counted sender)) (λ quorum. after-cards follows (quorum-before client kept (with counted sender) quorum))
+        by-cases _ (λ quorum. after-cards follows (quorum-before client kept (with counted sender) quorum))
         (λ less. by-value (took _ (phase-kept before client kept _) best-fit tt
         (card-counted sender nonce card proof best counted showed is-message at new stands better leaves)))
 
