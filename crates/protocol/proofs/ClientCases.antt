@@ -129,8 +129,8 @@ PhaseFits (WriteBack timestamp counted) = TimestampFits timestamp
 
 -- What follows q CARDs at this client: a viewing client alone is done with whatever they show.
 pub data Follows (before : Client) : AfterCards → Type 0 where
-  reads : Follows before afterCard
-  views : isWriter (before .id) ≡ false → Follows before afterView
+  as-read : Follows before afterCard
+  as-view : isWriter (before .id) ≡ false → Follows before afterView
 
 pub record ClientFacts (before : Client) (verdicts : List ℕ) (message : Message) (turn : Turn) : Type 0 where
   pub same-f : turn .next .f ≡ before .f

@@ -28,7 +28,7 @@ use Rattle.protocol.proofs.ClientKept.{beginning-fits}
 use Rattle.protocol.proofs.ClientReplies.{stamp-facts, prepared-facts, written-facts, card-facts}
 use Rattle.protocol.proofs.Fit.{ClientFits}
 use Rattle.wire.proofs.Passed.{Passed}
-use Rattle.protocol.proofs.ClientCases.{Begun, PhaseFits, reads, views, ClientFacts}
+use Rattle.protocol.proofs.ClientCases.{Begun, PhaseFits, as-read, as-view, ClientFacts}
 
 idle-phase : (phase : Phase) → isIdle phase ≡ true → phase ≡ Idle
 idle-phase Idle e = refl
@@ -86,7 +86,7 @@ module _ (before : Client) (verdicts signature : List ℕ) (fits : ClientFits be
   facts (WRITTEN sender timestamp) message-fits ranged passed = written-facts before verdicts fits sender ranged signature signature-fits timestamp passed (before .phase) refl phase-fits
   facts (CARD sender nonce card proof addressed) message-fits ranged passed =
       by-guard 14 (λ stands.
-      card-facts before verdicts fits sender ranged reads nonce card proof addressed passed (message-fits .2 .1) (message-fits .3) stands (before .phase) refl phase-fits)
+      card-facts before verdicts fits sender ranged as-read nonce card proof addressed passed (message-fits .2 .1) (message-fits .3) stands (before .phase) refl phase-fits)
   facts (READ-STAMP sender nonce) message-fits ranged passed = by-refusal
   facts (PREPARE sender timestamp digest proof last) message-fits ranged passed = by-refusal
   facts (WRITE sender card proof) message-fits ranged passed = by-refusal
@@ -103,7 +103,7 @@ module _ (before : Client) (verdicts : List ℕ) (fits : ClientFits before) (pha
   unfolding onViewerReply Fits
   view-facts (CARD sender nonce card proof addressed) message-fits ranged passed =
       by-guard 14 (λ stands.
-      card-facts before verdicts fits sender ranged (views no-writer) nonce card proof addressed passed (message-fits .2 .1) (message-fits .3) stands (before .phase) refl phase-fits)
+      card-facts before verdicts fits sender ranged (as-view no-writer) nonce card proof addressed passed (message-fits .2 .1) (message-fits .3) stands (before .phase) refl phase-fits)
   view-facts (STAMP sender nonce proof addressed) message-fits ranged passed = by-refusal
   view-facts (PREPARED sender timestamp digest) message-fits ranged passed = by-refusal
   view-facts (WRITTEN sender timestamp) message-fits ranged passed = by-refusal

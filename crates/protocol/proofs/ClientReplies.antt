@@ -34,7 +34,7 @@ use Rattle.protocol.proofs.Accepts.{Accepts, by-value, by-refusal, by-g
 use Rattle.protocol.proofs.ArrayLaws.{zeros-fit, card-in-bytes, card-in-short, entries-in-length, entries-in-fit, issued-there, issued-timestamp, issued-size}
 use Rattle.wire.proofs.card.Digests.{card-short}
 use Rattle.protocol.proofs.ClientArrays.{digest-fits, signature-put, built-fit, built-few, number-fits, best-fits, successor-fits}
-use Rattle.protocol.proofs.ClientCases.{Leaves, NewFrom, betterCard, ClientCase, stamp-counted, stamps-enough, stamps-ended, prepared-counted, prepareds-enough, written-counted, writtens-enough, card-counted, cards-agree, cards-viewed, cards-differ, back-counted, back-enough, LegalAnswer, PhaseFits, Follows, reads, views, ClientFacts}
+use Rattle.protocol.proofs.ClientCases.{Leaves, NewFrom, betterCard, ClientCase, stamp-counted, stamps-enough, stamps-ended, prepared-counted, prepareds-enough, written-counted, writtens-enough, card-counted, cards-agree, cards-viewed, cards-differ, back-counted, back-enough, LegalAnswer, PhaseFits, Follows, as-read, as-view, ClientFacts}
 use Rattle.protocol.proofs.ClientKept.{Kept, itself-kept, phase-kept, digest-changed, signatures-changed, written-changed, better-kept, better-card-kept}
 use Rattle.protocol.proofs.Fit.{Array, TimestampFits, ClientFits}
 use Rattle.wire.proofs.Passed.{Passed}
@@ -199,7 +199,7 @@ module _ (before : Client) (verdicts : List ℕ) (message : Message) (passed : P
 
     after-cards : {next : AfterCards} → Follows before next → isQuorum (before .f) (with counted sender) ≡ true → Accepts (ClientFacts before verdicts message) (next latest showing client)
     unfolding afterCard afterView
-    after-cards reads quorum =
+    after-cards as-read quorum =
         by-cases _
         (λ agree. by-value (took _ (phase-kept before client kept _) tt tt
         (cards-agree sender nonce card proof best counted showed is-message at new stands quorum (quorum-before client kept showing agree)
@@ -208,7 +208,7 @@ module _ (before : Client) (verdicts : List ℕ) (message : Message) (passed : P
         (write-legal client (kept .fits) (bestProof client latest) (proof-fits client (kept .fits) latest best-fit) (entries-in-length (client .entries) (client .«entry_count»)))
         (cards-differ sender nonce card proof best counted showed (bestProof client latest) is-message at new stands quorum better
         (record { answer-is = cc; phase-is = refl }))))
-    after-cards (views no-writer) quorum =
+    after-cards (as-view no-writer) quorum =
         by-value (took _ (phase-kept before client kept _) tt tt
         (cards-viewed sender nonce card proof best counted showed is-message at new stands quorum no-writer
         (record { answer-is = ap (done latest) better; phase-is = refl })))

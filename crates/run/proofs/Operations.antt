@@ -246,7 +246,7 @@ module _ (R : Run) where
     goes-on : During w id card t₀ (suc t) (clientAt R id (suc t)) (clientAt R id (suc t) .phase)
         → ((timestamp : Timestamp) (shown : List ℕ) → answerAt R t ≡ accepted (done timestamp shown) → ⊥) → Next w id card t₀ t
     finishes : (timestamp : Timestamp) (shown : List ℕ) → answerAt R t ≡ accepted (done timestamp shown) → AtDone w id card t₀ (suc t) timestamp shown → Next w id card t₀ t
-    stops : answerAt R t ≡ accepted ended → Next w id card t₀ t
+    stops : w ≡ true → answerAt R t ≡ accepted ended → Next w id card t₀ t
 
   module _ (P : Premises R) (id : ClientId) (correct : R .correct-client id ≡ true) (t₀ t : ℕ) where
     abbrev now : Client
@@ -365,7 +365,7 @@ module _ (R : Run) where
               (below (number (bestOf best proof)) (with counted sender) (quorum (with counted sender) full) (take-stamp card h sender nonce proof best counted e (new .0) y));
           signed = λ r k c. none-in r k;
         })
-    write-heard card in-run h x (stamps-ended sender nonce proof best counted e phase left) = stops (done-is (h .turn) ended Idle (h .step) left)
+    write-heard card in-run h x (stamps-ended sender nonce proof best counted e phase left) = stops refl (done-is (h .turn) ended Idle (h .step) left)
     write-heard card in-run h x (prepared-counted sender timestamp counted e phase new same-card left) =
         let y : Preparing id card t₀ t now (number timestamp) counted = subst (WriteIn id card t₀ t now) phase x in
         goes-to true card (h .turn) waits (Prepareds timestamp (with counted sender)) (h .step) left (no-done waits refl)

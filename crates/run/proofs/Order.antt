@@ -12,11 +12,11 @@ use Rattle.base.specs.Timestamp.{number}
 use Rattle.base.specs.declared.party.ClientId.{ClientId}
 use Rattle.base.specs.declared.timestamp.Timestamp.{Timestamp}
 use Rattle.wire.specs.Sha256.{sha256}
-use Rattle.protocol.specs.Client.{done}
+use Rattle.protocol.specs.Client.{done, ended}
 use Rattle.protocol.specs.Parts.{startCard}
 use Rattle.protocol.specs.declared.client.Client.{Client}
 use Rattle.protocol.specs.declared.client.Phase.the-variants.{Idle}
-use Rattle.run.specs.Claims.{Begins, GoesOn, Finished, Viewed, ViewAfter, SameOperation, FinishedBefore, AtOneTimestamp, LiesBefore, Before}
+use Rattle.run.specs.Claims.{Begins, NotDone, GoesOn, Finished, Viewed, ViewAfter, SameOperation, FinishedBefore, AtOneTimestamp, LiesBefore, Before}
 use Rattle.run.specs.Premises.{Accepted, CardOfRun, eventCard, Premises}
 use Rattle.wire.specs.Acceptance.{client}
 use Rattle.run.specs.Run.{Event, begins-write, begins-read, to-client, Run, partyOf, event, clientAt, answerAt, At, Correct}
@@ -115,10 +115,27 @@ module _ (R : Run) where
   abbrev pub cardBegun : Finished R → List ℕ
   cardBegun o = begunWith (o .is-write) (o .id) (event R (o .begun)) (o .begins)
 
+  -- What no event between beginning and end does: a read never ends for lack of a successor.
+  abbrev Between : Bool → ℕ → Type 0
+  Between true t = GoesOn R t
+  Between false t = NotDone R t
+
+  between : (w : Bool) (t : ℕ) → GoesOn R t → Between w t
+  between true t g = g
+  between false t g = g .not-done
+
+  between-done : (w : Bool) (t : ℕ) → Between w t → NotDone R t
+  between-done true t g = g .not-done
+  between-done false t g = g
+
+  between-ended : (w : Bool) (t : ℕ) → w ≡ true → Between w t → answerAt R t ≡ accepted ended → ⊥
+  between-ended true t e g = g .not-ended
+  between-ended false t e g = apart (cc)
+
   module _ (P : Premises R) where
     -- An operation that began at t₀ is under way as long as nothing ends it.
     pub stays : (id : ClientId) (c : R .correct-client id ≡ true) (w : Bool) (t₀ : ℕ) (b : Begins R w id (event R t₀)) (a : Accepted R t₀) (end : ℕ)
-        → ((t : ℕ) → t₀ < t → t < end → At R t (client id) → GoesOn R t) → (t : ℕ) → t₀ < t → t ≤ end
+        → ((t : ℕ) → t₀ < t → t < end → At R t (client id) → Between w t) → (t : ℕ) → t₀ < t → t ≤ end
         → During R w id (begunWith w id (event R t₀) b) t₀ t (clientAt R id t) (clientAt R id t .phase)
     stays id c w t₀ b a end none-between zero l l′ = absurd (omega arith)
     stays id c w t₀ b a end none-between (suc t) l l′ =
@@ -135,15 +152,15 @@ module _ (R : Run) where
         go : t₀ < t → Turned id c w card t₀ t → Under (suc t)
         go k (waits x silent) = x
         go k (acts at (goes-on x not-done)) = x
-        go k (acts at (finishes timestamp card e x)) = absurd (none-between t k l′ at .not-done timestamp card e)
-        go k (acts at (stops e)) = absurd (none-between t k l′ at .not-ended e)
+        go k (acts at (finishes timestamp card e x)) = absurd (between-done w t (none-between t k l′ at) timestamp card e)
+        go k (acts at (stops is-write e)) = absurd (between-ended w t is-write (none-between t k l′ at) e)
 
     during : (o : Finished R) (t : ℕ) → o .begun < t → t ≤ o .finished
         → During R (o .is-write) (o .id) (cardBegun o) (o .begun) t (clientAt R (o .id) t) (clientAt R (o .id) t .phase)
-    during o = stays (o .id) (correct-of o) (o .is-write) (o .begun) (o .begins) (o .not-refused) (o .finished) (o .none-between)
+    during o = stays (o .id) (correct-of o) (o .is-write) (o .begun) (o .begins) (o .not-refused) (o .finished) (λ t l l′ at. between (o .is-write) t (o .none-between t l l′ at))
 
     -- What holds at the first done after a beginning.
-    first-done : (id : ClientId) (w : Bool) (t₀ : ℕ) (b : Begins R w id (event R t₀)) (a : Accepted R t₀) (end : ℕ) → t₀ < end → ((t : ℕ) → t₀ < t → t < end → At R t (client id) → GoesOn R t)
+    first-done : (id : ClientId) (w : Bool) (t₀ : ℕ) (b : Begins R w id (event R t₀)) (a : Accepted R t₀) (end : ℕ) → t₀ < end → ((t : ℕ) → t₀ < t → t < end → At R t (client id) → Between w t)
         → At R end (client id) → (timestamp : Timestamp) (card : List ℕ) → answerAt R end ≡ accepted (done timestamp card)
         → AtDone R w id (begunWith w id (event R t₀) b) t₀ (suc end) timestamp card
     first-done id w t₀ b a end l none-between at timestamp card e = go (turned id c P w begun (begun-card w id t₀ b a) t₀ end (stays id c w t₀ b a end none-between end l (omega arith)))
@@ -161,11 +178,11 @@ module _ (R : Run) where
             let same-timestamp : timestamp′ ≡ timestamp = cc in
             let same-card : card′ ≡ card = cc in
             subst (λ (c : List ℕ). AtDone R w id begun t₀ (suc end) timestamp c) same-card (subst (λ (s : Timestamp). AtDone R w id begun t₀ (suc end) s card′) same-timestamp x)
-        go (acts at (stops e′)) = apart (cc)
+        go (acts at (stops is-write e′)) = apart (cc)
 
     -- What holds of an operation when it finishes, and of a view.
     pub finish : (o : Finished R) → AtDone R (o .is-write) (o .id) (cardBegun o) (o .begun) (suc (o .finished)) (o .timestamp) (o .card)
-    finish o = first-done (o .id) (o .is-write) (o .begun) (o .begins) (o .not-refused) (o .finished) (o .after) (o .none-between) (o .at-client) (o .timestamp) (o .card) (o .is-done)
+    finish o = first-done (o .id) (o .is-write) (o .begun) (o .begins) (o .not-refused) (o .finished) (o .after) (λ t l l′ at. between (o .is-write) t (o .none-between t l l′ at)) (o .at-client) (o .timestamp) (o .card) (o .is-done)
 
     pub view : (v : Viewed R) → AtDone R false (v .id) startCard (v .begun) (suc (v .finished)) (v .timestamp) (v .card)
     view v = first-done (v .id) false (v .begun) (v .begins) (v .not-refused) (v .finished) (v .after) (v .none-between) (v .at-client) (v .timestamp) (v .card) (v .is-done)

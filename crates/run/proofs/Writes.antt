@@ -207,7 +207,7 @@ module _ (R : Run) where
         go (waits x silent) = x
         go (acts at (goes-on x not-done)) = x
         go (acts at (ends timestamp card e x)) = apart (cc (w .prepares))
-        go (acts at (stops e)) = apart (cc (w .prepares))
+        go (acts at (stops is-write e)) = apart (cc (w .prepares))
 
     pub chosen : Chosen R (w .id) (w .begun) (w .timestamp)
     chosen = let t = suc (w .prepared) in chosen-in (w .id) (w .card) (w .begun) t (w .timestamp) (now t) (now t .phase) (first-on .0) (first-on .1)
@@ -275,8 +275,8 @@ module _ (R : Run) where
               is-timestamp = number-is;
               settled = subst (Settled R (suc t)) number-is (x .settled (R .writers-begin (w .begun) (w .id) (w .card) (w .begins)));
             })
-        go (acts at (stops e)) (still e′ goes) = absurd (goes at .not-ended e)
-        go (acts at (stops e)) (done-with at′ timestamp card e′ is) = apart (cc)
+        go (acts at (stops is-write e)) (still e′ goes) = absurd (goes at .not-ended e)
+        go (acts at (stops is-write e)) (done-with at′ timestamp card e′ is) = apart (cc)
 
     -- It has its timestamp, or was done with it.
     until : (t : ℕ) → w .prepared < t → On t ⊎ Over t

@@ -41,9 +41,12 @@ module _ (R : Run) where
   Begins true id e = (card : List ℕ) × (e ≡ some (begins-write id card))
   Begins false id e = e ≡ some (begins-read id)
 
+  abbrev pub NotDone : ℕ → Type 0
+  NotDone t = (timestamp : Timestamp) (card : List ℕ) → answerAt R t ≡ accepted (done timestamp card) → ⊥
+
   -- Neither done nor ended.
   pub record GoesOn (t : ℕ) : Type 0 where
-    pub not-done : (timestamp : Timestamp) (card : List ℕ) → answerAt R t ≡ accepted (done timestamp card) → ⊥
+    pub not-done : NotDone t
     pub not-ended : answerAt R t ≡ accepted ended → ⊥
 
   -- "It is finished by its desk's first done after that, if no ended comes between; its stamp and card are those of that done."
@@ -76,7 +79,7 @@ module _ (R : Run) where
     pub after : begun < finished
     pub at-client : At R finished (client id)
     pub is-done : answerAt R finished ≡ accepted (done timestamp card)
-    pub none-between : (t : ℕ) → begun < t → t < finished → At R t (client id) → GoesOn t
+    pub none-between : (t : ℕ) → begun < t → t < finished → At R t (client id) → NotDone t
 
   -- Two that are one operation. `same-operation` proves it of any two that begin with one event.
   pub record SameOperation (o o′ : Finished) : Type 0 where

@@ -459,7 +459,7 @@ module _ (R : Run) (lines : List Line) (told : Told R lines) where
           after = after;
           at-client = done-by;
           is-done = done-told finished last timestamp card done-at;
-          none-between = none-between id begun finished all;
+          none-between = λ t l l′ at. none-between id begun finished all t l l′ at .not-done;
         }
 
   -- A prepared proof that passes 9 to 11 with verdicts that are true at the end of the run.
