@@ -9,7 +9,7 @@ use Rattle.base.specs.Party.{isFaultBound, clientSetupIf, setupOutcome}
 use Rattle.base.specs.declared.party.Setup.{Setup}
 use Rattle.base.specs.declared.party.Setup.the-variants.{Good, Refused}
 use Rattle.base.proofs.Outcome.{guard-accepted}
-use Rattle.client.specs.Stepping.{NonceIfGood}
+use Rattle.client.specs.Leaving.{NonceIfGood}
 
 pub nonce-if-good : (inRange : Bool) (f nonce : ℕ) (setup : Setup) → setupOutcome setup ≡ clientSetupIf inRange f nonce → NonceIfGood setup nonce
 nonce-if-good inRange f nonce Good e =

@@ -1,10 +1,12 @@
--- What the client's private functions leave, as a call.
+-- What the client's private functions leave, as a call, and what set-up asks of a nonce.
 use mathlib.Core.Path.{_≡_}
 use mathlib.Core.List.{List}
-use Prim.Native.Nat.{ℕ}
+use Prim.Native.Nat.{ℕ, _≤_}
 use lib.ListN.{length, replicate}
 use Rattle.base.specs.Bytes.{filled}
 use Rattle.base.specs.Outcome.{Outcome}
+use Rattle.base.specs.declared.party.Setup.{Setup}
+use Rattle.base.specs.declared.party.Setup.the-variants.{Good, Refused as NotSetUp}
 use Rattle.base.specs.declared.timestamp.Timestamp.{Timestamp}
 use Rattle.wire.specs.declared.writer.Encoded.{Encoded}
 use Rattle.wire.specs.declared.writer.Encoded.the-variants.{Length as Wrote, Refused as Unwritten}
@@ -37,3 +39,8 @@ Takes old step stepped new = (before : Client) → callOf stepped new ≡ client
 -- The same of a function that is lent no output, for any.
 abbrev pub TakesAny : Outcome Turn → Stepped → Type 0
 TakesAny step stepped = (old : List ℕ) → Takes old step stepped old
+
+-- A nonce that a good set-up was for.
+abbrev pub NonceIfGood : Setup → ℕ → Type 0
+NonceIfGood Good firstNonce = 1 ≤ firstNonce
+NonceIfGood (NotSetUp number) firstNonce = Unit {0}

@@ -1,20 +1,13 @@
 -- The contracts of the client's calls.
 use mathlib.Core.Path.{_≡_}
 use mathlib.Core.List.{List}
-use Prim.Native.Nat.{ℕ, _≤_}
+use Prim.Native.Nat.{ℕ}
 use Rattle.base.specs.Outcome.{Outcome}
 use Rattle.base.specs.Party.{clientSetup, setupOutcome}
 use Rattle.base.specs.declared.party.ClientId.{ClientId}
-use Rattle.base.specs.declared.party.Setup.{Setup}
-use Rattle.base.specs.declared.party.Setup.the-variants.{Good, Refused}
 use Rattle.protocol.specs.Client.{Turn, ClientCall, madeClient, clientOutcome, stepOutcome}
 use Rattle.client.specs.declared.NewClient.{NewClient}
 use Rattle.client.specs.declared.Stepped.{Stepped}
-
--- A nonce that a good set-up was for.
-abbrev pub NonceIfGood : Setup → ℕ → Type 0
-NonceIfGood Good firstNonce = 1 ≤ firstNonce
-NonceIfGood (Refused number) firstNonce = Unit {0}
 
 -- A client that is set up: refusal 16, or the record.
 pub record Made (f : ℕ) (id : ClientId) (firstNonce : ℕ) (fresh : NewClient) : Type 0 where

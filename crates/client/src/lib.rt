@@ -32,7 +32,8 @@ ghost use mathlib.Core.Path.{_≡_};
 ghost use Rattle.base.specs.Party.{setupOutcome};
 ghost use Rattle.protocol.specs.Client.{idleClient, freshClient, clientIfSetUp, beginWrite, beginRead, clientStep, beginWriteCall, beginReadCall, clientCall};
 ghost use Rattle.protocol.specs.Replica.{withOutput};
-ghost use Rattle.client.specs.Stepping.{NonceIfGood, Made, Calls};
+ghost use Rattle.client.specs.Leaving.{NonceIfGood};
+ghost use Rattle.client.specs.Stepping.{Made, Calls};
 
 // A client that is set up; a record of no client where it is refused.
 pub struct NewClient {

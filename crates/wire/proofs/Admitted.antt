@@ -1,4 +1,4 @@
--- What is known of a message that 2 to 11 let through: a law for both engines and for runs. Assumes nothing.
+-- What is known of a message that 2 to 11 let through: a law for all engines and for runs. Assumes nothing.
 use mathlib.Core.Path.{_≡_, refl, _∙_}
 use mathlib.Core.Bool.{true}
 use mathlib.Core.List.{List}

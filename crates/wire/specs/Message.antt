@@ -21,6 +21,7 @@ pub data Message : Type 0 where
   WRITTEN : ReplicaId → ℕ → Message  -- sender, timestamp
   CARD : ReplicaId → ℕ → List ℕ → Option PreparedProof → ClientId → Message  -- sender, nonce, card, proof, client addressed
 
+-- The number of the kind, which stands in field 0.
 abbrev pub kindOf : Message → ℕ
 kindOf (READ-STAMP client nonce) = 1
 kindOf (PREPARE client timestamp digest proof last) = 2

@@ -1,6 +1,5 @@
 -- `client::read::after_card` meets its contract. Assumes nothing.
 use mathlib.Core.Path.{sym, _∙_}
-use borrow.Author.Tests.{not-false}
 use Rattle.protocol.specs.Client.{withPhase, currentCard, afterCard}
 use Rattle.protocol.specs.declared.client.Phase.the-variants.{Idle}
 use Rattle.client.proofs.Answering.{done-call}
