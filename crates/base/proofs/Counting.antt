@@ -34,7 +34,7 @@ count-not (suc n) p = go (p (replica (suc n))) (count-not n p)
 abbrev pub or-is : ReplicaId → (ReplicaId → Bool) → ReplicaId → Bool
 or-is x p i = eqb (i .0) (x .0) || p i
 
-or-is-other : (x i : ReplicaId) (p : ReplicaId → Bool) → i .0 ≢ x .0 → or-is x p i ≡ p i
+pub or-is-other : (x i : ReplicaId) (p : ReplicaId → Bool) → i .0 ≢ x .0 → or-is x p i ≡ p i
 or-is-other x i p h = rw (ne-eqb (i .0) (x .0) h)
 
 -- One that failed the test and passes it now is one more.

@@ -4,6 +4,7 @@ pub mod Counting
 pub mod Cuts
 pub mod Digits
 pub mod Filling
+pub mod Listed
 pub mod Outcome
 pub mod Quorum
 pub mod Range

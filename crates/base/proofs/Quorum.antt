@@ -68,7 +68,7 @@ module _ (f : ℕ) (correct : ReplicaId → Bool) (few : count (replicaCount f) 
   pub quorum-correct : (p : ReplicaId → Bool) → quorumSize f ≤ count (replicaCount f) p → f + 1 ≤ count (replicaCount f) (λ i. p i && correct i)
   quorum-correct p hp = omega (arith, both-count (replicaCount f) p correct, correct-quorum)
 
-rising-first : (last n : ℕ) (x : ReplicaId) (xs : List ReplicaId) → rising last n (x ∷ xs) ≡ true → (last < x .0) × (x .0 ≤ n) × (rising (x .0) n xs ≡ true)
+pub rising-first : (last n : ℕ) (x : ReplicaId) (xs : List ReplicaId) → rising last n (x ∷ xs) ≡ true → (last < x .0) × (x .0 ≤ n) × (rising (x .0) n xs ≡ true)
 unfolding rising
 rising-first last n x xs h =
     let rest = and-true-both (ltb last (x .0) && leb (x .0) n) (rising (x .0) n xs) h in

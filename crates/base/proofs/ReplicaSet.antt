@@ -1,6 +1,6 @@
 -- What masks hold and how many. Assumes nothing.
 use mathlib.Core.Path.{_≡_, refl, sym, ap, _∙_}
-use mathlib.Core.Bool.{false, or-comm, and-false}
+use mathlib.Core.Bool.{Bool, true, false, cond, or-comm, and-false}
 use Prim.Native.Nat.{ℕ, zero, suc, _+_, _-_, _*_, _/_, _%_, _^_, _≤_, _<_}
 use native.Mathlib.Nat.{mod-lt, div-eq-of-lt}
 use native.Mathlib.Omega.{arith}
@@ -13,9 +13,9 @@ use Rattle.base.specs.declared.replica_set.ReplicaSet.{ReplicaSet}
 use Rattle.base.specs.Counting.{replica, one, count}
 use Rattle.base.specs.Range.{within}
 use Rattle.base.specs.ReplicaSet.{empty, has, with}
-use Rattle.base.proofs.Counting.{or-is, count-agree, count-one-more}
+use Rattle.base.proofs.Counting.{or-is, or-is-other, count-agree, count-one-more}
 use Rattle.base.proofs.Digits.{digit, digit-or, digit-power}
-use Rattle.base.proofs.Range.{inside}
+use Rattle.base.proofs.Range.{inside, bounds}
 
 -- A member's bit.
 has-digit : (set : ReplicaSet) (i : ℕ) → 1 ≤ i → i ≤ 16 → has set (replica i) ≡ digit (i - 1) (set .0)
@@ -31,18 +31,21 @@ eqb-pred (suc i) (suc x) hi hx =
     rw (ei, ex) (sym (eqb·suc-suc i x))
 
 -- A set with one replica more has that one and what it had.
-pub has-with : (set : ReplicaSet) (x : ReplicaId) (i : ℕ) → 1 ≤ x .0 → x .0 ≤ 16 → 1 ≤ i → i ≤ 16 → has (with set x) (replica i) ≡ or-is x (has set) (replica i)
+pub has-with : (set : ReplicaSet) (x : ReplicaId) (i : ℕ) → 1 ≤ i → i ≤ 16 → has (with set x) (replica i) ≡ or-is x (has set) (replica i)
 unfolding with
-has-with set x i low high li hi =
-    rw (inside 1 16 (x .0) low high)
-    (has-digit (record { 0 = bitOr (set .0) (2 ^ (x .0 - 1)) }) i li hi
-    ∙ digit-or (i - 1) (set .0) (2 ^ (x .0 - 1))
-    ∙ rw (digit-power (i - 1) (x .0 - 1), eqb-pred i (x .0) li low, ← has-digit set i li hi) (or-comm (has set (replica i)) (eqb i (x .0))))
+has-with set x i low high = go (within 1 16 (x .0)) refl
+  where
+    go : (b : Bool) → within 1 16 (x .0) ≡ b → has (cond b (record { 0 = bitOr (set .0) (2 ^ (x .0 - 1)) }) set) (replica i) ≡ or-is x (has set) (replica i)
+    go true e =
+        has-digit (record { 0 = bitOr (set .0) (2 ^ (x .0 - 1)) }) i low high
+        ∙ digit-or (i - 1) (set .0) (2 ^ (x .0 - 1))
+        ∙ rw (digit-power (i - 1) (x .0 - 1), eqb-pred i (x .0) low (bounds 1 16 (x .0) e .0), ← has-digit set i low high) (or-comm (has set (replica i)) (eqb i (x .0)))
+    go false e = sym (or-is-other x (replica i) (has set) (λ same. let within-too = inside 1 16 (x .0) (omega arith) (omega arith) in let z : _≡_ {A = ℕ} 0 1 = cc in omega arith))
 
 -- A set with one new member has one more.
 pub with-new : (n : ℕ) (set : ReplicaSet) (x : ReplicaId) → n ≤ 16 → 1 ≤ x .0 → x .0 ≤ n → has set x ≡ false → count n (has (with set x)) ≡ suc (count n (has set))
 with-new n set x small low high new =
-    count-agree n (has (with set x)) (or-is x (has set)) (λ i li hi. has-with set x i low (omega arith) li (omega arith))
+    count-agree n (has (with set x)) (or-is x (has set)) (λ i li hi. has-with set x i li (omega arith))
     ∙ count-one-more n x (has set) low high new
 
 zero-digit : (k : ℕ) → digit k 0 ≡ false

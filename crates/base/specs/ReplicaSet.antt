@@ -1,5 +1,6 @@
 -- Sets of replicas as masks of 16 bits: replica i is bit i - 1.
 use mathlib.Core.Bool.{Bool, _&&_, cond}
+use mathlib.Core.List.{List, [], _∷_}
 use Prim.Native.Nat.{ℕ, _-_, _/_, _%_, _^_}
 use lib.Bits.{bitOr}
 use lib.Dec.{leb, eqb}
@@ -19,6 +20,18 @@ has set id = within 1 16 (id .0) && eqb (set .0 / 2 ^ (id .0 - 1) % 2) 1
 -- A number outside 1 to 16 leaves the set as it is.
 unfoldable pub with : ReplicaSet → ReplicaId → ReplicaSet
 with set id = cond (within 1 16 (id .0)) (record { 0 = bitOr (set .0) (2 ^ (id .0 - 1)) }) set
+
+-- The listed replicas besides, one after the other.
+unfoldable pub withAll : ReplicaSet → List ReplicaId → ReplicaSet
+withAll set [] = set
+withAll set (id ∷ ids) = withAll (with set id) ids
+
+-- Document 02, #102: the set of the listed replicas, "as 16 bits with holder 1 lowest".
+abbrev pub setOf : List ReplicaId → ReplicaSet
+setOf ids = withAll empty ids
+
+abbrev pub size : ReplicaSet → ℕ
+size set = count 16 (has set)
 
 -- Document 01: "A quorum is q = 2f + 1 different holders", of the holders 1 to n.
 abbrev pub isQuorum : ℕ → ReplicaSet → Bool

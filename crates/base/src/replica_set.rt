@@ -3,6 +3,7 @@ use crate::party::ReplicaId;
 ghost use mathlib.Core.Path.{_≡_};
 ghost use Rattle.base.specs.ReplicaSet.{empty, has, with, isQuorum};
 
+#[repr(C)]
 pub struct ReplicaSet(pub u16);
 
 const LARGEST_ID: u8 = 16;
