@@ -21,11 +21,10 @@ use Rattle.base.proofs.Timestamps.{number-ofNumber}
 use Rattle.wire.specs.Acceptance.{senderOf, inItsRange, maySend, admitted, acceptance}
 use Rattle.wire.specs.Checks.{ifThere, shaped}
 use Rattle.wire.specs.Decode.{decode, reading, fieldsIn}
-use Rattle.wire.specs.Judging.{signers}
 use Rattle.wire.specs.Layout.{rules, mapIn, place, field, signature}
 use Rattle.wire.specs.Message.{Message, kindOf, READ-STAMP, PREPARE, WRITE, READ, STAMP, PREPARED, WRITTEN, CARD}
 use Rattle.wire.specs.Parts.{partAt, cardAt, preparedPart, writtenPart, preparedTimestamp, writtenTimestamp, timestampPart, digestPart, countPart, entriesPart, Whole, WholeIfThere}
-use Rattle.wire.specs.Proof.{PreparedProof, entriesBytes, preparedFrom, writtenFrom}
+use Rattle.wire.specs.Proof.{PreparedProof, signers, entriesBytes, preparedFrom, writtenFrom}
 use Rattle.wire.specs.declared.message.Fields.{Fields}
 use Rattle.wire.specs.declared.message.Party.{Party}
 use Rattle.wire.specs.declared.message.Party.the-variants.{Replica, Client}

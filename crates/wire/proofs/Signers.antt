@@ -10,8 +10,7 @@ use lib.ListN.{getD, drop}
 use lib.Seq.{getD-drop, drop-drop}
 use Rattle.base.specs.Rising.{rising}
 use Rattle.base.specs.declared.party.ReplicaId.{ReplicaId}
-use Rattle.wire.specs.Judging.{signers}
-use Rattle.wire.specs.Proof.{readEntries}
+use Rattle.wire.specs.Proof.{signers, readEntries}
 
 abbrev pub from : ℕ → List ℕ → ℕ → List ReplicaId
 from count bytes i = signers (readEntries (count - i) (drop (65 * i) bytes))

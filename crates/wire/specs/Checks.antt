@@ -1,6 +1,6 @@
 -- Document 01, "Turned down", 7 to 11: verdicts (marks), proofs and timestamps.
 use mathlib.Core.Bool.{Bool, true, _&&_}
-use mathlib.Core.List.{List, [], _∷_, _++_, map}
+use mathlib.Core.List.{List, [], _∷_, _++_}
 use mathlib.Core.Option.{Option, none, some}
 use Prim.Native.Nat.{ℕ, _+_}
 use lib.Dec.{eqb, leb}
@@ -10,7 +10,7 @@ use Rattle.base.specs.Party.{replicaCount, quorumSize}
 use Rattle.base.specs.Rising.{rising}
 use Rattle.base.specs.Timestamp.{ofNumber, isIssued}
 use Rattle.wire.specs.Message.{Message, READ-STAMP, PREPARE, WRITE, READ, STAMP, PREPARED, WRITTEN, CARD}
-use Rattle.wire.specs.Proof.{Entry, PreparedProof, WrittenProof}
+use Rattle.wire.specs.Proof.{Entry, PreparedProof, WrittenProof, signers}
 
 -- The proofs and the timestamp field of a message.
 abbrev pub preparedOf : Message → Option PreparedProof
@@ -72,7 +72,7 @@ ownGenuine verdicts = eqb (getD verdicts 0 0) 1
 
 -- 9: "A proof has other than q entries, or its holders do not rise within 1 to n."
 unfoldable pub shaped : ℕ → List Entry → Bool
-shaped f entries = eqb (length entries) (quorumSize f) && rising 0 (replicaCount f) (map (λ (entry : Entry). entry .signer) entries)
+shaped f entries = eqb (length entries) (quorumSize f) && rising 0 (replicaCount f) (signers entries)
 
 -- 10: "An entry's mark is 0."
 abbrev pub genuine : List ℕ → Bool

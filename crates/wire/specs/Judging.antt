@@ -1,11 +1,10 @@
 -- Document 01, "Turned down", 9 to 11, as the code finds them: entries in a slice, and of several refusals the smallest.
 use mathlib.Core.Bool.{Bool}
-use mathlib.Core.List.{List, map}
+use mathlib.Core.List.{List}
 use mathlib.Core.Option.{Option, none, some}
 use Prim.Native.Nat.{ℕ, _/_, min}
 use lib.ListN.{length}
 use Rattle.base.specs.Outcome.{Outcome, accepted, refused, guard}
-use Rattle.base.specs.declared.party.ReplicaId.{ReplicaId}
 use Rattle.wire.specs.Checks.{genuine, proofOutcome}
 use Rattle.wire.specs.Proof.{Entry, PreparedProof, WrittenProof, readEntries}
 use Rattle.wire.specs.declared.checks.ProofCheck.{ProofCheck}
@@ -14,9 +13,6 @@ use Rattle.wire.specs.declared.checks.ProofCheck.the-variants.{Good, Ref
 -- The entries that fill some bytes; what is left over after the last whole one does not count.
 abbrev pub entriesIn : List ℕ → List Entry
 entriesIn bytes = readEntries (length bytes / 65) bytes
-
-abbrev pub signers : List Entry → List ReplicaId
-signers entries = map (λ (entry : Entry). entry .signer) entries
 
 -- What an answer of the code stands for.
 abbrev pub proofCheckOutcome : ProofCheck → Outcome (Unit {0})

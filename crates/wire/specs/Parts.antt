@@ -8,10 +8,12 @@ use lib.Dec.{ltb}
 use lib.ListN.{length, getD, take, drop}
 use Rattle.base.specs.BigEndian.{fromBytes}
 use Rattle.base.specs.Bytes.{between}
+use Rattle.base.specs.ReplicaSet.{empty}
 use Rattle.base.specs.Timestamp.{ofNumber, start}
+use Rattle.base.specs.declared.replica_set.ReplicaSet.{ReplicaSet}
 use Rattle.base.specs.declared.timestamp.Timestamp.{Timestamp}
 use Rattle.wire.specs.Layout.{extent, preparedRule}
-use Rattle.wire.specs.Proof.{PreparedProof, WrittenProof, preparedFrom, writtenFrom}
+use Rattle.wire.specs.Proof.{PreparedProof, WrittenProof, signerSet, preparedFrom, writtenFrom}
 use Rattle.wire.specs.declared.message.Span.{Span}
 
 -- The bytes at a place.
@@ -35,6 +37,11 @@ writtenPart (byte ∷ bytes) = some (writtenFrom (byte ∷ bytes))
 abbrev pub preparedTimestamp : Option PreparedProof → ℕ
 preparedTimestamp none = 0
 preparedTimestamp (some proof) = proof .timestamp
+
+-- Document 02, #102: who vouched for the proof's card; "for 0.0, no holders".
+abbrev pub preparedSigners : Option PreparedProof → ReplicaSet
+preparedSigners none = empty
+preparedSigners (some proof) = signerSet (proof .entries)
 
 abbrev pub writtenTimestamp : Option WrittenProof → ℕ
 writtenTimestamp none = 0

@@ -1,11 +1,13 @@
 -- Document 01, "Messages": prepared and written proofs, as data and as bytes.
-use mathlib.Core.List.{List, [], _∷_, _++_}
+use mathlib.Core.List.{List, [], _∷_, _++_, map}
 use Prim.Native.Nat.{ℕ, zero, suc}
 use lib.Dec.{eqb}
 use lib.ListN.{length, getD, take, drop}
 use Rattle.base.specs.BigEndian.{fromBytes, toBytes}
 use Rattle.base.specs.Outcome.{Outcome, accepted, guard}
+use Rattle.base.specs.ReplicaSet.{setOf}
 use Rattle.base.specs.declared.party.ReplicaId.{ReplicaId}
+use Rattle.base.specs.declared.replica_set.ReplicaSet.{ReplicaSet}
 use Rattle.wire.specs.Layout.{extent, preparedRule, writtenRule}
 
 -- "entries of holder (1) and seal (64)"
@@ -23,6 +25,13 @@ pub record PreparedProof : Type 0 where
 pub record WrittenProof : Type 0 where
   pub timestamp : ℕ
   pub entries : List Entry
+
+abbrev pub signers : List Entry → List ReplicaId
+signers entries = map (λ (entry : Entry). entry .signer) entries
+
+-- Document 02, #102: "the set of holders whose entries it found genuine"
+abbrev pub signerSet : List Entry → ReplicaSet
+signerSet entries = setOf (signers entries)
 
 -- The bytes of entries, without and with their number in front.
 unfoldable pub entriesBytes : List Entry → List ℕ

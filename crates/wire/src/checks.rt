@@ -12,7 +12,8 @@ ghost use Rattle.base.specs.Range.{within};
 ghost use Rattle.base.specs.Rising.{rising};
 ghost use Rattle.base.specs.Timestamp.{number};
 ghost use Rattle.wire.specs.Checks.{all, verdictsFit, shaped, genuine, proofOutcome};
-ghost use Rattle.wire.specs.Judging.{entriesIn, signers, proofCheckOutcome, smallest, firstRefusal};
+ghost use Rattle.wire.specs.Judging.{entriesIn, proofCheckOutcome, smallest, firstRefusal};
+ghost use Rattle.wire.specs.Proof.{signers};
 
 // What a proof's tests find: nothing against it, or the refusal.
 pub enum ProofCheck {

@@ -5,7 +5,8 @@ use native.Mathlib.Omega.{arith}
 use borrow.Author.Needs.{needs}
 use lib.ListN.{length}
 use Rattle.base.specs.Rising.{rising}
-use Rattle.wire.specs.Judging.{entriesIn, signers}
+use Rattle.wire.specs.Judging.{entriesIn}
+use Rattle.wire.specs.Proof.{signers}
 use Rattle.wire.proofs.Signers.{from, from-start, from-end, falls, beyond, rises}
 use Rattle.wire.proofs.checks.signers_rise.Statement.{statement}
 use Rattle.wire.proofs.checks.signers_rise.Tie as tie
