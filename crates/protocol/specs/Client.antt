@@ -20,7 +20,7 @@ use Rattle.wire.specs.Card.{isCard}
 use Rattle.wire.specs.Acceptance.{admitted}
 use Rattle.wire.specs.Layout.{signature}
 use Rattle.wire.specs.Message.{Message, READ-STAMP, PREPARE, WRITE, READ, STAMP, PREPARED, WRITTEN, CARD}
-use Rattle.wire.specs.Proof.{Entry, PreparedProof, WrittenProof, entriesBytes}
+use Rattle.wire.specs.Proof.{Entry, PreparedProof, WrittenProof, signerSet, entriesBytes}
 use Rattle.wire.specs.Sha256.{sha256}
 use Rattle.wire.specs.Writing.{unsigned, inFront}
 use Rattle.wire.specs.declared.message.Party.the-variants.{Client as AtClient}
@@ -74,6 +74,7 @@ idleClient f id lastNonce =
       «card_length» = 0;
       card = replicate 17 0;
       digest = replicate 32 0;
+      signers = empty;
       «entry_count» = 0;
       entries = replicate 715 0;
       signatures = replicate 1024 0;
@@ -109,6 +110,7 @@ withPhase phase client =
       «card_length» = client .«card_length»;
       card = client .card;
       digest = client .digest;
+      signers = client .signers;
       «entry_count» = client .«entry_count»;
       entries = client .entries;
       signatures = client .signatures;
@@ -128,6 +130,7 @@ beginning nonce phase card client =
       «card_length» = length card;
       card = filled 17 card;
       digest = replicate 32 0;
+      signers = empty;
       «entry_count» = 0;
       entries = replicate 715 0;
       signatures = replicate 1024 0;
@@ -136,7 +139,7 @@ beginning nonce phase card client =
       «written_entries» = client .«written_entries»;
     }
 
--- A better reply's proof is kept.
+-- A better reply's proof is kept; document 02, #102: and the set "with the best reply".
 abbrev pub withProof : PreparedProof → Client → Client
 withProof proof client =
     record {
@@ -147,6 +150,7 @@ withProof proof client =
       «card_length» = client .«card_length»;
       card = client .card;
       digest = proof .digest;
+      signers = signerSet (proof .entries);
       «entry_count» = length (proof .entries);
       entries = filled 715 (entriesBytes (proof .entries));
       signatures = client .signatures;
@@ -165,6 +169,7 @@ withCard card client =
       «card_length» = length card;
       card = filled 17 card;
       digest = client .digest;
+      signers = client .signers;
       «entry_count» = client .«entry_count»;
       entries = client .entries;
       signatures = client .signatures;
@@ -183,6 +188,7 @@ withDigest digest client =
       «card_length» = client .«card_length»;
       card = client .card;
       digest = digest;
+      signers = empty;
       «entry_count» = 0;
       entries = replicate 715 0;
       signatures = client .signatures;
@@ -201,9 +207,30 @@ withSignatures signatures client =
       «card_length» = client .«card_length»;
       card = client .card;
       digest = client .digest;
+      signers = client .signers;
       «entry_count» = client .«entry_count»;
       entries = client .entries;
       signatures = signatures;
+      written = client .written;
+      «written_count» = client .«written_count»;
+      «written_entries» = client .«written_entries»;
+    }
+
+-- Document 02, #102: desks keep the set "with the prepared proof that they build".
+abbrev pub withSigners : ReplicaSet → Client → Client
+withSigners signers client =
+    record {
+      f = client .f;
+      id = client .id;
+      «last_nonce» = client .«last_nonce»;
+      phase = client .phase;
+      «card_length» = client .«card_length»;
+      card = client .card;
+      digest = client .digest;
+      signers = signers;
+      «entry_count» = client .«entry_count»;
+      entries = client .entries;
+      signatures = client .signatures;
       written = client .written;
       «written_count» = client .«written_count»;
       «written_entries» = client .«written_entries»;
@@ -219,6 +246,7 @@ withLastWritten timestamp entries client =
       «card_length» = client .«card_length»;
       card = client .card;
       digest = client .digest;
+      signers = client .signers;
       «entry_count» = client .«entry_count»;
       entries = client .entries;
       signatures = client .signatures;
@@ -233,7 +261,7 @@ withLastWritten timestamp entries client =
 pub data Answer : Type 0 where
   send : Message → Answer  -- "a message to send"
   waits : Answer  -- "counted, nothing to send"
-  done : Timestamp → List ℕ → Answer  -- "done, with stamp and card"
+  done : Timestamp → List ℕ → ReplicaSet → Answer  -- "done, with stamp and card"; document 02, #102: "and done shows its card's" set
   ended : Answer  -- "ended, where no successor exists (the desk is then idle)"
 
 -- An answer, and the record afterwards.
@@ -330,8 +358,9 @@ onStamp client sender nonce proof addressed (WriteBack timestamp counted) = unaw
 unfoldable pub afterPrepared : Timestamp → ReplicaSet → Client → Outcome Turn
 afterPrepared timestamp counted client =
     cond (enough client counted)
-    (turn (send (WRITE (client .id) (currentCard client) (record { timestamp = number timestamp; digest = client .digest; entries = built client counted (client .signatures) })))
-    (withPhase (Writtens timestamp empty) (withSignatures (replicate 1024 0) client)))
+    (let entries = built client counted (client .signatures) in
+    turn (send (WRITE (client .id) (currentCard client) (record { timestamp = number timestamp; digest = client .digest; entries = entries })))
+    (withPhase (Writtens timestamp empty) (withSigners (signerSet entries) (withSignatures (replicate 1024 0) client))))
     (turn waits (withPhase (Prepareds timestamp counted) client))
 
 unfoldable pub onPrepared : Client → ReplicaId → ℕ → List ℕ → List ℕ → Phase → Outcome Turn
@@ -348,13 +377,13 @@ onPrepared client sender timestamp digest signature (WriteBack asked counted) = 
 unfoldable pub afterWritten : Timestamp → ReplicaSet → Client → Outcome Turn
 afterWritten timestamp counted client =
     cond (enough client counted)
-    (turn (done timestamp (currentCard client)) (withPhase Idle (withLastWritten timestamp (built client counted (client .signatures)) client)))
+    (turn (done timestamp (currentCard client) (client .signers)) (withPhase Idle (withLastWritten timestamp (built client counted (client .signatures)) client)))
     (turn waits (withPhase (Writtens timestamp counted) client))
 
 -- "each uncounted holder's WRITTEN counts, until q"
 unfoldable pub afterWriteBack : Timestamp → ReplicaSet → Client → Outcome Turn
 afterWriteBack timestamp counted client =
-    cond (enough client counted) (turn (done timestamp (currentCard client)) (withPhase Idle client)) (turn waits (withPhase (WriteBack timestamp counted) client))
+    cond (enough client counted) (turn (done timestamp (currentCard client) (client .signers)) (withPhase Idle client)) (turn waits (withPhase (WriteBack timestamp counted) client))
 
 unfoldable pub onWritten : Client → ReplicaId → ℕ → List ℕ → Phase → Outcome Turn
 onWritten client sender timestamp signature (Writtens asked counted) =
@@ -382,7 +411,7 @@ AfterCards = Timestamp → ReplicaSet → Client → Outcome Turn
 -- In a read: "If they are q it is done; else WRITE it back"
 unfoldable pub afterCard : AfterCards
 afterCard best showed client =
-    cond (enough client showed) (turn (done best (currentCard client)) (withPhase Idle client))
+    cond (enough client showed) (turn (done best (currentCard client) (client .signers)) (withPhase Idle client))
     (turn (send (WRITE (client .id) (currentCard client) (bestProof client best))) (withPhase (WriteBack best showed) client))
 
 -- "from q CARDs take the largest stamp": until then it waits.
@@ -434,7 +463,7 @@ call answer card client output = record { answer = answer; «card_length» = len
 abbrev pub answered : List ℕ → Answer → Client → ClientCall
 answered old (send message) next = call (Send (length (unsigned message))) [] next (inFront (unsigned message) old)
 answered old waits next = call Counted [] next old
-answered old (done timestamp card) next = call (Done timestamp) card next old
+answered old (done timestamp card signers) next = call (Done timestamp signers) card next old
 answered old ended next = call Ended [] next old
 
 abbrev pub clientAnswers : Client → List ℕ → Outcome Turn → ClientCall
@@ -451,17 +480,17 @@ unfoldable pub clientCall : Client → List ℕ → List ℕ → List ℕ → Cl
 clientCall client bytes verdicts old = clientAnswers client old (withOutput old (clientStep client bytes verdicts))
 
 -- What an answer of the code stands for, with the card beside it and the output: "a message to send", "counted", "done,
--- with stamp and card", "ended", or the refusal by its number.
+-- with stamp and card" and the card's signers, "ended", or the refusal by its number.
 pub data Said : Type 0 where
   message : List ℕ → Said
   nothing : Said
-  finished : Timestamp → List ℕ → Said
+  finished : Timestamp → List ℕ → ReplicaSet → Said
   noSuccessor : Said
 
 abbrev pub clientOutcome : ClientAnswer → ℕ → List ℕ → List ℕ → Outcome Said
 clientOutcome (Send n) size card output = accepted (message (take n output))
 clientOutcome Counted size card output = accepted nothing
-clientOutcome (Done timestamp) size card output = accepted (finished timestamp (take size card))
+clientOutcome (Done timestamp signers) size card output = accepted (finished timestamp (take size card) signers)
 clientOutcome Ended size card output = accepted noSuccessor
 clientOutcome (Refused number) size card output = refused number
 
@@ -469,7 +498,7 @@ clientOutcome (Refused number) size card output = refused number
 abbrev pub said : Answer → Said
 said (send m) = message (unsigned m)
 said waits = nothing
-said (done timestamp card) = finished timestamp card
+said (done timestamp card signers) = finished timestamp card signers
 said ended = noSuccessor
 
 abbrev pub stepOutcome : Outcome Turn → Outcome Said

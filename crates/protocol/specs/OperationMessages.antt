@@ -19,7 +19,7 @@ pub data Call : Type 0 where
 abbrev pub sentBy : ClientAnswer → ℕ
 sentBy (Send n) = 1
 sentBy Counted = 0
-sentBy (Done timestamp) = 0
+sentBy (Done timestamp signers) = 0
 sentBy Ended = 0
 sentBy (Refused number) = 0
 
@@ -27,7 +27,7 @@ sentBy (Refused number) = 0
 abbrev pub unlessBegun : ClientAnswer → ℕ → ℕ
 unlessBegun (Send n) rest = 0
 unlessBegun Counted rest = 0
-unlessBegun (Done timestamp) rest = 0
+unlessBegun (Done timestamp signers) rest = 0
 unlessBegun Ended rest = 0
 unlessBegun (Refused number) rest = rest
 

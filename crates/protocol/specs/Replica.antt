@@ -8,6 +8,7 @@ use lib.ListN.{length, getD, take, drop, set, replicate}
 use Rattle.base.specs.Bytes.{filled}
 use Rattle.base.specs.Outcome.{Outcome, accepted, refused, guard, _>>=_}
 use Rattle.base.specs.Party.{replicaSetup}
+use Rattle.base.specs.ReplicaSet.{empty}
 use Rattle.base.specs.Same.{same}
 use Rattle.base.specs.Timestamp.{number, ofNumber, start, successor}
 use Rattle.base.specs.declared.party.ClientId.{ClientId}
@@ -15,7 +16,7 @@ use Rattle.base.specs.declared.party.ReplicaId.{ReplicaId}
 use Rattle.base.specs.declared.timestamp.Timestamp.{Timestamp}
 use Rattle.wire.specs.Acceptance.{admitted}
 use Rattle.wire.specs.Message.{Message, READ-STAMP, PREPARE, WRITE, READ, STAMP, PREPARED, WRITTEN, CARD}
-use Rattle.wire.specs.Proof.{PreparedProof, WrittenProof, entriesBytes}
+use Rattle.wire.specs.Proof.{PreparedProof, WrittenProof, signerSet, entriesBytes}
 use Rattle.wire.specs.Writing.{unsigned, roomy, inFront}
 use Rattle.wire.specs.declared.message.Party.the-variants.{Replica as AtReplica}
 use Rattle.protocol.specs.Parts.{cardKept, entriesKept, ifIssued, cardStands}
@@ -61,6 +62,7 @@ freshRegister =
             «card_length» = 2;
             card = replicate 17 0;
             digest = replicate 32 0;
+            signers = empty;
             «entry_count» = 0;
             entries = replicate 715 0;
           };
@@ -116,7 +118,7 @@ afterPrepare client timestamp digest last slots =
     cond (slotIs client timestamp digest slots) (accepted (withWritten written slots))
     (guard 15 (slotTakes client timestamp written slots) (accepted (withWritten written (withSlot client timestamp digest slots))))
 
--- A card and its prepared proof, as they are held.
+-- A card and its prepared proof, as they are held. Document 02, #102: "Holders keep that set with the held proof".
 abbrev pub holding : List ℕ → PreparedProof → Held
 holding card proof =
     record {
@@ -124,6 +126,7 @@ holding card proof =
       «card_length» = length card;
       card = filled 17 card;
       digest = proof .digest;
+      signers = signerSet (proof .entries);
       «entry_count» = length (proof .entries);
       entries = filled 715 (entriesBytes (proof .entries));
     }

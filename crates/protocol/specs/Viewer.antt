@@ -20,7 +20,7 @@ madeViewer f id firstNonce = clientIfSetUp (viewerSetup f id firstNonce) (freshC
 
 -- "then done with the largest stamp, and no write-back", whichever replicas showed it.
 unfoldable pub afterView : AfterCards
-afterView best showed client = turn (done best (currentCard client)) (withPhase Idle client)
+afterView best showed client = turn (done best (currentCard client) (client .signers)) (withPhase Idle client)
 
 -- The four replies, once 2 to 11 are passed: CARDs alone are awaited. The other kinds do not get here: 5 refuses them.
 unfoldable pub onViewerReply : Client → Message → Outcome Turn

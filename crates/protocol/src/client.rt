@@ -33,6 +33,8 @@ pub struct Client {
     pub card: [u8; CARD_ROOM],
     // The best reply's prepared proof but for its timestamp; from PREPARE on the card's digest.
     pub digest: [u8; DIGEST],
+    // The signers of the best reply's proof; once a write has built its own, that one's.
+    pub signers: ReplicaSet,
     pub entry_count: u8,
     pub entries: [u8; ENTRIES_ROOM],
     // The signatures counted in this phase, replica r's at 64 (r - 1).
@@ -43,11 +45,11 @@ pub struct Client {
     pub written_entries: [u8; ENTRIES_ROOM],
 }
 
-// The answer of a call of a client; the card of Done stands beside it.
+// The answer of a call of a client. Done has the card's timestamp and signers; the card stands beside it.
 pub enum ClientAnswer {
     Send(usize),
     Counted,
-    Done(Timestamp),
+    Done(Timestamp, ReplicaSet),
     Ended,
     Refused(u8),
 }

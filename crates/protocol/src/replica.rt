@@ -1,5 +1,6 @@
 // A replica's record (document 01: a holder's).
 use base::party::ReplicaId;
+use base::replica_set::ReplicaSet;
 use base::timestamp::Timestamp;
 use wire::layout::CARD_ROOM;
 use wire::layout::DIGEST;
@@ -19,13 +20,14 @@ pub struct Slots {
     pub written: Timestamp,
 }
 
-// What is held: timestamp, card, and the prepared proof's digest and entries; 0.0 has no proof.
+// What is held: timestamp, card, and the prepared proof's digest, signers and entries; 0.0 has no proof.
 #[repr(C)]
 pub struct Held {
     pub timestamp: Timestamp,
     pub card_length: u8,
     pub card: [u8; CARD_ROOM],
     pub digest: [u8; DIGEST],
+    pub signers: ReplicaSet,
     pub entry_count: u8,
     pub entries: [u8; ENTRIES_ROOM],
 }
