@@ -8,14 +8,16 @@ use borrow.Author.Tests.{eqb-true}
 use lib.Dec.{eqb, leb}
 use lib.ListN.{length, drop}
 use Rattle.base.specs.Outcome.{Outcome, accepted, refused, guard, _>>=_}
+use Rattle.base.specs.declared.replica_set.ReplicaSet.{ReplicaSet}
 use Rattle.base.proofs.Booleans.{and-true-both}
 use Rattle.base.proofs.Outcome.{guard-accepted, guard-then, guard-alike}
-use Rattle.wire.specs.Acceptance.{senderOf, inItsRange, maySend, admits, admitted, acceptance}
+use Rattle.wire.specs.Acceptance.{senderOf, inItsRange, maySend, admits, admitted, foundIn, acceptance}
 use Rattle.wire.specs.Accepting.{opening, opened, signatureCount, Ready, Judges}
-use Rattle.wire.specs.Checks.{oneEach, ownGenuine, all, proven, checked}
+use Rattle.wire.specs.Checks.{preparedOf, oneEach, ownGenuine, all, proven, checked}
 use Rattle.wire.specs.Decode.{decode, reading, fieldsIn}
 use Rattle.wire.specs.Judging.{proofCheckOutcome}
 use Rattle.wire.specs.Message.{Message, kindOf}
+use Rattle.wire.specs.Parts.{preparedSigners}
 use Rattle.wire.specs.declared.checks.ProofCheck.{ProofCheck}
 use Rattle.wire.specs.declared.checks.ProofCheck.the-variants.{Good, Refused}
 use Rattle.wire.specs.declared.message.Fields.{Fields}
@@ -23,20 +25,10 @@ use Rattle.wire.specs.declared.message.Party.{Party}
 use Rattle.wire.proofs.Accepting.{one-each}
 use Rattle.wire.proofs.Framed.{framed-passes}
 use Rattle.wire.proofs.Parsed.{parsed, decode-accepted}
-use Rattle.wire.proofs.Proven.{proven-next}
+use Rattle.wire.proofs.Proven.{proven-then}
 
 no-both : {A : Type 0} (a : A) (n : ℕ) → accepted a ≡ refused n → ⊥
 no-both a n e = let z : _≡_ {A = ℕ} 0 1 = cc in omega arith
-
--- 9 to 11 of a message, and what is accepted in its place.
-proven-instead : (f : ℕ) (message : Message) (verdicts : List ℕ) (fields : Fields)
-    → (proven f message verdicts (accepted message) >>= λ m. accepted fields) ≡ proven f message verdicts (accepted fields)
-proven-instead f message verdicts fields =
-    rw (proven-next f message verdicts (accepted message), proven-next f message verdicts (accepted fields)) (go (proven f message verdicts (accepted (tt {0}))))
-  where
-    go : (o : Outcome (Unit {0})) → ((o >>= λ good. accepted message) >>= λ m. accepted fields) ≡ (o >>= λ good. accepted fields)
-    go (accepted good) = refl
-    go (refused n) = refl
 
 -- 2 to 8 passed.
 pub record Opened (party : Party) (f : ℕ) (bytes verdicts : List ℕ) (fields : Fields) : Type 1 where
@@ -94,34 +86,36 @@ module _ (party : Party) (f : ℕ) (bytes verdicts : List ℕ) where
           (guard-alike n 7 fit (guard 8 own x) (guard 8 own y) (guard-alike n 8 own x y (λ z. absurd (no-both (fieldsIn bytes) n z))))) d
 
   -- Acceptance is 2 to 8, then 9 to 11.
-  acceptance-opening : acceptance party f bytes verdicts ≡ opening party f bytes verdicts (λ message. proven f message (drop 1 verdicts) (accepted (fieldsIn bytes)))
+  acceptance-opening : acceptance party f bytes verdicts ≡ opening party f bytes verdicts (λ message. proven f message (drop 1 verdicts) (accepted (foundIn bytes message)))
   unfolding acceptance admitted admits checked
   acceptance-opening = go (decode party bytes)
     where
-      halves : (m : Message) → (admits f verdicts m >>= λ message. accepted (fieldsIn bytes))
-          ≡ guard 6 (inItsRange f (senderOf m)) (guard 19 (maySend (kindOf m) (senderOf m)) (guard 7 (oneEach m verdicts) (guard 8 (ownGenuine verdicts) (proven f m (drop 1 verdicts) (accepted (fieldsIn bytes))))))
+      halves : (m : Message) → (admits f verdicts m >>= λ message. accepted (foundIn bytes message))
+          ≡ guard 6 (inItsRange f (senderOf m)) (guard 19 (maySend (kindOf m) (senderOf m)) (guard 7 (oneEach m verdicts) (guard 8 (ownGenuine verdicts) (proven f m (drop 1 verdicts) (accepted (foundIn bytes m))))))
       halves m =
-          rw (guard-then 6 (inItsRange f (senderOf m)), guard-then 19 (maySend (kindOf m) (senderOf m)), guard-then 7 (oneEach m verdicts), guard-then 8 (ownGenuine verdicts), proven-instead f m (drop 1 verdicts) (fieldsIn bytes))
+          rw (guard-then 6 (inItsRange f (senderOf m)), guard-then 19 (maySend (kindOf m) (senderOf m)), guard-then 7 (oneEach m verdicts), guard-then 8 (ownGenuine verdicts), proven-then f m (drop 1 verdicts) m (λ (message : Message). accepted (foundIn bytes message)))
 
-      go : (o : Outcome Message) → ((o >>= admits f verdicts) >>= λ message. accepted (fieldsIn bytes))
-          ≡ (o >>= λ m. guard 6 (inItsRange f (senderOf m)) (guard 19 (maySend (kindOf m) (senderOf m)) (guard 7 (oneEach m verdicts) (guard 8 (ownGenuine verdicts) (proven f m (drop 1 verdicts) (accepted (fieldsIn bytes)))))))
+      go : (o : Outcome Message) → ((o >>= admits f verdicts) >>= λ message. accepted (foundIn bytes message))
+          ≡ (o >>= λ m. guard 6 (inItsRange f (senderOf m)) (guard 19 (maySend (kindOf m) (senderOf m)) (guard 7 (oneEach m verdicts) (guard 8 (ownGenuine verdicts) (proven f m (drop 1 verdicts) (accepted (foundIn bytes m)))))))
       go (refused n) = refl
       go (accepted m) = halves m
 
   -- The two halves of the code together.
-  module _ (fields : Fields) (check : ProofCheck) (e : opened party f bytes verdicts ≡ accepted fields) (found : Judges f bytes verdicts check) where
-    rest : acceptance party f bytes verdicts ≡ (proofCheckOutcome check >>= λ good. accepted fields)
+  module _ (fields : Fields) (check : ProofCheck) (e : opened party f bytes verdicts ≡ accepted fields) (judged : Judges f bytes verdicts check) where
+    rest : acceptance party f bytes verdicts ≡ (proofCheckOutcome check >>= λ signers. accepted (fields, signers))
     rest =
         let o = opened-accepted fields e in
-        let same : accepted (fieldsIn bytes) ≡ accepted fields = sym (decode-accepted party bytes (o .message) (o .decodes)) ∙ o .reads in
-        acceptance-opening ∙ o .passes Fields (λ message. proven f message (drop 1 verdicts) (accepted (fieldsIn bytes)))
-        ∙ proven-next f (o .message) (drop 1 verdicts) (accepted (fieldsIn bytes)) ∙ rw (same, found party (o .message) (o .decodes))
+        let read : accepted (fieldsIn bytes) ≡ accepted fields = sym (decode-accepted party bytes (o .message) (o .decodes)) ∙ o .reads in
+        let same : fieldsIn bytes ≡ fields = cc in
+        let signers = preparedSigners (preparedOf (o .message)) in
+        acceptance-opening ∙ o .passes (Fields × ReplicaSet) (λ message. proven f message (drop 1 verdicts) (accepted (foundIn bytes message)))
+        ∙ sym (proven-then f (o .message) (drop 1 verdicts) signers (λ (set : ReplicaSet). accepted (fieldsIn bytes, set))) ∙ rw (same, judged party (o .message) (o .decodes))
 
-    pub both-good : check ≡ Good → accepted fields ≡ acceptance party f bytes verdicts
-    both-good good = sym (rest ∙ rw good)
+    pub both-good : (signers : ReplicaSet) → check ≡ Good signers → accepted (fields, signers) ≡ acceptance party f bytes verdicts
+    both-good signers good = sym (rest ∙ rw good)
 
     pub second-refuses : (n : ℕ) → check ≡ Refused n → refused n ≡ acceptance party f bytes verdicts
     second-refuses n bad = sym (rest ∙ rw bad)
 
   pub first-refuses : (n : ℕ) → opened party f bytes verdicts ≡ refused n → refused n ≡ acceptance party f bytes verdicts
-  first-refuses n e = sym (acceptance-opening ∙ opened-refused n e Fields (λ message. proven f message (drop 1 verdicts) (accepted (fieldsIn bytes))))
+  first-refuses n e = sym (acceptance-opening ∙ opened-refused n e (Fields × ReplicaSet) (λ message. proven f message (drop 1 verdicts) (accepted (foundIn bytes message))))

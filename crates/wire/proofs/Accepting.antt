@@ -11,7 +11,8 @@ use lib.ListN.{length, getD, take, drop, length-append, take-append-drop, length
 use lib.Seq.{length-take-le, take-add, take-all, drop-at, drop-drop}
 use Rattle.base.specs.BigEndian.{fromBytes}
 use Rattle.base.specs.BitMap.{bit}
-use Rattle.base.specs.Outcome.{Outcome, accepted, refused, guard, _>>=_}
+use Rattle.base.specs.Outcome.{Outcome, accepted, refused, guard}
+use Rattle.base.specs.ReplicaSet.{empty}
 use Rattle.base.specs.Timestamp.{number, ofNumber, isIssued}
 use Rattle.base.specs.declared.timestamp.Timestamp.{Timestamp}
 use Rattle.base.proofs.Timestamps.{number-ofNumber}
@@ -23,6 +24,7 @@ use Rattle.wire.specs.Decode.{decode, kindIn, reading, spanOf, fieldsIn,
 use Rattle.wire.specs.Judging.{entriesIn, proofCheckOutcome, smallest, preparedOutcome, writtenOutcome}
 use Rattle.wire.specs.Layout.{rules, mapIn, place, field}
 use Rattle.wire.specs.Message.{Message, kindOf}
+use Rattle.wire.specs.Parts.{preparedSigners}
 use Rattle.wire.specs.Places.{Room}
 use Rattle.wire.specs.Proof.{PreparedProof, WrittenProof, preparedFrom, writtenFrom, readEntries}
 use Rattle.wire.specs.declared.checks.ProofCheck.{ProofCheck}
@@ -178,7 +180,7 @@ module _ (bytes : List ℕ) (f : Framed bytes) where
   prepared-between n verdicts size = go (bit (mapIn bytes) 6) refl
     where
       go : (t : Bool) → bit (mapIn bytes) 6 ≡ t
-          → cond (eqb (place bytes 6) (place bytes 7)) (accepted tt) (proofOutcome n (entriesIn (drop 38 (between bytes (place bytes 6) (place bytes 7)))) verdicts (fromBytes (take 5 (between bytes (place bytes 6) (place bytes 7)))))
+          → cond (eqb (place bytes 6) (place bytes 7)) (accepted empty) (proofOutcome n (entriesIn (drop 38 (between bytes (place bytes 6) (place bytes 7)))) verdicts (fromBytes (take 5 (between bytes (place bytes 6) (place bytes 7)))))
           ≡ preparedOutcome n verdicts (cond t (some (preparedFrom (field bytes 6))) none)
       go true e =
           let part = field bytes 6 in
@@ -198,7 +200,7 @@ module _ (bytes : List ℕ) (f : Framed bytes) where
   written-between n verdicts size = go (bit (mapIn bytes) 7) refl
     where
       go : (t : Bool) → bit (mapIn bytes) 7 ≡ t
-          → cond (eqb (place bytes 7) (place bytes 8)) (accepted tt) (proofOutcome n (entriesIn (drop 6 (between bytes (place bytes 7) (place bytes 8)))) verdicts (fromBytes (take 5 (between bytes (place bytes 7) (place bytes 8)))))
+          → cond (eqb (place bytes 7) (place bytes 8)) (accepted empty) (proofOutcome n (entriesIn (drop 6 (between bytes (place bytes 7) (place bytes 8)))) verdicts (fromBytes (take 5 (between bytes (place bytes 7) (place bytes 8)))))
           ≡ writtenOutcome n verdicts (cond t (some (writtenFrom (field bytes 7))) none)
       go true e =
           let part = field bytes 7 in
@@ -228,10 +230,6 @@ unfolding oneEach
 one-each party bytes message verdicts e f = rw (entries-counted party bytes message e f)
 
 -- Tests 9 to 11 by the places of the proofs.
-good-again : (x : Outcome (Unit {0})) → (x >>= λ good. accepted tt) ≡ x
-good-again (accepted tt) = refl
-good-again (refused n) = refl
-
 own-timestamp : (bytes : List ℕ) → cond (bit (mapIn bytes) 3) (isIssued (ofNumber (timestampIn bytes))) true ≡ ifThere issued (timestampAt bytes)
 own-timestamp bytes = go (bit (mapIn bytes) 3)
   where
@@ -242,13 +240,12 @@ own-timestamp bytes = go (bit (mapIn bytes) 3)
 pub judged : (f : ℕ) (party : Party) (bytes : List ℕ) (message : Message) (first second : List ℕ) → decode party bytes ≡ accepted message → Framed bytes
     → length first ≡ entryCount (spanOf bytes 6) 38
     → length second ≡ entryCount (spanOf bytes 7) 6
-    → smallest (smallest (proofBetween f bytes (place bytes 6) 38 (place bytes 7) first) (proofBetween f bytes (place bytes 7) 6 (place bytes 8) second)) (guard 11 (cond (bit (mapIn bytes) 3) (isIssued (ofNumber (timestampIn bytes))) true) (accepted tt))
-    ≡ proven f message (first ++ second) (accepted tt)
+    → smallest (smallest (proofBetween f bytes (place bytes 6) 38 (place bytes 7) first) (proofBetween f bytes (place bytes 7) 6 (place bytes 8) second)) (guard 11 (cond (bit (mapIn bytes) 3) (isIssued (ofNumber (timestampIn bytes))) true) (accepted empty))
+    ≡ proven f message (first ++ second) (accepted (preparedSigners (preparedOf message)))
 judged f party bytes message first second e whole first-size second-size =
     let s = seen party bytes message e in
-    let found = smallest (smallest (preparedOutcome f first (preparedAt bytes)) (writtenOutcome f second (writtenAt bytes))) (guard 11 (ifThere issued (timestampAt bytes)) (accepted tt)) in
-    rw (prepared-between bytes whole f first first-size, written-between bytes whole f second second-size, own-timestamp bytes, proven-smallest f message first second (accepted (tt {0})), s .prepared, s .written, s .timestamp)
-    (sym (good-again found))
+    rw (prepared-between bytes whole f first first-size, written-between bytes whole f second second-size, own-timestamp bytes, ← s .prepared, ← s .written, ← s .timestamp)
+    (proven-smallest f message first second)
 
 -- Tests 2 to 8 by the bytes.
 pub opened-read : (party : Party) (f : ℕ) (bytes verdicts : List ℕ) (fields : Fields) → reading party bytes ≡ accepted fields
@@ -314,7 +311,7 @@ module _ (f : ℕ) (bytes verdicts : List ℕ) (fields : Fields) (n : ℕ) (read
       → proofCheckOutcome written ≡ proofBetween f bytes (fields .written .start) 6 (fields .written .end) (take (length verdicts - (1 + n)) (drop (1 + n) verdicts))
       → own ≡ cond (bit (fields .map) 3) (isIssued (fields .timestamp)) true
       → (party : Party) (message : Message) → decode party bytes ≡ accepted message
-      → smallest (smallest (proofCheckOutcome prepared) (proofCheckOutcome written)) (guard 11 own (accepted tt)) ≡ proven f message (drop 1 verdicts) (accepted tt)
+      → smallest (smallest (proofCheckOutcome prepared) (proofCheckOutcome written)) (guard 11 own (accepted empty)) ≡ proven f message (drop 1 verdicts) (accepted (preparedSigners (preparedOf message)))
   unfolding signatureCount fieldsIn
   judged-parts one two own first second third party message e =
       let p = placed bytes fields (ready .whole) in
@@ -326,4 +323,4 @@ module _ (f : ℕ) (bytes verdicts : List ℕ) (fields : Fields) (n : ℕ) (read
       let right = take (length verdicts - (1 + n)) (drop (1 + n) verdicts) in
       rw (first, second, third, p .prepared, p .written, p .map, p .timestamp)
       (judged f party bytes message left right e (p .whole) (first-size verdicts n a b size counted) (second-size verdicts n a b size counted)
-      ∙ ap (λ (l : List ℕ). proven f message l (accepted tt)) (both-parts verdicts n a b size counted))
+      ∙ ap (λ (l : List ℕ). proven f message l (accepted (preparedSigners (preparedOf message)))) (both-parts verdicts n a b size counted))

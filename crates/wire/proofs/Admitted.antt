@@ -1,15 +1,17 @@
 -- What is known of a message that 2 to 11 let through: a law for all engines and for runs. Assumes nothing.
-use mathlib.Core.Path.{_≡_, refl, _∙_}
+use mathlib.Core.Path.{_≡_, refl, sym, ap, _∙_}
 use mathlib.Core.Bool.{true}
 use mathlib.Core.List.{List}
 use Prim.Native.Nat.{ℕ}
 use native.Mathlib.Omega.{arith}
 use Rattle.base.specs.Outcome.{Outcome, accepted, refused, guard, _>>=_}
+use Rattle.base.specs.declared.replica_set.ReplicaSet.{ReplicaSet}
 use Rattle.base.proofs.Outcome.{guard-accepted, guard-passes}
-use Rattle.wire.specs.Acceptance.{senderOf, inItsRange, maySend, admits, admitted, acceptance}
-use Rattle.wire.specs.Checks.{checked}
+use Rattle.wire.specs.Acceptance.{senderOf, inItsRange, maySend, admits, admitted, foundIn, acceptance}
+use Rattle.wire.specs.Checks.{preparedOf, checked}
 use Rattle.wire.specs.Decode.{decode, reading, fieldsIn}
 use Rattle.wire.specs.Message.{Message, kindOf}
+use Rattle.wire.specs.Parts.{preparedSigners}
 use Rattle.wire.specs.declared.message.Fields.{Fields}
 use Rattle.wire.specs.declared.message.Party.{Party}
 use Rattle.wire.proofs.Parsed.{decode-accepted}
@@ -54,20 +56,23 @@ module _ (party : Party) (f : ℕ) (bytes verdicts : List ℕ) where
       go (refused n) d e = let z : _≡_ {A = ℕ} 0 1 = cc in absurd (omega arith)
 
   -- What the code accepts or refuses is admitted or refused.
-  pub acceptance-accepted : (fields : Fields) → acceptance party f bytes verdicts ≡ accepted fields
-      → (message : Message) × (admitted party f bytes verdicts ≡ accepted message) × (reading party bytes ≡ accepted fields)
+  pub acceptance-accepted : (fields : Fields) (signers : ReplicaSet) → acceptance party f bytes verdicts ≡ accepted (fields, signers)
+      → (message : Message) × (admitted party f bytes verdicts ≡ accepted message) × (reading party bytes ≡ accepted fields) × (signers ≡ preparedSigners (preparedOf message))
   unfolding acceptance
-  acceptance-accepted fields e = go (admitted party f bytes verdicts) refl e
+  acceptance-accepted fields signers e = go (admitted party f bytes verdicts) refl e
     where
-      go : (o : Outcome Message) → admitted party f bytes verdicts ≡ o → (o >>= λ message. accepted (fieldsIn bytes)) ≡ accepted fields
-          → (message : Message) × (admitted party f bytes verdicts ≡ accepted message) × (reading party bytes ≡ accepted fields)
-      go (accepted m) d e = (m, d, decode-accepted party bytes m (admitted-passed m d .decodes) ∙ e)
+      go : (o : Outcome Message) → admitted party f bytes verdicts ≡ o → (o >>= λ message. accepted (foundIn bytes message)) ≡ accepted (fields, signers)
+          → (message : Message) × (admitted party f bytes verdicts ≡ accepted message) × (reading party bytes ≡ accepted fields) × (signers ≡ preparedSigners (preparedOf message))
+      go (accepted m) d e =
+          let both : _≡_ {A = Fields × ReplicaSet} (foundIn bytes m) (fields, signers) = cc in
+          let read : accepted (fieldsIn bytes) ≡ accepted fields = ap (λ (pair : Fields × ReplicaSet). accepted (pair .0)) both in
+          (m, d, decode-accepted party bytes m (admitted-passed m d .decodes) ∙ read, ap (λ (pair : Fields × ReplicaSet). pair .1) (sym both))
       go (refused n) d e = let z : _≡_ {A = ℕ} 0 1 = cc in absurd (omega arith)
 
   pub acceptance-refused : (n : ℕ) → acceptance party f bytes verdicts ≡ refused n → admitted party f bytes verdicts ≡ refused n
   unfolding acceptance
   acceptance-refused n e = go (admitted party f bytes verdicts) e
     where
-      go : (o : Outcome Message) → (o >>= λ message. accepted (fieldsIn bytes)) ≡ refused n → o ≡ refused n
+      go : (o : Outcome Message) → (o >>= λ message. accepted (foundIn bytes message)) ≡ refused n → o ≡ refused n
       go (accepted m) e = let z : _≡_ {A = ℕ} 0 1 = cc in absurd (omega arith)
       go (refused k) e = cc

@@ -16,6 +16,7 @@ use Rattle.base.specs.Outcome.{accepted}
 use Rattle.base.specs.Party.{quorumSize, replicaCount}
 use Rattle.base.specs.Rising.{rising}
 use Rattle.base.specs.Timestamp.{number, ofNumber}
+use Rattle.base.specs.declared.replica_set.ReplicaSet.{ReplicaSet}
 use Rattle.base.proofs.Booleans.{and-true-both}
 use Rattle.base.proofs.Timestamps.{number-ofNumber}
 use Rattle.wire.specs.Acceptance.{senderOf, inItsRange, maySend, admitted, acceptance}
@@ -23,8 +24,8 @@ use Rattle.wire.specs.Checks.{ifThere, shaped}
 use Rattle.wire.specs.Decode.{decode, reading, fieldsIn}
 use Rattle.wire.specs.Layout.{rules, mapIn, place, field, signature}
 use Rattle.wire.specs.Message.{Message, kindOf, READ-STAMP, PREPARE, WRITE, READ, STAMP, PREPARED, WRITTEN, CARD}
-use Rattle.wire.specs.Parts.{partAt, cardAt, preparedPart, writtenPart, preparedTimestamp, writtenTimestamp, timestampPart, digestPart, countPart, entriesPart, Whole, WholeIfThere}
-use Rattle.wire.specs.Proof.{PreparedProof, signers, entriesBytes, preparedFrom, writtenFrom}
+use Rattle.wire.specs.Parts.{partAt, cardAt, preparedPart, writtenPart, preparedTimestamp, preparedSigners, writtenTimestamp, timestampPart, digestPart, countPart, entriesPart, Whole, WholeIfThere}
+use Rattle.wire.specs.Proof.{PreparedProof, signers, signerSet, entriesBytes, preparedFrom, writtenFrom}
 use Rattle.wire.specs.declared.message.Fields.{Fields}
 use Rattle.wire.specs.declared.message.Party.{Party}
 use Rattle.wire.specs.declared.message.Party.the-variants.{Replica, Client}
@@ -140,19 +141,26 @@ pub record Handed (party : Party) (f : ℕ) (bytes verdicts : List ℕ) (message
   pub may-send : maySend (kindOf message) (senderOf message) ≡ true
   pub passed : Passed f message verdicts
 
-module _ (party : Party) (f : ℕ) (bytes verdicts : List ℕ) (fields : Fields) (e : acceptance party f bytes verdicts ≡ accepted fields) where
+module _ (party : Party) (f : ℕ) (bytes verdicts : List ℕ) (fields : Fields) {signers : ReplicaSet} (e : acceptance party f bytes verdicts ≡ accepted (fields, signers)) where
   reads : reading party bytes ≡ accepted fields
-  reads = acceptance-accepted party f bytes verdicts fields e .2
+  reads = acceptance-accepted party f bytes verdicts fields signers e .2
 
   found : Parsed party bytes fields
   found = parsed party bytes fields reads
 
   handed : (m : Message) → decode party bytes ≡ accepted m → Handed party f bytes verdicts m
   handed m d =
-      let a = acceptance-accepted party f bytes verdicts fields e in
+      let a = acceptance-accepted party f bytes verdicts fields signers e in
       let h = admitted-passed party f bytes verdicts (a .0) (a .1) in
       let same : a .0 ≡ m = cc (h .decodes) in
       subst (λ (m : Message). Handed party f bytes verdicts m) same (record { decodes = h .decodes; admits = a .1; ranged = h .ranged; may-send = h .may-send; passed = h .passed })
+
+  -- The signers that were found are those of the prepared proof; nobody where there is none.
+  pub signers-are : signers ≡ preparedSigners (preparedPart (partAt bytes (fields .prepared)))
+  signers-are =
+      let a = acceptance-accepted party f bytes verdicts fields signers e in
+      let s = seen party bytes (a .0) (admitted-passed party f bytes verdicts (a .0) (a .1) .decodes) in
+      a .3 ∙ ap preparedSigners (s .prepared ∙ sym (prepared-shown party bytes fields found))
 
   digest-is : partAt bytes (fields .digest) ≡ field bytes 4
   unfolding fieldsIn field
@@ -200,7 +208,7 @@ module _ (party : Party) (f : ℕ) (bytes verdicts : List ℕ) (fields : Fields)
       go false clear h = rw (field-absent bytes 6 clear) tt
 
 -- The requests, kind by kind, with the parts that the code takes out of them.
-module _ (f : ℕ) (bytes verdicts : List ℕ) (fields : Fields) (e : acceptance Replica f bytes verdicts ≡ accepted fields) where
+module _ (f : ℕ) (bytes verdicts : List ℕ) (fields : Fields) {signers : ReplicaSet} (e : acceptance Replica f bytes verdicts ≡ accepted (fields, signers)) where
   pub handed-read-stamp : fields .kind ≡ 1 → Handed Replica f bytes verdicts (READ-STAMP (record { 0 = fields .sender }) (fields .nonce))
   handed-read-stamp k = handed Replica f bytes verdicts fields e _ (reads-1 bytes fields (reads Replica f bytes verdicts fields e) k)
 
@@ -238,8 +246,13 @@ module _ (f : ℕ) (bytes verdicts : List ℕ) (fields : Fields) (e : acceptance
       let same = prepared-is Replica bytes fields (found Replica f bytes verdicts fields e) in
       there (partAt bytes (fields .prepared)) (proof-whole Replica f bytes verdicts fields e) (λ none. let size = ap length same in omega arith) .whole
 
+  pub write-signers : fields .kind ≡ 3 → signers ≡ signerSet (preparedFrom (partAt bytes (fields .prepared)) .entries)
+  write-signers k =
+      let ends = write-proof k .ends in
+      signers-are Replica f bytes verdicts fields e ∙ ap preparedSigners (some-prepared (partAt bytes (fields .prepared)) (omega arith))
+
 -- The replies, kind by kind.
-module _ (f : ℕ) (bytes verdicts : List ℕ) (fields : Fields) (e : acceptance Client f bytes verdicts ≡ accepted fields) where
+module _ (f : ℕ) (bytes verdicts : List ℕ) (fields : Fields) {signers : ReplicaSet} (e : acceptance Client f bytes verdicts ≡ accepted (fields, signers)) where
   pub handed-stamp : fields .kind ≡ 5 → Handed Client f bytes verdicts (STAMP (record { 0 = fields .sender }) (fields .nonce) (preparedPart (partAt bytes (fields .prepared))) (fields .addressed))
   handed-stamp k =
       rw (prepared-shown Client bytes fields (found Client f bytes verdicts fields e))

@@ -17,6 +17,7 @@ pub mod Proven
 pub mod Reading
 pub mod RoundTrip
 pub mod Rows
+pub mod SignerSets
 pub mod Signers
 pub mod Signing
 pub mod Size

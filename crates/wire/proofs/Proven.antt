@@ -1,5 +1,5 @@
 -- Tests 9 to 11 of a message from those of its proofs: the smallest refusal is the first. Assumes nothing.
-use mathlib.Core.Path.{_≡_, refl, sym, ap}
+use mathlib.Core.Path.{_≡_, refl, ap, _∙_}
 use mathlib.Core.Bool.{Bool, true, false, _&&_}
 use mathlib.Core.List.{List, [], _++_}
 use mathlib.Core.Option.{Option, none, some}
@@ -8,24 +8,43 @@ use native.Mathlib.Nat.{min-eq-left, min-eq-right}
 use native.Mathlib.Omega.{arith}
 use lib.Dec.{eqb}
 use Rattle.base.specs.Outcome.{Outcome, accepted, refused, guard, _>>=_}
+use Rattle.base.specs.ReplicaSet.{empty}
+use Rattle.base.specs.declared.replica_set.ReplicaSet.{ReplicaSet}
+use Rattle.base.proofs.Outcome.{guard-passes, guard-refuses, guard-accepted}
 use Rattle.wire.specs.Checks.{preparedOf, writtenOf, timestampOf, ifThere, all, shaped, genuine, issued, proven, proofOutcome}
-use Rattle.wire.specs.Judging.{smallest, preparedOutcome, writtenOutcome}
+use Rattle.wire.specs.Judging.{shapedSigners, smallest, preparedOutcome, writtenOutcome}
 use Rattle.wire.specs.Message.{Message}
-use Rattle.wire.specs.Proof.{PreparedProof, WrittenProof}
+use Rattle.wire.specs.Parts.{preparedSigners}
+use Rattle.wire.specs.Proof.{Entry, PreparedProof, WrittenProof, signerSet}
 use Rattle.wire.proofs.Verdicts.{all-append}
 
+-- 9 to 11 of a proof, by what 9 makes of its entries.
+module _ (f : ℕ) (entries : List Entry) (verdicts : List ℕ) (timestamp : ℕ) where
+  pub shape-passed : (signers : ReplicaSet) → shapedSigners f entries ≡ accepted signers
+      → proofOutcome f entries verdicts timestamp ≡ guard 10 (genuine verdicts) (guard 11 (issued timestamp) (accepted signers))
+  unfolding proofOutcome
+  shape-passed signers e = let passed = guard-accepted 9 (shaped f entries) (accepted (signerSet entries)) signers e in guard-passes 9 (shaped f entries) _ (passed .0) ∙ rw (passed .1)
+
+  pub shape-refused : (n : ℕ) → shapedSigners f entries ≡ refused n → proofOutcome f entries verdicts timestamp ≡ refused 9
+  unfolding proofOutcome
+  shape-refused n e = go (shaped f entries) e
+    where
+      go : (b : Bool) → guard 9 b (accepted (signerSet entries)) ≡ refused n → guard 9 b (guard 10 (genuine verdicts) (guard 11 (issued timestamp) (accepted (signerSet entries)))) ≡ refused 9
+      go true k = let p = guard-passes 9 true (accepted (signerSet entries)) refl in let z : _≡_ {A = ℕ} 0 1 = cc in absurd (omega arith)
+      go false k = guard-refuses 9 false _ refl
+
 -- No refusal below a number.
-abbrev From : ℕ → Outcome (Unit {0}) → Type 0
+abbrev From : {A : Type 0} → ℕ → Outcome A → Type 0
 From number (accepted a) = Unit {0}
 From number (refused other) = number ≤ other
 
-from-guard : (number other : ℕ) (test : Bool) (next : Outcome (Unit {0})) → number ≤ other → From number next → From number (guard other test next)
+from-guard : {A : Type 0} (number other : ℕ) (test : Bool) (next : Outcome A) → number ≤ other → From number next → From number (guard other test next)
 unfolding guard
 from-guard number other true next h k = k
 from-guard number other false next h k = h
 
 -- Two tests of one number, with only larger ones behind them, are one test.
-both : (number : ℕ) (a b : Bool) (x y : Outcome (Unit {0})) → From number x → From number y → smallest (guard number a x) (guard number b y) ≡ guard number (a && b) (smallest x y)
+both : {A : Type 0} (number : ℕ) (a b : Bool) (x y : Outcome A) → From number x → From number y → smallest (guard number a x) (guard number b y) ≡ guard number (a && b) (smallest x y)
 unfolding guard
 both number true true x y hx hy = refl
 both number true false (accepted t) y hx hy = refl
@@ -34,63 +53,70 @@ both number false true x (accepted t) hx hy = refl
 both number false true x (refused m) hx hy = ap refused (min-eq-left hy)
 both number false false x y hx hy = ap refused (min-eq-left (omega arith))
 
-pub smallest-good : (x : Outcome (Unit {0})) → smallest x (accepted tt) ≡ x
-smallest-good (accepted tt) = refl
-smallest-good (refused m) = refl
+pub smallest-good : {A : Type 0} (x : Outcome A) (b : A) → smallest x (accepted b) ≡ x
+smallest-good (accepted a) b = refl
+smallest-good (refused m) b = refl
 
--- 9 to 11 of a part.
-abbrev part : Bool → Bool → Bool → Outcome (Unit {0})
-part shape real time = guard 9 shape (guard 10 real (guard 11 time (accepted tt)))
+-- 9 to 11 of a part, and what it accepts.
+abbrev part : {A : Type 0} → Bool → Bool → Bool → A → Outcome A
+part shape real time a = guard 9 shape (guard 10 real (guard 11 time (accepted a)))
 
-part-next : {A : Type 0} (s r t : Bool) (next : Outcome A) → (part s r t >>= λ good. next) ≡ guard 9 s (guard 10 r (guard 11 t next))
+part-then : {A B : Type 0} (s r t : Bool) (a : A) (next : A → Outcome B) → (part s r t a >>= next) ≡ guard 9 s (guard 10 r (guard 11 t (next a)))
 unfolding guard
-part-next true true true next = refl
-part-next true true false next = refl
-part-next true false t next = refl
-part-next false r t next = refl
+part-then true true true a next = refl
+part-then true true false a next = refl
+part-then true false t a next = refl
+part-then false r t a next = refl
 
-with-own : (s r t own : Bool) → smallest (part s r t) (guard 11 own (accepted tt)) ≡ part s r (own && t)
+with-own : {A : Type 0} (s r t own : Bool) (a b : A) → smallest (part s r t a) (guard 11 own (accepted b)) ≡ part s r (own && t) a
 unfolding guard
-with-own true true true true = refl
-with-own true true true false = refl
-with-own true true false true = refl
-with-own true true false false = refl
-with-own true false t true = refl
-with-own true false t false = refl
-with-own false r t true = refl
-with-own false r t false = refl
+with-own true true true true a b = refl
+with-own true true true false a b = refl
+with-own true true false true a b = refl
+with-own true true false false a b = refl
+with-own true false t true a b = refl
+with-own true false t false a b = refl
+with-own false r t true a b = refl
+with-own false r t false a b = refl
 
-parts : (s s′ r r′ t t′ own : Bool)
-    → smallest (smallest (part s r t) (part s′ r′ t′)) (guard 11 own (accepted tt)) ≡ part (s && s′) (r && r′) (own && (t && t′))
-parts s s′ r r′ t t′ own =
-    let good : Outcome (Unit {0}) = accepted tt in
-    let e₁₁ : smallest (guard 11 t good) (guard 11 t′ good) ≡ guard 11 (t && t′) good = both 11 t t′ good good tt tt in
-    let e₁₀ = both 10 r r′ (guard 11 t good) (guard 11 t′ good) (from-guard 10 11 t good (omega arith) tt) (from-guard 10 11 t′ good (omega arith) tt) in
+-- Of three parts that are good the first one's is accepted.
+parts : {A : Type 0} (s s′ r r′ t t′ own : Bool) (a b c : A)
+    → smallest (smallest (part s r t a) (part s′ r′ t′ b)) (guard 11 own (accepted c)) ≡ part (s && s′) (r && r′) (own && (t && t′)) a
+parts {A} s s′ r r′ t t′ own a b c =
+    let first : Outcome A = accepted a in
+    let second : Outcome A = accepted b in
+    let e₁₁ : smallest (guard 11 t first) (guard 11 t′ second) ≡ guard 11 (t && t′) first = both 11 t t′ first second tt tt in
+    let e₁₀ = both 10 r r′ (guard 11 t first) (guard 11 t′ second) (from-guard 10 11 t first (omega arith) tt) (from-guard 10 11 t′ second (omega arith) tt) in
     let e₉ =
-    both 9 s s′ (guard 10 r (guard 11 t good)) (guard 10 r′ (guard 11 t′ good))
-    (from-guard 9 10 r (guard 11 t good) (omega arith) (from-guard 9 11 t good (omega arith) tt))
-    (from-guard 9 10 r′ (guard 11 t′ good) (omega arith) (from-guard 9 11 t′ good (omega arith) tt)) in
-    rw (e₉, e₁₀, e₁₁) (with-own (s && s′) (r && r′) (t && t′) own)
+    both 9 s s′ (guard 10 r (guard 11 t first)) (guard 10 r′ (guard 11 t′ second))
+    (from-guard 9 10 r (guard 11 t first) (omega arith) (from-guard 9 11 t first (omega arith) tt))
+    (from-guard 9 10 r′ (guard 11 t′ second) (omega arith) (from-guard 9 11 t′ second (omega arith) tt)) in
+    rw (e₉, e₁₀, e₁₁) (with-own (s && s′) (r && r′) (t && t′) own a c)
+
+-- A written proof's signers, which nobody asks for.
+abbrev writtenSigners : Option WrittenProof → ReplicaSet
+writtenSigners none = empty
+writtenSigners (some proof) = signerSet (proof .entries)
 
 module _ (f : ℕ) where
   prepared-part : (verdicts : List ℕ) (proof : Option PreparedProof)
-      → preparedOutcome f verdicts proof ≡ part (ifThere (λ (p : PreparedProof). shaped f (p .entries)) proof) (genuine verdicts) (ifThere (λ (p : PreparedProof). issued (p .timestamp)) proof)
+      → preparedOutcome f verdicts proof ≡ part (ifThere (λ (p : PreparedProof). shaped f (p .entries)) proof) (genuine verdicts) (ifThere (λ (p : PreparedProof). issued (p .timestamp)) proof) (preparedSigners proof)
   unfolding guard proofOutcome
   prepared-part verdicts none = refl
   prepared-part verdicts (some proof) = refl
 
   written-part : (verdicts : List ℕ) (proof : Option WrittenProof)
-      → writtenOutcome f verdicts proof ≡ part (ifThere (λ (p : WrittenProof). shaped f (p .entries)) proof) (genuine verdicts) (ifThere (λ (p : WrittenProof). issued (p .timestamp)) proof)
+      → writtenOutcome f verdicts proof ≡ part (ifThere (λ (p : WrittenProof). shaped f (p .entries)) proof) (genuine verdicts) (ifThere (λ (p : WrittenProof). issued (p .timestamp)) proof) (writtenSigners proof)
   unfolding guard proofOutcome
   written-part verdicts none = refl
   written-part verdicts (some proof) = refl
 
   -- The law behind `checks::first_refusal`: the verdicts of the prepared proof's entries, then those of the written proof's.
-  pub proven-smallest : {A : Type 0} (message : Message) (first second : List ℕ) (next : Outcome A)
-      → proven f message (first ++ second) next
-      ≡ (smallest (smallest (preparedOutcome f first (preparedOf message)) (writtenOutcome f second (writtenOf message))) (guard 11 (ifThere issued (timestampOf message)) (accepted tt)) >>= λ good. next)
+  pub proven-smallest : (message : Message) (first second : List ℕ)
+      → smallest (smallest (preparedOutcome f first (preparedOf message)) (writtenOutcome f second (writtenOf message))) (guard 11 (ifThere issued (timestampOf message)) (accepted empty))
+      ≡ proven f message (first ++ second) (accepted (preparedSigners (preparedOf message)))
   unfolding proven
-  proven-smallest message first second next =
+  proven-smallest message first second =
       let p = preparedOf message in
       let w = writtenOf message in
       let s = ifThere (λ (proof : PreparedProof). shaped f (proof .entries)) p in
@@ -98,22 +124,23 @@ module _ (f : ℕ) where
       let t = ifThere (λ (proof : PreparedProof). issued (proof .timestamp)) p in
       let t′ = ifThere (λ (proof : WrittenProof). issued (proof .timestamp)) w in
       let own = ifThere issued (timestampOf message) in
-      rw (all-append (λ v. eqb v 1) first second, prepared-part first p, written-part second w, parts s s′ (genuine first) (genuine second) t t′ own)
-      (sym (part-next (s && s′) (genuine first && genuine second) (own && (t && t′)) next))
+      rw (all-append (λ v. eqb v 1) first second, prepared-part first p, written-part second w)
+      (parts s s′ (genuine first) (genuine second) t t′ own (preparedSigners p) (writtenSigners w) empty)
 
   -- A proof that is missing, with no verdicts, is good.
-  pub prepared-missing : preparedOutcome f [] none ≡ accepted tt
+  pub prepared-missing : preparedOutcome f [] none ≡ accepted empty
   unfolding guard all
   prepared-missing = refl
 
-  pub written-missing : writtenOutcome f [] none ≡ accepted tt
+  pub written-missing : writtenOutcome f [] none ≡ accepted empty
   unfolding guard all
   written-missing = refl
 
-  -- 9 to 11 alone, and what follows.
-  pub proven-next : {A : Type 0} (message : Message) (verdicts : List ℕ) (next : Outcome A) → proven f message verdicts next ≡ (proven f message verdicts (accepted (tt {0})) >>= λ good. next)
+  -- What follows 9 to 11.
+  pub proven-then : {A B : Type 0} (message : Message) (verdicts : List ℕ) (a : A) (next : A → Outcome B)
+      → (proven f message verdicts (accepted a) >>= next) ≡ proven f message verdicts (next a)
   unfolding proven
-  proven-next message verdicts next =
+  proven-then message verdicts a next =
       let s = ifThere (λ (proof : PreparedProof). shaped f (proof .entries)) (preparedOf message) && ifThere (λ (proof : WrittenProof). shaped f (proof .entries)) (writtenOf message) in
       let t = ifThere issued (timestampOf message) && (ifThere (λ (proof : PreparedProof). issued (proof .timestamp)) (preparedOf message) && ifThere (λ (proof : WrittenProof). issued (proof .timestamp)) (writtenOf message)) in
-      sym (part-next s (genuine verdicts) t next)
+      part-then s (genuine verdicts) t a next

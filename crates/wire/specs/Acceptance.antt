@@ -3,13 +3,17 @@ use mathlib.Core.Bool.{Bool, true, _||_}
 use mathlib.Core.List.{List}
 use Prim.Native.Nat.{ℕ}
 use lib.Dec.{eqb}
-use Rattle.base.specs.Outcome.{Outcome, accepted, guard, _>>=_}
+use Rattle.base.specs.Outcome.{Outcome, accepted, refused, guard, _>>=_}
 use Rattle.base.specs.Party.{isClient, isWriter, isReplica}
 use Rattle.base.specs.declared.party.ClientId.{ClientId}
 use Rattle.base.specs.declared.party.ReplicaId.{ReplicaId}
-use Rattle.wire.specs.Checks.{checked}
+use Rattle.base.specs.declared.replica_set.ReplicaSet.{ReplicaSet}
+use Rattle.wire.specs.Checks.{preparedOf, checked}
 use Rattle.wire.specs.Decode.{decode, fieldsIn}
 use Rattle.wire.specs.Message.{Message, kindOf, READ-STAMP, PREPARE, WRITE, READ, STAMP, PREPARED, WRITTEN, CARD}
+use Rattle.wire.specs.Parts.{preparedSigners}
+use Rattle.wire.specs.declared.acceptance.Accepting.{Accepting}
+use Rattle.wire.specs.declared.acceptance.Accepting.the-variants.{Message as Found, Refused}
 use Rattle.wire.specs.declared.message.Fields.{Fields}
 use Rattle.wire.specs.declared.message.Party.{Party}
 use Rattle.wire.specs.declared.message.Party.the-variants.{Replica, Client}
@@ -56,6 +60,14 @@ admits f verdicts message =
 unfoldable pub admitted : Party → ℕ → List ℕ → List ℕ → Outcome Message
 admitted party f bytes verdicts = decode party bytes >>= admits f verdicts
 
--- The same as the code answers it: the fields of the bytes.
-unfoldable pub acceptance : Party → ℕ → List ℕ → List ℕ → Outcome Fields
-acceptance party f bytes verdicts = admitted party f bytes verdicts >>= λ message. accepted (fieldsIn bytes)
+-- The same as the code answers it: the fields of the bytes, and who signed the message's prepared proof (document 02, #102).
+abbrev pub foundIn : List ℕ → Message → Fields × ReplicaSet
+foundIn bytes message = (fieldsIn bytes, preparedSigners (preparedOf message))
+
+unfoldable pub acceptance : Party → ℕ → List ℕ → List ℕ → Outcome (Fields × ReplicaSet)
+acceptance party f bytes verdicts = admitted party f bytes verdicts >>= λ message. accepted (foundIn bytes message)
+
+-- What an answer of the code stands for.
+abbrev pub acceptingOutcome : Accepting → Outcome (Fields × ReplicaSet)
+acceptingOutcome (Found fields signers) = accepted (fields, signers)
+acceptingOutcome (Refused number) = refused number

@@ -8,11 +8,14 @@ use lib.ListN.{length, take, drop}
 use Rattle.base.specs.BigEndian.{fromBytes}
 use Rattle.base.specs.Bytes.{between}
 use Rattle.base.specs.Outcome.{Outcome, accepted, guard, _>>=_}
+use Rattle.base.specs.ReplicaSet.{empty}
+use Rattle.base.specs.declared.replica_set.ReplicaSet.{ReplicaSet}
 use Rattle.wire.specs.Acceptance.{senderOf, inItsRange, maySend}
-use Rattle.wire.specs.Checks.{oneEach, ownGenuine, proven, proofOutcome}
+use Rattle.wire.specs.Checks.{preparedOf, oneEach, ownGenuine, proven, proofOutcome}
 use Rattle.wire.specs.Decode.{decode, fieldsIn, framed}
 use Rattle.wire.specs.Judging.{entriesIn, proofCheckOutcome}
 use Rattle.wire.specs.Message.{Message, kindOf}
+use Rattle.wire.specs.Parts.{preparedSigners}
 use Rattle.wire.specs.declared.checks.ProofCheck.{ProofCheck}
 use Rattle.wire.specs.declared.message.Fields.{Fields}
 use Rattle.wire.specs.declared.message.Party.{Party}
@@ -42,10 +45,10 @@ countIn fields = 1 + entryCount (fields .prepared) 38 + entryCount (fields .writ
 unfoldable pub signatureCount : List ℕ → ℕ
 signatureCount bytes = countIn (fieldsIn bytes)
 
--- 9 to 11 of the proof from one place to another, with its entries' verdicts; good if there is none.
-unfoldable pub proofBetween : ℕ → List ℕ → ℕ → ℕ → ℕ → List ℕ → Outcome (Unit {0})
+-- 9 to 11 of the proof from one place to another, with its entries' verdicts; good and signed by nobody if there is none.
+unfoldable pub proofBetween : ℕ → List ℕ → ℕ → ℕ → ℕ → List ℕ → Outcome ReplicaSet
 proofBetween f bytes at head end verdicts =
-    cond (eqb at end) (accepted tt)
+    cond (eqb at end) (accepted empty)
     (proofOutcome f (entriesIn (drop head (between bytes at end))) verdicts (fromBytes (take 5 (between bytes at end))))
 
 -- What 9 to 11 rest on: the fields of bytes that passed 2 to 4, and one verdict per signature.
@@ -53,6 +56,6 @@ pub record Ready (bytes verdicts : List ℕ) (fields : Fields) : Type 0 where
   pub whole : framed bytes (accepted (fieldsIn bytes)) ≡ accepted fields
   pub one-each : length verdicts ≡ signatureCount bytes
 
--- 9 to 11 of the message that the bytes are, whoever is handed it.
+-- 9 to 11 of the message that the bytes are, whoever is handed it, and its prepared proof's signers.
 abbrev pub Judges : ℕ → List ℕ → List ℕ → ProofCheck → Type 0
-Judges f bytes verdicts check = (party : Party) (message : Message) → decode party bytes ≡ accepted message → proofCheckOutcome check ≡ proven f message (drop 1 verdicts) (accepted tt)
+Judges f bytes verdicts check = (party : Party) (message : Message) → decode party bytes ≡ accepted message → proofCheckOutcome check ≡ proven f message (drop 1 verdicts) (accepted (preparedSigners (preparedOf message)))

@@ -9,8 +9,9 @@ use Rattle.base.specs.Outcome.{Outcome, accepted, guard}
 use Rattle.base.specs.Party.{replicaCount, quorumSize}
 use Rattle.base.specs.Rising.{rising}
 use Rattle.base.specs.Timestamp.{ofNumber, isIssued}
+use Rattle.base.specs.declared.replica_set.ReplicaSet.{ReplicaSet}
 use Rattle.wire.specs.Message.{Message, READ-STAMP, PREPARE, WRITE, READ, STAMP, PREPARED, WRITTEN, CARD}
-use Rattle.wire.specs.Proof.{Entry, PreparedProof, WrittenProof, signers}
+use Rattle.wire.specs.Proof.{Entry, PreparedProof, WrittenProof, signers, signerSet}
 
 -- The proofs and the timestamp field of a message.
 abbrev pub preparedOf : Message → Option PreparedProof
@@ -98,10 +99,11 @@ checked f message verdicts next =
     (guard 8 (ownGenuine verdicts)
     (proven f message (drop 1 verdicts) next))
 
--- 9 to 11 of one proof: its entries, their verdicts, its timestamp.
-unfoldable pub proofOutcome : ℕ → List Entry → List ℕ → ℕ → Outcome (Unit {0})
+-- 9 to 11 of one proof: its entries, their verdicts, its timestamp. Document 02, #102: for a good proof "the set of holders whose
+-- entries it found genuine".
+unfoldable pub proofOutcome : ℕ → List Entry → List ℕ → ℕ → Outcome ReplicaSet
 proofOutcome f entries verdicts timestamp =
     guard 9 (shaped f entries)
     (guard 10 (genuine verdicts)
     (guard 11 (issued timestamp)
-    (accepted tt)))
+    (accepted (signerSet entries))))

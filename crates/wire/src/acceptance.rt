@@ -20,17 +20,24 @@ use base::refusal::NOT_FOR_VIEWERS;
 use base::refusal::NOT_GENUINE;
 use base::refusal::SENDER;
 use base::refusal::VERDICTS;
+use base::replica_set::ReplicaSet;
 use base::timestamp::Timestamp;
 ghost use mathlib.Core.Path.{_≡_};
 ghost use mathlib.Core.Bool.{true, cond};
 ghost use Prim.Native.Nat.{_≤_};
 ghost use Rattle.base.specs.BitMap.{bit};
 ghost use Rattle.base.specs.Timestamp.{isIssued};
-ghost use Rattle.wire.specs.Acceptance.{numbered, inItsRange, maySend, acceptance};
+ghost use Rattle.wire.specs.Acceptance.{numbered, inItsRange, maySend, acceptance, acceptingOutcome};
 ghost use Rattle.wire.specs.Accepting.{opened, proofBetween, Ready, Judges};
 ghost use Rattle.wire.specs.Decode.{readingOutcome};
 ghost use Rattle.wire.specs.Judging.{proofCheckOutcome};
 ghost use Rattle.wire.specs.Places.{Room};
+
+// What accepting a message finds.
+pub enum Accepting {
+    Message(Fields, ReplicaSet),
+    Refused(u8),
+}
 
 // Test 6.
 fn in_range(party: Party, f: u8, sender: u8) -> bool
@@ -79,7 +86,7 @@ fn open(party: Party, f: u8, bytes: &[u8], verdicts: &[u8]) -> Reading
     }
 }
 
-// Tests 9 to 11 of the proof at a place, behind whose head its entries stand; good if there is none.
+// Tests 9 to 11 of the proof at a place, behind whose head its entries stand; good and signed by nobody if there is none.
 fn check_between(f: u8, bytes: &[u8], at: Span, head: usize, verdicts: &[u8]) -> ProofCheck
     requires { ⌜ Room (now bytes) head (at .start) (at .end) × (5 ≤ head) ⌝ }
     ensures { λ r. ⌜ proofCheckOutcome r ≡ proofBetween f (now (bytes .entry)) (at .start) head (at .end) (now (verdicts .entry)) ⌝ }
@@ -87,7 +94,7 @@ fn check_between(f: u8, bytes: &[u8], at: Span, head: usize, verdicts: &[u8]) ->
     let start = at.start;
     let end = at.end;
     if start == end {
-        return ProofCheck::Good;
+        return ProofCheck::Good(ReplicaSet::empty());
     }
     let entries = start + head;
     let timestamp = crate::numbers::timestamp_in(bytes, start, entries);
@@ -121,15 +128,16 @@ fn judge(f: u8, bytes: &[u8], verdicts: &[u8], fields: Fields) -> ProofCheck
     )
 }
 
-// What a message with its verdicts is to the party that is handed it: its fields, or the number of its refusal.
-pub fn accept(party: Party, f: u8, bytes: &[u8], verdicts: &[u8]) -> Reading
-    ensures { λ r. ⌜ readingOutcome r ≡ acceptance party f (now (bytes .entry)) (now (verdicts .entry)) ⌝ }
+// What a message with its verdicts is to the party that is handed it: its fields and its prepared proof's signers, or the number
+// of its refusal.
+pub fn accept(party: Party, f: u8, bytes: &[u8], verdicts: &[u8]) -> Accepting
+    ensures { λ r. ⌜ acceptingOutcome r ≡ acceptance party f (now (bytes .entry)) (now (verdicts .entry)) ⌝ }
 {
     match open(party, f, bytes, verdicts) {
         Reading::Message(fields) => match judge(f, bytes, verdicts, fields) {
-            ProofCheck::Good => Reading::Message(fields),
-            ProofCheck::Refused(number) => Reading::Refused(number),
+            ProofCheck::Good(signers) => Accepting::Message(fields, signers),
+            ProofCheck::Refused(number) => Accepting::Refused(number),
         },
-        Reading::Refused(number) => Reading::Refused(number),
+        Reading::Refused(number) => Accepting::Refused(number),
     }
 }

@@ -1,23 +1,23 @@
 // Tests 7 and 9 to 11: verdicts (document 01: marks) and the proofs that they judge.
 use crate::layout::ENTRY;
+use base::party::ReplicaId;
 use base::party::quorum_size;
 use base::party::replica_count;
 use base::party::within;
 use base::refusal::ENTRY_NOT_GENUINE;
 use base::refusal::NOT_A_QUORUM;
 use base::refusal::NOT_ISSUED;
+use base::replica_set::ReplicaSet;
 use base::timestamp::Timestamp;
 ghost use mathlib.Core.Path.{_≡_};
 ghost use Rattle.base.specs.Range.{within};
-ghost use Rattle.base.specs.Rising.{rising};
 ghost use Rattle.base.specs.Timestamp.{number};
-ghost use Rattle.wire.specs.Checks.{all, verdictsFit, shaped, genuine, proofOutcome};
-ghost use Rattle.wire.specs.Judging.{entriesIn, proofCheckOutcome, smallest, firstRefusal};
-ghost use Rattle.wire.specs.Proof.{signers};
+ghost use Rattle.wire.specs.Checks.{all, verdictsFit, genuine, proofOutcome};
+ghost use Rattle.wire.specs.Judging.{entriesIn, risingSigners, shapedSigners, proofCheckOutcome, smallest, firstRefusal};
 
-// What a proof's tests find: nothing against it, or the refusal.
+// What a proof's tests find: its signers, or the refusal.
 pub enum ProofCheck {
-    Good,
+    Good(ReplicaSet),
     Refused(u8),
 }
 
@@ -51,35 +51,37 @@ fn all_genuine(verdicts: &[u8]) -> bool
     all_within(1, 1, verdicts)
 }
 
-// Whether the signers of the entries rise within 1 to n, so that no replica is there twice.
-fn signers_rise(entries: &[u8], n: u8) -> bool
-    ensures { λ r. ⌜ r ≡ rising 0 n (signers (entriesIn (now (entries .entry)))) ⌝ }
+// The signers of the entries, if they rise within 1 to n, so that no replica is there twice.
+fn check_signers(entries: &[u8], n: u8) -> ProofCheck
+    ensures { λ r. ⌜ proofCheckOutcome r ≡ risingSigners n (entriesIn (now (entries .entry))) ⌝ }
 {
     let count = entries.len() / ENTRY;
+    let mut signers = ReplicaSet::empty();
     let mut last: u8 = 0;
     let mut i = 0;
     while i < count {
         let signer = entries[ENTRY * i];
         if signer <= last {
-            return false;
+            return ProofCheck::Refused(NOT_A_QUORUM);
         }
         if n < signer {
-            return false;
+            return ProofCheck::Refused(NOT_A_QUORUM);
         }
+        signers = signers.with(ReplicaId(signer));
         last = signer;
         i += 1;
     }
-    true
+    ProofCheck::Good(signers)
 }
 
 // Test 9: a quorum of entries, of different replicas.
-fn is_shaped(f: u8, entries: &[u8]) -> bool
-    ensures { λ r. ⌜ r ≡ shaped f (entriesIn (now (entries .entry))) ⌝ }
+fn check_shape(f: u8, entries: &[u8]) -> ProofCheck
+    ensures { λ r. ⌜ proofCheckOutcome r ≡ shapedSigners f (entriesIn (now (entries .entry))) ⌝ }
 {
     if entries.len() / ENTRY != quorum_size(f) as usize {
-        return false;
+        return ProofCheck::Refused(NOT_A_QUORUM);
     }
-    signers_rise(entries, replica_count(f))
+    check_signers(entries, replica_count(f))
 }
 
 // Tests 9 to 11 of one proof: its entries, their verdicts, its timestamp.
@@ -91,25 +93,29 @@ pub(super) fn check_proof(
 ) -> ProofCheck
     ensures { λ r. ⌜ proofCheckOutcome r ≡ proofOutcome f (entriesIn (now (entries .entry))) (now (verdicts .entry)) (number timestamp) ⌝ }
 {
-    if !is_shaped(f, entries) {
+    let ProofCheck::Good(signers) = check_shape(f, entries) else {
         return ProofCheck::Refused(NOT_A_QUORUM);
-    }
+    };
     if !all_genuine(verdicts) {
         return ProofCheck::Refused(ENTRY_NOT_GENUINE);
     }
     if !timestamp.is_issued() {
         return ProofCheck::Refused(NOT_ISSUED);
     }
-    ProofCheck::Good
+    ProofCheck::Good(signers)
 }
 
+// The smaller refusal of two; where there is none, the first one's signers.
 fn smaller(a: ProofCheck, b: ProofCheck) -> ProofCheck
     ensures { λ r. ⌜ proofCheckOutcome r ≡ smallest (proofCheckOutcome a) (proofCheckOutcome b) ⌝ }
 {
     match a {
-        ProofCheck::Good => b,
+        ProofCheck::Good(signers) => match b {
+            ProofCheck::Good(_) => ProofCheck::Good(signers),
+            ProofCheck::Refused(n) => ProofCheck::Refused(n),
+        },
         ProofCheck::Refused(m) => match b {
-            ProofCheck::Good => ProofCheck::Refused(m),
+            ProofCheck::Good(_) => ProofCheck::Refused(m),
             ProofCheck::Refused(n) => if m < n {
                 ProofCheck::Refused(m)
             } else {
@@ -119,7 +125,8 @@ fn smaller(a: ProofCheck, b: ProofCheck) -> ProofCheck
     }
 }
 
-// Tests 9 to 11 of a message, each over both proofs and the timestamp field before the next. What is missing is good.
+// Tests 9 to 11 of a message, each over both proofs and the timestamp field before the next, and the prepared proof's signers.
+// What is missing is good.
 pub(super) fn first_refusal(prepared: ProofCheck, written: ProofCheck, issued: bool) -> ProofCheck
     ensures { λ r. ⌜ proofCheckOutcome r ≡ firstRefusal (proofCheckOutcome prepared) (proofCheckOutcome written) issued ⌝ }
 {

@@ -22,9 +22,10 @@ judge-requires c κs = let a = start c .args in opened-accepted (a .party) (a .f
 
 returns : tie.Need-returns
 returns c =
-    let k = c .before .before .before in
+    let k = c .before .before .before .before in
     let a = start k .args in
-    both-good (a .party) (a .f) (a .bytes .now) (a .verdicts .now) (k .before .fields .given .0 .0) (c .before .before .judge .result) (known k) (c .before .before .judge .ensures) (c .enum-told .given .1)
+    let j = c .before .before .before .judge in
+    both-good (a .party) (a .f) (a .bytes .now) (a .verdicts .now) (k .before .fields .given .0 .0) (j .result) (known k) (j .ensures) (c .before .signers .given .0 .0) (c .before .signers .given .1)
 
 returns-2 : tie.Need-returns-2
 returns-2 c =

@@ -18,7 +18,7 @@ whole c =
 
 returns : tie.Need-returns
 unfolding proofBetween
-returns c = let a = c .before .before .before .args in rw (eq-eqb (a .at .start) (a .at .end) (c .if1 .taken))
+returns c = let t = c .before in let a = t .before .before .before .args in rw (eq-eqb (a .at .start) (a .at .end) (t .if1 .taken), c .empty .ensures)
 
 add-entries : tie.Need-add-entries
 add-entries c = let h = whole c in let l = c .before .before .before .pre .0 .inside in omega arith
@@ -44,6 +44,7 @@ pub check-between-spec : {M : Type 1} → statement M
 check-between-spec =
     tie.close
     (tie.spec
+    (λ c κs. search needs)
     returns
     add-entries
     timestamp-in-requires

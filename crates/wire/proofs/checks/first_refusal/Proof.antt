@@ -8,7 +8,7 @@ use Rattle.wire.proofs.checks.first_refusal.Tie as tie
 
 returns : tie.Need-returns
 unfolding guard
-returns c = rw (c .if1 .taken, ← c .before .smaller .ensures) (sym (smallest-good _))
+returns c = rw (c .if1 .taken, ← c .before .smaller .ensures) (sym (smallest-good _ _))
 
 returns-2 : tie.Need-returns-2
 unfolding guard

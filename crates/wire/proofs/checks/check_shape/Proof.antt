@@ -1,17 +1,18 @@
--- `wire::checks::is_shaped` meets its contract. Assumes nothing.
+-- `wire::checks::check_shape` meets its contract. Assumes nothing.
 use mathlib.Core.Path.{sym, _∙_}
 use Prim.Native.Nat.{_/_}
 use borrow.Author.Tests.{eq-eqb, ne-eqb}
 use lib.ListN.{length}
+use Rattle.base.specs.Outcome.{guard}
 use Rattle.base.specs.Party.{quorumSize}
 use Rattle.wire.specs.Checks.{shaped}
 use Rattle.wire.proofs.ProofBytes.{length-read}
 use borrow.Author.Needs.{needs}
-use Rattle.wire.proofs.checks.is_shaped.Statement.{statement}
-use Rattle.wire.proofs.checks.is_shaped.Tie as tie
+use Rattle.wire.proofs.checks.check_shape.Statement.{statement}
+use Rattle.wire.proofs.checks.check_shape.Tie as tie
 
 returns : tie.Need-returns
-unfolding shaped
+unfolding shaped guard
 returns c =
     let a = c .before .before .before .args in
     let count = length (a .entries .now) / 65 in
@@ -23,10 +24,10 @@ returns-2 c =
     let a = c .before .before .before .before .before .args in
     let count = length (a .entries .now) / 65 in
     rw (length-read count (a .entries .now), eq-eqb count (quorumSize (a .f)) (c .before .before .if1 .left ∙ c .before .before .before .quorum-size .ensures), ← c .before .replica-count .ensures)
-    (c .signers-rise .ensures)
+    (c .check-signers .ensures)
 
-pub is-shaped-spec : {M : Type 1} → statement M
-is-shaped-spec =
+pub check-shape-spec : {M : Type 1} → statement M
+check-shape-spec =
     tie.close
     (tie.spec
     (λ c κs. search needs)

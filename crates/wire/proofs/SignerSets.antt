@@ -1,0 +1,50 @@
+-- Who vouches for a card by its good proof (document 02, #102): exactly q, all of them replicas. Assumes nothing.
+use mathlib.Core.Path.{_≡_, sym, subst, _∙_}
+use mathlib.Core.Bool.{true, _&&_}
+use mathlib.Core.List.{List}
+use Prim.Native.Nat.{ℕ, _≤_}
+use native.Mathlib.Omega.{arith}
+use borrow.Author.Tests.{eqb-true}
+use lib.Dec.{eqb}
+use lib.ListN.{length, length-map}
+use Rattle.base.specs.Outcome.{accepted, guard}
+use Rattle.base.specs.Party.{replicaCount, quorumSize, isReplica}
+use Rattle.base.specs.Range.{within}
+use Rattle.base.specs.ReplicaSet.{has, size}
+use Rattle.base.specs.Rising.{listed, rising}
+use Rattle.base.specs.declared.party.ReplicaId.{ReplicaId}
+use Rattle.base.specs.declared.replica_set.ReplicaSet.{ReplicaSet}
+use Rattle.base.proofs.Booleans.{and-true-both}
+use Rattle.base.proofs.Listed.{members, rising-size, rising-within}
+use Rattle.base.proofs.Outcome.{guard-accepted}
+use Rattle.base.proofs.Range.{inside}
+use Rattle.wire.specs.Checks.{shaped, genuine, issued, proofOutcome}
+use Rattle.wire.specs.Proof.{Entry, signers, signerSet}
+
+pub record Quorate (f : ℕ) (set : ReplicaSet) : Type 0 where
+  pub exactly : size set ≡ quorumSize f
+  pub replicas : (id : ReplicaId) → has set id ≡ true → isReplica f id ≡ true
+
+-- Entries that pass 9.
+pub shaped-signers : (f : ℕ) (entries : List Entry) → shaped f entries ≡ true → Quorate f (signerSet entries)
+unfolding shaped
+shaped-signers f entries shape =
+    let both = and-true-both (eqb (length entries) (quorumSize f)) (rising 0 (replicaCount f) (signers entries)) shape in
+    let many : length (signers entries) ≡ length entries = length-map entries (λ (entry : Entry). entry .signer) in
+    record {
+      exactly = rising-size (replicaCount f) (signers entries) (omega arith) (both .1) ∙ many ∙ eqb-true (length entries) (quorumSize f) (both .0);
+      replicas = λ id there.
+          let at = rising-within 0 (replicaCount f) (signers entries) id (both .1) (and-true-both (within 1 16 (id .0)) (listed (signers entries) id) (sym (members (signers entries) id) ∙ there) .1) in
+          inside 1 (replicaCount f) (id .0) (omega arith) (at .1);
+    }
+
+-- "Let the proof check .. yield for a good proof the set of holders whose entries it found genuine, exactly q of them"
+pub good-signers : (f : ℕ) (entries : List Entry) (verdicts : List ℕ) (timestamp : ℕ) (set : ReplicaSet) → proofOutcome f entries verdicts timestamp ≡ accepted set
+    → (set ≡ signerSet entries) × Quorate f set
+unfolding proofOutcome
+good-signers f entries verdicts timestamp set e =
+    let ninth = guard-accepted 9 (shaped f entries) (guard 10 (genuine verdicts) (guard 11 (issued timestamp) (accepted (signerSet entries)))) set e in
+    let tenth = guard-accepted 10 (genuine verdicts) (guard 11 (issued timestamp) (accepted (signerSet entries))) set (ninth .1) in
+    let eleventh = guard-accepted 11 (issued timestamp) (accepted (signerSet entries)) set (tenth .1) in
+    let same : signerSet entries ≡ set = cc (eleventh .1) in
+    (sym same, subst (Quorate f) same (shaped-signers f entries (ninth .0)))
