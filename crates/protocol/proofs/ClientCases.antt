@@ -35,6 +35,7 @@ pub record Begun (before : Client) (question : Message) (phase : Phase) (card : 
   pub nonce : turn .next .«last_nonce» ≡ before .«last_nonce» + 1
   pub phase-is : turn .next .phase ≡ phase
   pub card-is : currentCard (turn .next) ≡ card
+  pub no-signers : turn .next .signers ≡ empty
   pub fits : ClientFits (turn .next)
   pub legal : Legal question
 
