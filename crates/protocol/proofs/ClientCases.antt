@@ -12,7 +12,7 @@ use Rattle.base.specs.declared.party.ReplicaId.{ReplicaId}
 use Rattle.base.specs.declared.replica_set.ReplicaSet.{ReplicaSet}
 use Rattle.base.specs.declared.timestamp.Timestamp.{Timestamp}
 use Rattle.wire.specs.Message.{Message, PREPARE, WRITE, STAMP, PREPARED, WRITTEN, CARD, Legal}
-use Rattle.wire.specs.Proof.{PreparedProof, WrittenProof}
+use Rattle.wire.specs.Proof.{PreparedProof, WrittenProof, signerSet}
 use Rattle.wire.specs.Sha256.{sha256}
 use Rattle.protocol.specs.Client.{Answer, send, waits, done, ended, Turn, currentCard, bestOf, showedBy, AfterCards, afterCard}
 use Rattle.protocol.specs.Viewer.{afterView}
@@ -20,9 +20,10 @@ use Rattle.protocol.specs.Parts.{cardStands}
 use Rattle.protocol.specs.declared.client.Client.{Client}
 use Rattle.protocol.specs.declared.client.Phase.{Phase}
 use Rattle.protocol.specs.declared.client.Phase.the-variants.{Idle, Stamps, Prepareds, Writtens, Cards, WriteBack}
+use Rattle.protocol.proofs.Built.{Built}
 use Rattle.protocol.proofs.Fit.{ClientFits, TimestampFits}
 use Rattle.wire.proofs.Passed.{Passed}
-use Rattle.wire.specs.Parts.{preparedTimestamp}
+use Rattle.wire.specs.Parts.{preparedTimestamp, preparedSigners}
 
 -- What an operation's beginning does: it sends the question, with the next nonce.
 pub record Begun (before : Client) (question : Message) (phase : Phase) (card : List ℕ) (turn : Turn) : Type 0 where
@@ -34,6 +35,7 @@ pub record Begun (before : Client) (question : Message) (phase : Phase) (card : 
   pub nonce : turn .next .«last_nonce» ≡ before .«last_nonce» + 1
   pub phase-is : turn .next .phase ≡ phase
   pub card-is : currentCard (turn .next) ≡ card
+  pub no-signers : turn .next .signers ≡ empty
   pub fits : ClientFits (turn .next)
   pub legal : Legal question
 
@@ -42,10 +44,11 @@ pub record Leaves (turn : Turn) (answer : Answer) (phase : Phase) : Type 0 where
   pub answer-is : turn .answer ≡ answer
   pub phase-is : turn .next .phase ≡ phase
 
--- The card and its digest as they were.
+-- The card, its digest and the proof's signers as they were.
 pub record SameCard (before after : Client) : Type 0 where
   pub card-kept : currentCard after ≡ currentCard before
   pub digest-kept : after .digest ≡ before .digest
+  pub signers-kept : after .signers ≡ before .signers
 
 abbrev pub NewFrom : Client → ReplicaId → ReplicaSet → Type 0
 NewFrom before sender counted = (isReplica (before .f) sender ≡ true) × (has counted sender ≡ false)
@@ -54,16 +57,20 @@ NewFrom before sender counted = (isReplica (before .f) sender ≡ true) × (has 
 abbrev pub betterCard : Timestamp → Option PreparedProof → List ℕ → Client → List ℕ
 betterCard best proof card before = cond (ltb (number best) (preparedTimestamp proof)) card (currentCard before)
 
+-- The signers of its proof.
+abbrev pub betterSigners : Timestamp → Option PreparedProof → Client → ReplicaSet
+betterSigners best proof before = cond (ltb (number best) (preparedTimestamp proof)) (preparedSigners proof) (before .signers)
+
 pub data ClientCase (before : Client) (message : Message) (turn : Turn) : Type 0 where
   stamp-counted : (sender : ReplicaId) (nonce : ℕ) (proof : Option PreparedProof) (best : Timestamp) (counted : ReplicaSet)
       → message ≡ STAMP sender nonce proof (before .id) → before .phase ≡ Stamps nonce best counted → NewFrom before sender counted
-      → currentCard (turn .next) ≡ currentCard before
+      → currentCard (turn .next) ≡ currentCard before → turn .next .signers ≡ betterSigners best proof before
       → Leaves turn waits (Stamps nonce (bestOf best proof) (with counted sender)) → ClientCase before message turn
   stamps-enough : (sender : ReplicaId) (nonce : ℕ) (proof : Option PreparedProof) (best : Timestamp) (counted : ReplicaSet) (next : Timestamp)
       (shown : Option PreparedProof) (last : Option WrittenProof)
       → message ≡ STAMP sender nonce proof (before .id) → before .phase ≡ Stamps nonce best counted → NewFrom before sender counted
       → isQuorum (before .f) (with counted sender) ≡ true → successor (bestOf best proof) (before .id) ≡ some next
-      → currentCard (turn .next) ≡ currentCard before → turn .next .digest ≡ sha256 (currentCard before)
+      → currentCard (turn .next) ≡ currentCard before → turn .next .digest ≡ sha256 (currentCard before) → turn .next .signers ≡ empty
       → preparedTimestamp shown ≡ number (bestOf best proof)
       → Leaves turn (send (PREPARE (before .id) (number next) (sha256 (currentCard before)) shown last)) (Prepareds next empty) → ClientCase before message turn
   stamps-ended : (sender : ReplicaId) (nonce : ℕ) (proof : Option PreparedProof) (best : Timestamp) (counted : ReplicaSet)
@@ -71,10 +78,12 @@ pub data ClientCase (before : Client) (message : Message) (turn : Turn) : Type 0
       → Leaves turn ended Idle → ClientCase before message turn
   prepared-counted : (sender : ReplicaId) (timestamp : Timestamp) (counted : ReplicaSet)
       → message ≡ PREPARED sender (number timestamp) (before .digest) → before .phase ≡ Prepareds timestamp counted → NewFrom before sender counted
-      → SameCard before (turn .next) → Leaves turn waits (Prepareds timestamp (with counted sender)) → ClientCase before message turn
+      → isQuorum (before .f) (with counted sender) ≡ false → SameCard before (turn .next)
+      → Leaves turn waits (Prepareds timestamp (with counted sender)) → ClientCase before message turn
   prepareds-enough : (sender : ReplicaId) (timestamp : Timestamp) (counted : ReplicaSet) (proof : PreparedProof)
       → message ≡ PREPARED sender (number timestamp) (before .digest) → before .phase ≡ Prepareds timestamp counted → NewFrom before sender counted
-      → isQuorum (before .f) (with counted sender) ≡ true → SameCard before (turn .next)
+      → isQuorum (before .f) (with counted sender) ≡ true → currentCard (turn .next) ≡ currentCard before
+      → turn .next .signers ≡ signerSet (proof .entries) → (isQuorum (before .f) counted ≡ false → Built (before .f) (with counted sender) (proof .entries))
       → proof .timestamp ≡ number timestamp → proof .digest ≡ before .digest
       → Leaves turn (send (WRITE (before .id) (currentCard before) proof)) (Writtens timestamp empty) → ClientCase before message turn
   written-counted : (sender : ReplicaId) (timestamp : Timestamp) (counted : ReplicaSet)
@@ -83,24 +92,24 @@ pub data ClientCase (before : Client) (message : Message) (turn : Turn) : Type 0
   writtens-enough : (sender : ReplicaId) (timestamp : Timestamp) (counted : ReplicaSet)
       → message ≡ WRITTEN sender (number timestamp) → before .phase ≡ Writtens timestamp counted → NewFrom before sender counted
       → isQuorum (before .f) (with counted sender) ≡ true
-      → Leaves turn (done timestamp (currentCard before)) Idle → ClientCase before message turn
+      → Leaves turn (done timestamp (currentCard before) (before .signers)) Idle → ClientCase before message turn
   card-counted : (sender : ReplicaId) (nonce : ℕ) (card : List ℕ) (proof : Option PreparedProof) (best : Timestamp) (counted showed : ReplicaSet)
       → message ≡ CARD sender nonce card proof (before .id) → before .phase ≡ Cards nonce best counted showed → NewFrom before sender counted
-      → cardStands card proof ≡ true → currentCard (turn .next) ≡ betterCard best proof card before
+      → cardStands card proof ≡ true → currentCard (turn .next) ≡ betterCard best proof card before → turn .next .signers ≡ betterSigners best proof before
       → Leaves turn waits (Cards nonce (bestOf best proof) (with counted sender) (showedBy best proof sender showed)) → ClientCase before message turn
   cards-agree : (sender : ReplicaId) (nonce : ℕ) (card : List ℕ) (proof : Option PreparedProof) (best : Timestamp) (counted showed : ReplicaSet)
       → message ≡ CARD sender nonce card proof (before .id) → before .phase ≡ Cards nonce best counted showed → NewFrom before sender counted
       → cardStands card proof ≡ true → isQuorum (before .f) (with counted sender) ≡ true → isQuorum (before .f) (showedBy best proof sender showed) ≡ true
-      → Leaves turn (done (bestOf best proof) (betterCard best proof card before)) Idle → ClientCase before message turn
+      → Leaves turn (done (bestOf best proof) (betterCard best proof card before) (betterSigners best proof before)) Idle → ClientCase before message turn
   -- A viewing client alone.
   cards-viewed : (sender : ReplicaId) (nonce : ℕ) (card : List ℕ) (proof : Option PreparedProof) (best : Timestamp) (counted showed : ReplicaSet)
       → message ≡ CARD sender nonce card proof (before .id) → before .phase ≡ Cards nonce best counted showed → NewFrom before sender counted
       → cardStands card proof ≡ true → isQuorum (before .f) (with counted sender) ≡ true → isWriter (before .id) ≡ false
-      → Leaves turn (done (bestOf best proof) (betterCard best proof card before)) Idle → ClientCase before message turn
+      → Leaves turn (done (bestOf best proof) (betterCard best proof card before) (betterSigners best proof before)) Idle → ClientCase before message turn
   cards-differ : (sender : ReplicaId) (nonce : ℕ) (card : List ℕ) (proof : Option PreparedProof) (best : Timestamp) (counted showed : ReplicaSet) (shown : PreparedProof)
       → message ≡ CARD sender nonce card proof (before .id) → before .phase ≡ Cards nonce best counted showed → NewFrom before sender counted
       → cardStands card proof ≡ true → isQuorum (before .f) (with counted sender) ≡ true
-      → currentCard (turn .next) ≡ betterCard best proof card before
+      → currentCard (turn .next) ≡ betterCard best proof card before → turn .next .signers ≡ betterSigners best proof before
       → Leaves turn (send (WRITE (before .id) (betterCard best proof card before) shown)) (WriteBack (bestOf best proof) (showedBy best proof sender showed))
       → ClientCase before message turn
   back-counted : (sender : ReplicaId) (timestamp : Timestamp) (counted : ReplicaSet)
@@ -109,13 +118,13 @@ pub data ClientCase (before : Client) (message : Message) (turn : Turn) : Type 0
   back-enough : (sender : ReplicaId) (timestamp : Timestamp) (counted : ReplicaSet)
       → message ≡ WRITTEN sender (number timestamp) → before .phase ≡ WriteBack timestamp counted → NewFrom before sender counted
       → isQuorum (before .f) (with counted sender) ≡ true
-      → Leaves turn (done timestamp (currentCard before)) Idle → ClientCase before message turn
+      → Leaves turn (done timestamp (currentCard before) (before .signers)) Idle → ClientCase before message turn
 
 -- A message that a client sends is legal; what else it answers has no bytes.
 abbrev pub LegalAnswer : Answer → Type 0
 LegalAnswer (send message) = Legal message
 LegalAnswer waits = Unit {0}
-LegalAnswer (done timestamp card) = Unit {0}
+LegalAnswer (done timestamp card signers) = Unit {0}
 LegalAnswer ended = Unit {0}
 
 -- The timestamps that a phase carries fit their five bytes.

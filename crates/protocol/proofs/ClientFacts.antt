@@ -53,6 +53,7 @@ begun before question phase card fits may bytes short legal =
       nonce = refl;
       phase-is = refl;
       card-is = card-kept card short;
+      no-signers = refl;
       fits = beginning-fits (before .«last_nonce» + 1) phase card before small bytes fits;
       legal = legal small;
     }

@@ -5,18 +5,20 @@ use mathlib.Core.List.{List}
 use mathlib.Core.Option.{Option, none, some}
 use Prim.Native.Nat.{ℕ, _^_, _≤_, _<_}
 use native.Mathlib.Omega.{arith}
+use borrow.Author.Tests.{le-ltb}
 use lib.Dec.{ltb}
 use lib.ListN.{length}
 use Rattle.base.specs.BigEndian.{Bytes}
 use Rattle.base.specs.Timestamp.{number}
+use Rattle.base.specs.declared.replica_set.ReplicaSet.{ReplicaSet}
 use Rattle.base.specs.declared.timestamp.Timestamp.{Timestamp}
 use Rattle.wire.specs.Message.{IsDigest, EachFits, PreparedFits, IfThere}
 use Rattle.wire.specs.Proof.{Entry, PreparedProof}
-use Rattle.protocol.specs.Client.{currentCard, beginning, withPhase, withProof, withCard, withDigest, withSignatures, withLastWritten, keepBetter, keepBetterCard}
+use Rattle.protocol.specs.Client.{currentCard, beginning, withPhase, withProof, withCard, withDigest, withSignatures, withSigners, withLastWritten, keepBetter, keepBetterCard}
 use Rattle.protocol.specs.declared.client.Client.{Client}
 use Rattle.protocol.specs.declared.client.Phase.{Phase}
 use Rattle.protocol.proofs.ArrayLaws.{zeros-fit, filled-fits, card-kept, entries-filled}
-use Rattle.protocol.proofs.ClientCases.{betterCard}
+use Rattle.protocol.proofs.ClientCases.{betterCard, betterSigners}
 use Rattle.protocol.proofs.Fit.{Array, TimestampFits, ClientFits}
 
 -- The record still fits, of the same client in the same operation.
@@ -85,36 +87,40 @@ module _ (before : Client) where
     pub signatures-changed : (signatures : List ℕ) → Array 1_024 signatures → Kept before (withSignatures signatures client)
     signatures-changed signatures h = changed (withSignatures signatures client) refl refl refl card-fits digest-fits entries-fit h written-fits written-entries-fit
 
+    pub signers-changed : (signers : ReplicaSet) → Kept before (withSigners signers client)
+    signers-changed signers = changed (withSigners signers client) refl refl refl card-fits digest-fits entries-fit signatures-fit written-fits written-entries-fit
+
     pub written-changed : (timestamp : Timestamp) (entries : List Entry) → TimestampFits timestamp → EachFits entries → Kept before (withLastWritten timestamp entries client)
     written-changed timestamp entries t h =
         changed (withLastWritten timestamp entries client) refl refl refl card-fits digest-fits entries-fit signatures-fit t (entries-filled entries h)
 
+  -- The record after a reply: the better proof's signers, and this card.
+  pub record Best (best : Timestamp) (proof : Option PreparedProof) (card : List ℕ) (after : Client) : Type 0 where
+    pub kept : Kept before after
+    pub card-is : currentCard after ≡ card
+    pub signers-are : after .signers ≡ betterSigners best proof before
+
   module _ (best : Timestamp) (fits : ClientFits before) where
+    -- No proof is not better.
+    never-better : ltb (number best) 0 ≡ false
+    never-better = le-ltb (number best) 0 (omega arith)
+
     -- A better reply's proof is kept, the card stays.
-    pub better-kept : (proof : Option PreparedProof) → IfThere PreparedFits proof
-        → Kept before (keepBetter best proof before) × (currentCard (keepBetter best proof before) ≡ currentCard before)
-    better-kept none h = go (ltb (number best) 0)
+    pub better-kept : (proof : Option PreparedProof) → IfThere PreparedFits proof → Best best proof (currentCard before) (keepBetter best proof before)
+    better-kept none h = rw never-better (record { kept = itself-kept fits; card-is = refl; signers-are = rw never-better })
+    better-kept (some proof) h = go (ltb (number best) (proof .timestamp)) refl
       where
-        go : (b : Bool) → Kept before (cond b before before) × (currentCard (cond b before before) ≡ currentCard before)
-        go true = (itself-kept fits, refl)
-        go false = (itself-kept fits, refl)
-    better-kept (some proof) h = go (ltb (number best) (proof .timestamp))
-      where
-        go : (b : Bool) → Kept before (cond b (withProof proof before) before) × (currentCard (cond b (withProof proof before) before) ≡ currentCard before)
-        go true = (proof-kept before (itself-kept fits) proof h, refl)
-        go false = (itself-kept fits, refl)
+        go : (b : Bool) → ltb (number best) (proof .timestamp) ≡ b → Best best (some proof) (currentCard before) (cond b (withProof proof before) before)
+        go true e = record { kept = proof-kept before (itself-kept fits) proof h; card-is = refl; signers-are = rw e }
+        go false e = record { kept = itself-kept fits; card-is = refl; signers-are = rw e }
 
     -- A better reply's proof and card are kept.
     pub better-card-kept : (card : List ℕ) (proof : Option PreparedProof) → length card ≤ 17 → Bytes card → IfThere PreparedFits proof
-        → Kept before (keepBetterCard best card proof before) × (currentCard (keepBetterCard best card proof before) ≡ betterCard best proof card before)
-    better-card-kept card none short bytes h = go (ltb (number best) 0)
+        → Best best proof (betterCard best proof card before) (keepBetterCard best card proof before)
+    better-card-kept card none short bytes h = rw never-better (record { kept = itself-kept fits; card-is = refl; signers-are = rw never-better })
+    better-card-kept card (some proof) short bytes h = go (ltb (number best) (proof .timestamp)) refl
       where
-        go : (b : Bool) → Kept before (cond b (withCard card before) before) × (currentCard (cond b (withCard card before) before) ≡ cond b card (currentCard before))
-        go true = (card-changed before (itself-kept fits) card bytes, card-kept card short)
-        go false = (itself-kept fits, refl)
-    better-card-kept card (some proof) short bytes h = go (ltb (number best) (proof .timestamp))
-      where
-        go : (b : Bool) → Kept before (cond b (withCard card (withProof proof before)) before)
-            × (currentCard (cond b (withCard card (withProof proof before)) before) ≡ cond b card (currentCard before))
-        go true = (card-changed (withProof proof before) (proof-kept before (itself-kept fits) proof h) card bytes, card-kept card short)
-        go false = (itself-kept fits, refl)
+        go : (b : Bool) → ltb (number best) (proof .timestamp) ≡ b
+            → Best best (some proof) (cond b card (currentCard before)) (cond b (withCard card (withProof proof before)) before)
+        go true e = record { kept = card-changed (withProof proof before) (proof-kept before (itself-kept fits) proof h) card bytes; card-is = card-kept card short; signers-are = rw e }
+        go false e = record { kept = itself-kept fits; card-is = refl; signers-are = rw e }

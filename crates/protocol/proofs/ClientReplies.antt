@@ -1,5 +1,5 @@
 -- What a client makes of each kind of reply, by its phase. Assumes nothing.
-use mathlib.Core.Path.{_≡_, refl, ap, subst}
+use mathlib.Core.Path.{_≡_, refl, ap, ap₂, subst}
 use mathlib.Core.Bool.{Bool, true, false, _&&_, cond}
 use mathlib.Core.List.{List}
 use mathlib.Core.Option.{Option, none, some}
@@ -22,9 +22,9 @@ use Rattle.base.proofs.Range.{bounds}
 use Rattle.base.proofs.Same.{same-equal}
 use Rattle.wire.specs.Card.{isCard}
 use Rattle.wire.specs.Message.{Message, PREPARE, WRITE, STAMP, PREPARED, WRITTEN, CARD, IsSignature, PreparedFits, WrittenFits, IfThere, Legal, Fits, size, writtenSize}
-use Rattle.wire.specs.Proof.{PreparedProof}
+use Rattle.wire.specs.Proof.{PreparedProof, signerSet}
 use Rattle.wire.specs.Sha256.{sha256}
-use Rattle.protocol.specs.Client.{done, Turn, currentCard, bestProof, lastWritten, built, withSignature, withSignatures, withDigest, withLastWritten, enough, isNew, bestOf, showedBy, toPrepare, afterStamp, onStamp, afterPrepared, onPrepared, afterWritten, afterWriteBack, onWritten, AfterCards, afterCard, countCard, onCard}
+use Rattle.protocol.specs.Client.{done, Turn, currentCard, bestProof, lastWritten, built, withSignature, withSignatures, withSigners, withPhase, withDigest, withLastWritten, enough, isNew, bestOf, showedBy, toPrepare, afterStamp, onStamp, afterPrepared, onPrepared, afterWritten, afterWriteBack, onWritten, AfterCards, afterCard, countCard, onCard}
 use Rattle.protocol.specs.Viewer.{afterView}
 use Rattle.protocol.specs.Parts.{startCard, entriesKept, ifIssued, cardStands}
 use Rattle.protocol.specs.declared.client.Client.{Client}
@@ -32,10 +32,11 @@ use Rattle.protocol.specs.declared.client.Phase.{Phase}
 use Rattle.protocol.specs.declared.client.Phase.the-variants.{Idle, Stamps, Prepareds, Writtens, Cards, WriteBack}
 use Rattle.protocol.proofs.Accepts.{Accepts, by-value, by-refusal, by-guard, by-cases}
 use Rattle.protocol.proofs.ArrayLaws.{zeros-fit, card-in-bytes, card-in-short, entries-in-length, entries-in-fit, issued-there, issued-timestamp, issued-size}
+use Rattle.protocol.proofs.Built.{built as built-shape}
 use Rattle.wire.proofs.card.Digests.{card-short}
 use Rattle.protocol.proofs.ClientArrays.{digest-fits, signature-put, built-fit, built-few, number-fits, best-fits, successor-fits}
-use Rattle.protocol.proofs.ClientCases.{Leaves, NewFrom, betterCard, ClientCase, stamp-counted, stamps-enough, stamps-ended, prepared-counted, prepareds-enough, written-counted, writtens-enough, card-counted, cards-agree, cards-viewed, cards-differ, back-counted, back-enough, LegalAnswer, PhaseFits, Follows, as-read, as-view, ClientFacts}
-use Rattle.protocol.proofs.ClientKept.{Kept, itself-kept, phase-kept, digest-changed, signatures-changed, written-changed, better-kept, better-card-kept}
+use Rattle.protocol.proofs.ClientCases.{Leaves, SameCard, NewFrom, betterCard, ClientCase, stamp-counted, stamps-enough, stamps-ended, prepared-counted, prepareds-enough, written-counted, writtens-enough, card-counted, cards-agree, cards-viewed, cards-differ, back-counted, back-enough, LegalAnswer, PhaseFits, Follows, as-read, as-view, ClientFacts}
+use Rattle.protocol.proofs.ClientKept.{Kept, itself-kept, phase-kept, digest-changed, signatures-changed, signers-changed, written-changed, Best, better-kept, better-card-kept}
 use Rattle.protocol.proofs.Fit.{Array, TimestampFits, ClientFits}
 use Rattle.wire.proofs.Passed.{Passed}
 
@@ -92,6 +93,9 @@ standing-short card (some proof) e = card-short card (and-true-both (isCard card
 leaves : {turn : Turn} → Leaves turn (turn .answer) (turn .next .phase)
 leaves = record { answer-is = refl; phase-is = refl }
 
+unchanged : {before : Client} {phase : Phase} {signatures : List ℕ} → SameCard before (withPhase phase (withSignatures signatures before))
+unchanged = record { card-kept = refl; digest-kept = refl; signers-kept = refl }
+
 -- ---- Replies
 
 module _ (before : Client) (verdicts : List ℕ) (message : Message) (passed : Passed (before .f) message verdicts) (fits : ClientFits before) where
@@ -114,29 +118,29 @@ module _ (before : Client) (verdicts : List ℕ) (message : Message) (passed : P
   -- STAMPs
   module _ (sender : ReplicaId) (nonce : ℕ) (proof : Option PreparedProof) (best : Timestamp) (counted : ReplicaSet) (best-fit : TimestampFits (bestOf best proof))
       (is-message : message ≡ STAMP sender nonce proof (before .id)) (at : before .phase ≡ Stamps nonce best counted) (new : NewFrom before sender counted)
-      (client : Client) (kept : Kept before client) (same-card : currentCard client ≡ currentCard before) where
+      (client : Client) (after : Best before best proof (currentCard before) client) where
     to-prepare : isQuorum (before .f) (with counted sender) ≡ true → (next : Option Timestamp) → successor (bestOf best proof) (client .id) ≡ next
         → Accepts (ClientFacts before verdicts message) (toPrepare client (bestOf best proof) next)
     to-prepare quorum none e =
-        by-value (took _ (phase-kept before client kept Idle) tt tt (stamps-ended sender nonce proof best counted is-message at leaves))
+        by-value (took _ (phase-kept before client (after .kept) Idle) tt tt (stamps-ended sender nonce proof best counted is-message at leaves))
     to-prepare quorum (some next) e =
-        let next-fit = successor-fits (bestOf best proof) next (client .id) best-fit (kept .fits .id-fits) e in
+        let next-fit = successor-fits (bestOf best proof) next (client .id) best-fit (after .kept .fits .id-fits) e in
         let digest = sha256 (currentCard client) in
         by-value (took _
-        (phase-kept before (withDigest digest client) (digest-changed before client kept digest (digest-fits (currentCard client))) (Prepareds next empty))
+        (phase-kept before (withDigest digest client) (digest-changed before client (after .kept) digest (digest-fits (currentCard client))) (Prepareds next empty))
         next-fit
-        (prepare-legal client (kept .fits) (bestOf best proof) best-fit next next-fit)
+        (prepare-legal client (after .kept .fits) (bestOf best proof) best-fit next next-fit)
         (stamps-enough sender nonce proof best counted next (ifIssued (number (bestOf best proof)) (bestProof client (bestOf best proof))) (lastWritten client)
-        is-message at new quorum (rw (← kept .same-id) e) same-card (ap sha256 same-card)
+        is-message at new quorum (rw (← after .kept .same-id) e) (after .card-is) (ap sha256 (after .card-is)) refl
         (issued-timestamp (number (bestOf best proof)) (bestProof client (bestOf best proof)) refl)
         (record { answer-is = cc; phase-is = refl })))
 
     after-stamp : Accepts (ClientFacts before verdicts message) (afterStamp nonce (bestOf best proof) (with counted sender) client)
     unfolding afterStamp
     after-stamp =
-        by-cases (enough client (with counted sender)) (λ quorum. to-prepare (quorum-before client kept (with counted sender) quorum) (successor (bestOf best proof) (client .id)) refl)
-        (λ few. by-value (took _ (phase-kept before client kept (Stamps nonce (bestOf best proof) (with counted sender))) best-fit tt
-        (stamp-counted sender nonce proof best counted is-message at new same-card leaves)))
+        by-cases (enough client (with counted sender)) (λ quorum. to-prepare (quorum-before client (after .kept) (with counted sender) quorum) (successor (bestOf best proof) (client .id)) refl)
+        (λ few. by-value (took _ (phase-kept before client (after .kept) (Stamps nonce (bestOf best proof) (with counted sender))) best-fit tt
+        (stamp-counted sender nonce proof best counted is-message at new (after .card-is) (after .signers-are) leaves)))
 
   -- PREPAREDs, the sender's signature among the signatures
   module _ (sender : ReplicaId) (timestamp : Timestamp) (counted : ReplicaSet) (timestamp-fits : TimestampFits timestamp) (new : NewFrom before sender counted)
@@ -152,14 +156,16 @@ module _ (before : Client) (verdicts : List ℕ) (message : Message) (passed : P
         let entries-fit = built-fit (replicaCount (before .f)) replicas signatures (omega arith) signatures-fit in
         let few = built-few (replicaCount (before .f)) replicas signatures in
         let proof : PreparedProof = record { timestamp = number timestamp; digest = before .digest; entries = built before replicas signatures } in
+        let cleared = withSignatures (replicate 1_024 0) before in
         by-cases (enough before replicas)
         (λ quorum. by-value (took _
-        (phase-kept before (withSignatures (replicate 1_024 0) before) (signatures-changed before before (itself-kept before fits) (replicate 1_024 0) (zeros-fit 1_024)) (Writtens timestamp empty))
+        (phase-kept before (withSigners (signerSet (proof .entries)) cleared)
+        (signers-changed before cleared (signatures-changed before before (itself-kept before fits) (replicate 1_024 0) (zeros-fit 1_024)) (signerSet (proof .entries))) (Writtens timestamp empty))
         timestamp-fits
         (write-legal before fits proof (number-fits timestamp timestamp-fits, fits .digest-fits, (omega arith, entries-fit)) few)
-        (prepareds-enough sender timestamp counted proof is-message at new quorum (record { card-kept = refl; digest-kept = refl }) refl refl leaves)))
+        (prepareds-enough sender timestamp counted proof is-message at new quorum refl refl (λ less. built-shape (before .f) counted sender signatures (new .0) (new .1) less quorum) refl refl leaves)))
         (λ less. by-value (took _ (phase-kept before (withSignatures signatures before) signed-kept (Prepareds timestamp replicas)) timestamp-fits tt
-        (prepared-counted sender timestamp counted is-message at new (record { card-kept = refl; digest-kept = refl }) leaves)))
+        (prepared-counted sender timestamp counted is-message at new less unchanged leaves)))
 
     -- WRITTENs that end a write, likewise
     after-written : message ≡ WRITTEN sender (number timestamp) → before .phase ≡ Writtens timestamp counted
@@ -174,7 +180,7 @@ module _ (before : Client) (verdicts : List ℕ) (message : Message) (passed : P
         (written-changed before (withSignatures signatures before) signed-kept timestamp (built before replicas signatures) timestamp-fits entries-fit) Idle)
         tt tt (writtens-enough sender timestamp counted is-message at new quorum leaves)))
         (λ less. by-value (took _ (phase-kept before (withSignatures signatures before) signed-kept (Writtens timestamp replicas)) timestamp-fits tt
-        (written-counted sender timestamp counted is-message at new (record { card-kept = refl; digest-kept = refl }) leaves)))
+        (written-counted sender timestamp counted is-message at new unchanged leaves)))
 
   -- WRITTENs that end a write-back
   after-write-back : (sender : ReplicaId) (timestamp : Timestamp) (counted : ReplicaSet) → TimestampFits timestamp → NewFrom before sender counted
@@ -185,12 +191,12 @@ module _ (before : Client) (verdicts : List ℕ) (message : Message) (passed : P
       (λ quorum. by-value (took _ (phase-kept before before (itself-kept before fits) Idle) tt tt
       (back-enough sender timestamp counted is-message at new quorum leaves)))
       (λ less. by-value (took _ (phase-kept before before (itself-kept before fits) (WriteBack timestamp (with counted sender))) timestamp-fits tt
-      (back-counted sender timestamp counted is-message at new (record { card-kept = refl; digest-kept = refl }) leaves)))
+      (back-counted sender timestamp counted is-message at new unchanged leaves)))
 
   -- CARDs
   module _ (sender : ReplicaId) (nonce : ℕ) (card : List ℕ) (proof : Option PreparedProof) (best : Timestamp) (counted showed : ReplicaSet) (best-fit : TimestampFits (bestOf best proof))
       (is-message : message ≡ CARD sender nonce card proof (before .id)) (at : before .phase ≡ Cards nonce best counted showed) (new : NewFrom before sender counted)
-      (stands : cardStands card proof ≡ true) (client : Client) (kept : Kept before client) (better : currentCard client ≡ betterCard best proof card before) where
+      (stands : cardStands card proof ≡ true) (client : Client) (after : Best before best proof (betterCard best proof card before) client) where
     abbrev latest : Timestamp
     latest = bestOf best proof
 
@@ -201,24 +207,24 @@ module _ (before : Client) (verdicts : List ℕ) (message : Message) (passed : P
     unfolding afterCard afterView
     after-cards as-read quorum =
         by-cases _
-        (λ agree. by-value (took _ (phase-kept before client kept _) tt tt
-        (cards-agree sender nonce card proof best counted showed is-message at new stands quorum (quorum-before client kept showing agree)
-        (record { answer-is = ap (done latest) better; phase-is = refl }))))
-        (λ differ. by-value (took _ (phase-kept before client kept _) best-fit
-        (write-legal client (kept .fits) (bestProof client latest) (proof-fits client (kept .fits) latest best-fit) (entries-in-length (client .entries) (client .«entry_count»)))
-        (cards-differ sender nonce card proof best counted showed (bestProof client latest) is-message at new stands quorum better
+        (λ agree. by-value (took _ (phase-kept before client (after .kept) _) tt tt
+        (cards-agree sender nonce card proof best counted showed is-message at new stands quorum (quorum-before client (after .kept) showing agree)
+        (record { answer-is = ap₂ (done latest) (after .card-is) (after .signers-are); phase-is = refl }))))
+        (λ differ. by-value (took _ (phase-kept before client (after .kept) _) best-fit
+        (write-legal client (after .kept .fits) (bestProof client latest) (proof-fits client (after .kept .fits) latest best-fit) (entries-in-length (client .entries) (client .«entry_count»)))
+        (cards-differ sender nonce card proof best counted showed (bestProof client latest) is-message at new stands quorum (after .card-is) (after .signers-are)
         (record { answer-is = cc; phase-is = refl }))))
     after-cards (as-view no-writer) quorum =
-        by-value (took _ (phase-kept before client kept _) tt tt
+        by-value (took _ (phase-kept before client (after .kept) _) tt tt
         (cards-viewed sender nonce card proof best counted showed is-message at new stands quorum no-writer
-        (record { answer-is = ap (done latest) better; phase-is = refl })))
+        (record { answer-is = ap₂ (done latest) (after .card-is) (after .signers-are); phase-is = refl })))
 
     count-card : {next : AfterCards} → Follows before next → Accepts (ClientFacts before verdicts message) (countCard next nonce latest (with counted sender) showing client)
     unfolding countCard
     count-card follows =
-        by-cases _ (λ quorum. after-cards follows (quorum-before client kept (with counted sender) quorum))
-        (λ less. by-value (took _ (phase-kept before client kept _) best-fit tt
-        (card-counted sender nonce card proof best counted showed is-message at new stands better leaves)))
+        by-cases _ (λ quorum. after-cards follows (quorum-before client (after .kept) (with counted sender) quorum))
+        (λ less. by-value (took _ (phase-kept before client (after .kept) _) best-fit tt
+        (card-counted sender nonce card proof best counted showed is-message at new stands (after .card-is) (after .signers-are) leaves)))
 
 -- ---- Phases: the others await another kind
 
@@ -238,8 +244,7 @@ module _ (before : Client) (verdicts : List ℕ) (fits : ClientFits before) (sen
   stamp-facts nonce proof addressed passed proof-fit (Stamps asked best counted) at best-fit =
       by-guard 18 (λ e.
       let (same-nonce, same-client, new) = answers-nonce nonce asked addressed counted e in
-      let (kept, same-card) = better-kept before best fits proof proof-fit in
-      after-stamp before verdicts (STAMP sender nonce proof addressed) passed fits sender asked proof best counted (best-fits best proof best-fit proof-fit) (cc) at new _ kept same-card)
+      after-stamp before verdicts (STAMP sender nonce proof addressed) passed fits sender asked proof best counted (best-fits best proof best-fit proof-fit) (cc) at new _ (better-kept before best fits proof proof-fit))
   stamp-facts nonce proof addressed passed proof-fit Idle at h = by-refusal
   stamp-facts nonce proof addressed passed proof-fit (Prepareds timestamp counted) at h = by-refusal
   stamp-facts nonce proof addressed passed proof-fit (Writtens timestamp counted) at h = by-refusal
@@ -253,9 +258,8 @@ module _ (before : Client) (verdicts : List ℕ) (fits : ClientFits before) (sen
   card-facts follows nonce card proof addressed passed bytes proof-fit stands (Cards asked best counted showed) at best-fit =
       by-guard 18 (λ e.
       let (same-nonce, same-client, new) = answers-nonce nonce asked addressed counted e in
-      let (kept, better) = better-card-kept before best fits card proof (standing-short card proof stands) bytes proof-fit in
       count-card before verdicts (CARD sender nonce card proof addressed) passed fits sender asked card proof best counted showed
-      (best-fits best proof best-fit proof-fit) (cc) at new stands _ kept better follows)
+      (best-fits best proof best-fit proof-fit) (cc) at new stands _ (better-card-kept before best fits card proof (standing-short card proof stands) bytes proof-fit) follows)
   card-facts follows nonce card proof addressed passed bytes proof-fit stands Idle at h = by-refusal
   card-facts follows nonce card proof addressed passed bytes proof-fit stands (Stamps asked best counted) at h = by-refusal
   card-facts follows nonce card proof addressed passed bytes proof-fit stands (Prepareds timestamp counted) at h = by-refusal

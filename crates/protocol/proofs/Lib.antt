@@ -1,5 +1,6 @@
 pub mod Accepts
 pub mod ArrayLaws
+pub mod Built
 pub mod Calls
 pub mod ClientArrays
 pub mod ClientCases

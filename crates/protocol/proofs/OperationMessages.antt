@@ -42,7 +42,7 @@ remaining (WriteBack timestamp counted) = 0
 abbrev sends : Answer → ℕ
 sends (send message) = 1
 sends waits = 0
-sends (done timestamp card) = 0
+sends (done timestamp card signers) = 0
 sends ended = 0
 
 -- What a turn sends and what may follow are so many at most.
@@ -182,7 +182,7 @@ module _ (client : Client) (old : List ℕ) (most : ℕ) where
           → sentBy (answered old answer next .answer) + remaining (answered old answer next .client .phase) ≤ most
       answers (send message) next h = h
       answers waits next h = h
-      answers (done timestamp card) next h = h
+      answers (done timestamp card signers) next h = h
       answers ended next h = h
 
       go : (out : Outcome Turn) → ((turn : Turn) → out ≡ accepted turn → AtMost most turn)
@@ -198,7 +198,7 @@ module _ (client : Client) (old : List ℕ) (most : ℕ) where
       go : (answer : Answer) (next : Client) → unlessBegun (answered old answer next .answer) (sentAfter hear (answered old answer next .client) calls) ≤ most
       go (send message) next = omega arith
       go waits next = omega arith
-      go (done timestamp card) next = omega arith
+      go (done timestamp card signers) next = omega arith
       go ended next = omega arith
   begins-again hear (refused number) calls h = h
 
@@ -270,7 +270,7 @@ hearing-quiet client bytes verdicts old = go (withOutput old (viewerStep client 
     answers : (answer : Answer) (next : Client) → sends answer ≡ 0 → sentBy (answered old answer next .answer) ≡ 0
     answers (send message) next h = h
     answers waits next h = h
-    answers (done timestamp card) next h = h
+    answers (done timestamp card signers) next h = h
     answers ended next h = h
 
     go : (out : Outcome Turn) → withOutput old (viewerStep client bytes verdicts) ≡ out → sentBy (clientAnswers client old out .answer) ≡ 0

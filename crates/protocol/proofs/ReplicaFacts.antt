@@ -6,12 +6,13 @@ use mathlib.Core.List.{List}
 use mathlib.Core.Option.{Option, none, some}
 use Prim.Native.Nat.{ℕ, _+_, _-_, _*_, _/_, _%_, _^_, _≤_, _<_}
 use native.Mathlib.Omega.{arith}
-use borrow.Author.Tests.{ltb-true, ltb-false, leb-true, eqb-true, eqb-false}
+use borrow.Author.Tests.{ltb-true, ltb-false, leb-true, eqb-true, eqb-false, ne-eqb}
 use lib.Dec.{eqb, leb, ltb}
-use lib.ListN.{getD, set, length-set}
+use lib.ListN.{length, getD, set, length-set}
 use lib.Seq.{getD-set-same, getD-set-other}
 use Rattle.base.specs.Outcome.{accepted, guard}
-use Rattle.base.specs.Party.{isWriter}
+use Rattle.base.specs.Party.{isWriter, replicaCount, quorumSize}
+use Rattle.base.specs.Rising.{rising}
 use Rattle.base.specs.Same.{same}
 use Rattle.base.specs.Timestamp.{number, ofNumber, successor}
 use Rattle.base.specs.declared.party.ClientId.{ClientId}
@@ -22,18 +23,18 @@ use Rattle.base.proofs.Range.{bounds}
 use Rattle.base.proofs.Same.{same-equal}
 use Rattle.wire.specs.Message.{Message, kindOf, READ-STAMP, PREPARE, WRITE, READ, STAMP, PREPARED, WRITTEN, CARD, IfThere, IsDigest, PreparedFits, WrittenFits, CardFits, Fits, preparedSize, size, Legal}
 use Rattle.wire.specs.Acceptance.{senderOf, maySend}
-use Rattle.wire.specs.Checks.{writtenOf}
-use Rattle.wire.specs.Proof.{PreparedProof, WrittenProof}
+use Rattle.wire.specs.Checks.{writtenOf, shaped}
+use Rattle.wire.specs.Proof.{PreparedProof, WrittenProof, signers}
 use Rattle.protocol.specs.Parts.{entriesKept}
 use Rattle.protocol.specs.Replica.{Reply, heldTimestamp, heldProof, heldCard, slotCount, slotDigest, slotTimestamp, raised, withWritten, withSlot, holding, withSlots, withHeld, slotIs, slotTakes, isTimestamp, afterPrepare, afterWrite, onReadStamp, onPrepare, onWrite, onRead, onRequest}
 use Rattle.protocol.specs.declared.replica.Held.{Held}
 use Rattle.protocol.specs.declared.replica.Replica.{Replica}
 use Rattle.protocol.specs.declared.replica.Slots.{Slots}
-use Rattle.protocol.proofs.ArrayLaws.{replaced-length, replaced-bytes, replaced-here, replaced-before, replaced-behind, filled-fits, card-in-bytes, card-in-short, entries-in-length, entries-in-fit, entries-filled, issued-there, issued-timestamp, issued-size}
+use Rattle.protocol.proofs.ArrayLaws.{replaced-length, replaced-bytes, replaced-here, replaced-before, replaced-behind, filled-fits, card-in-bytes, card-in-short, entries-in-length, entries-in-fit, entries-kept, entries-filled, issued-there, issued-timestamp, issued-size}
 use Rattle.protocol.proofs.Accepts.{Accepts, by-test, by-value, by-refusal, by-guard, by-next}
 use Rattle.protocol.proofs.Fit.{SlotsFit, HeldFits, ReplicaFits}
 use Rattle.wire.proofs.Passed.{Passed}
-use Rattle.wire.specs.Parts.{preparedTimestamp}
+use Rattle.wire.specs.Parts.{preparedTimestamp, preparedSigners}
 
 -- The client of a timestamp's number.
 abbrev pub clientOf : ℕ → ClientId
@@ -52,6 +53,10 @@ SlotChange before after message client =
     × ((digest : List ℕ) × (proof : Option PreparedProof) × (last : Option WrittenProof) × (message ≡ PREPARE client (slotTimestamp after client) digest proof last)
     × (isTimestamp (slotTimestamp after client) (successor (ofNumber (preparedTimestamp proof)) client) ≡ true)))
 
+-- The signers that are kept are those of the proof that is held.
+abbrev pub SignersHeld : Held → Type 0
+SignersHeld held = held .signers ≡ preparedSigners (heldProof held)
+
 pub record ReplicaFacts (before : Replica) (verdicts : List ℕ) (message : Message) (reply : Reply) : Type 0 where
   pub same-f : reply .next .f ≡ before .f
   pub same-id : reply .next .id ≡ before .id
@@ -59,6 +64,7 @@ pub record ReplicaFacts (before : Replica) (verdicts : List ℕ) (message : Mess
   pub legal : Legal (reply .message)
   pub passed : Passed (before .f) message verdicts
   pub held-rises : heldTimestamp (before .register .held) ≤ heldTimestamp (reply .next .register .held)
+  pub signers-held : SignersHeld (before .register .held) → SignersHeld (reply .next .register .held)
   pub slots-rise : (client : ClientId) → 1 ≤ client .0 → client .0 ≤ 64 → SlotRises (before .register .slots) (reply .next .register .slots) client
   pub prepared-sent : (id : ReplicaId) (timestamp : ℕ) (digest : List ℕ) → reply .message ≡ PREPARED id timestamp digest
       → (id ≡ before .id) × (isWriter (clientOf timestamp) ≡ true) × (slotCount (reply .next .register .slots) (clientOf timestamp) ≡ timestamp / 256)
@@ -138,6 +144,7 @@ stamp-facts before verdicts client nonce fits message-fits passed =
       legal = stamp-legal before fits nonce client (message-fits .1) (message-fits .0);
       passed = passed;
       held-rises = omega arith;
+      signers-held = λ was. was;
       slots-rise = λ c low high. inl (refl, refl);
       prepared-sent = λ id timestamp digest e. let z : _≡_ {A = ℕ} 0 1 = cc in absurd (omega arith);
       prepared-asked = λ id timestamp digest e. let z : _≡_ {A = ℕ} 0 1 = cc in absurd (omega arith);
@@ -160,6 +167,7 @@ card-facts before verdicts client nonce fits message-fits passed =
       legal = card-legal before fits nonce client (message-fits .1) (message-fits .0);
       passed = passed;
       held-rises = omega arith;
+      signers-held = λ was. was;
       slots-rise = λ c low high. inl (refl, refl);
       prepared-sent = λ id timestamp digest e. let z : _≡_ {A = ℕ} 0 1 = cc in absurd (omega arith);
       prepared-asked = λ id timestamp digest e. let z : _≡_ {A = ℕ} 0 1 = cc in absurd (omega arith);
@@ -173,10 +181,11 @@ card-facts before verdicts client nonce fits message-fits passed =
 
 -- ---- WRITE
 
--- What is held after a WRITE: at least its timestamp, and nothing earlier than before.
+-- What is held after a WRITE: at least its timestamp, nothing earlier than before, and its own signers if it is stored.
 record Stored (before : Held) (timestamp : ℕ) (after : Held) : Type 0 where
   holds : timestamp ≤ heldTimestamp after
   rises : heldTimestamp before ≤ heldTimestamp after
+  signers-held : SignersHeld before → SignersHeld after
   fits : HeldFits after
 
 module _ (before : Replica) (verdicts : List ℕ) (client : ClientId) (card : List ℕ) (proof : PreparedProof) (fits : ReplicaFits before)
@@ -193,6 +202,7 @@ module _ (before : Replica) (verdicts : List ℕ) (client : ClientId) (card : Li
         legal = written-legal (before .id) (proof .timestamp) (fits .id-fits) (message-fits .2 .0);
         passed = passed;
         held-rises = stored .rises;
+        signers-held = stored .signers-held;
         slots-rise = λ c low high. inl (refl, refl);
         prepared-sent = λ id timestamp digest e. let z : _≡_ {A = ℕ} 0 1 = cc in absurd (omega arith);
         prepared-asked = λ id timestamp digest e. let z : _≡_ {A = ℕ} 0 1 = cc in absurd (omega arith);
@@ -214,16 +224,24 @@ module _ (before : Replica) (verdicts : List ℕ) (client : ClientId) (card : Li
         entries-fit = entries-filled (proof .entries) (message-fits .2 .2 .1);
       }
 
+  -- 9 leaves it q entries, which have room.
+  holding-signers : 1 ≤ proof .timestamp → SignersHeld (holding card proof)
+  unfolding Fits shaped
+  holding-signers issued =
+      let shape = and-true-both (eqb (length (proof .entries)) (quorumSize (before .f))) (rising 0 (replicaCount (before .f)) (signers (proof .entries))) (passed .prepared-shaped) in
+      let few = eqb-true (length (proof .entries)) (quorumSize (before .f)) (shape .0) in
+      rw (ne-eqb (number (ofNumber (proof .timestamp))) 0 (omega arith), entries-kept (proof .entries) (message-fits .2 .2 .1) (omega arith)) refl
+
   stored : Stored (before .register .held) (proof .timestamp) (afterWrite card proof (before .register .held))
   unfolding afterWrite
   stored =
       by-test (Stored (before .register .held) (proof .timestamp))
       (λ larger.
       let l = ltb-true (heldTimestamp (before .register .held)) (proof .timestamp) larger in
-      record { holds = omega arith; rises = omega arith; fits = holding-fits })
+      record { holds = omega arith; rises = omega arith; signers-held = λ was. holding-signers (omega arith); fits = holding-fits })
       (λ other.
       let l = ltb-false (heldTimestamp (before .register .held)) (proof .timestamp) other in
-      record { holds = l; rises = omega arith; fits = fits .held-fits })
+      record { holds = l; rises = omega arith; signers-held = λ was. was; fits = fits .held-fits })
 
   write-facts : Accepts (ReplicaFacts before verdicts (WRITE client card proof)) (onWrite before card proof)
   write-facts = by-guard 14 (λ stands. by-value (wrote (afterWrite card proof (before .register .held)) stored))
@@ -375,6 +393,7 @@ module _ (before : Replica) (verdicts : List ℕ) (client : ClientId) (timestamp
         legal = prepared-legal (before .id) timestamp digest (fits .id-fits) (message-fits .1) (message-fits .2);
         passed = passed;
         held-rises = omega arith;
+        signers-held = λ was. was;
         slots-rise = rise;
         prepared-sent = λ id t d e.
             let same-t : t ≡ timestamp = cc in
