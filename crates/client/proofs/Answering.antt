@@ -13,6 +13,7 @@ use Rattle.base.specs.Timestamp.{successor, successorOf}
 use Rattle.base.specs.declared.party.ClientId.{ClientId}
 use Rattle.base.specs.declared.timestamp.Successor.{Successor}
 use Rattle.base.specs.declared.timestamp.Successor.the-variants.{Next, Missing}
+use Rattle.base.specs.declared.replica_set.ReplicaSet.{ReplicaSet}
 use Rattle.base.specs.declared.timestamp.Timestamp.{Timestamp}
 use Rattle.base.proofs.Outcome.{guard-passes}
 use Rattle.wire.specs.Message.{Message, longest}
@@ -30,8 +31,8 @@ module _ (stepped : Stepped) (old : List ℕ) (next : Client) where
   pub plain-call : (answer : ClientAnswer) → stepped ≡ plain answer next → callOf stepped old ≡ call answer [] next old
   plain-call answer e = ap (λ (s : Stepped). callOf s old) e
 
-  pub done-call : (timestamp : Timestamp) (card : List ℕ) → stepped ≡ doneWith timestamp card next → callOf stepped old ≡ call (Done timestamp) card next old
-  done-call timestamp card e = ap (λ (s : Stepped). callOf s old) e
+  pub done-call : (timestamp : Timestamp) (card : List ℕ) (signers : ReplicaSet) → stepped ≡ doneWith timestamp card signers next → callOf stepped old ≡ call (Done timestamp signers) card next old
+  done-call timestamp card signers e = ap (λ (s : Stepped). callOf s old) e
 
 -- A message written into an output that is long enough.
 module _ (old new : List ℕ) (message : Message) (enough : longest ≤ length old) where

@@ -15,6 +15,7 @@ use Rattle.base.specs.Timestamp.{number}
 use Rattle.base.proofs.Booleans.{and-true-both}
 use Rattle.base.proofs.Range.{bounds}
 use Rattle.base.proofs.Same.{same-equal}
+use Rattle.base.specs.declared.replica_set.ReplicaSet.{ReplicaSet}
 use Rattle.wire.specs.Acceptance.{acceptance}
 use Rattle.wire.specs.Card.{isCard}
 use Rattle.wire.specs.Parts.{partAt, cardAt, preparedPart, WholeIfThere}
@@ -40,14 +41,14 @@ standing-short card none e = rw (same-equal card startCard e) (omega arith)
 standing-short card (some proof) e = card-short card (and-true-both (isCard card) (same (sha256 card) (proof .digest)) e .0)
 
 -- The step is what follows for the message that was let through.
-pub passed-step : (role : Role) (client : Client) (bytes verdicts : List ℕ) (fields : Fields) → acceptance AtClient (client .f) bytes verdicts ≡ accepted fields
+pub passed-step : (role : Role) (client : Client) (bytes verdicts : List ℕ) (fields : Fields) (signers : ReplicaSet) → acceptance AtClient (client .f) bytes verdicts ≡ accepted (fields, signers)
     → roleStep role client bytes verdicts ≡ afterTests role client bytes
 unfolding afterTests clientStep viewerStep
-passed-step Ordinary client bytes verdicts fields e =
-    let found = acceptance-accepted AtClient (client .f) bytes verdicts fields e in
+passed-step Ordinary client bytes verdicts fields signers e =
+    let found = acceptance-accepted AtClient (client .f) bytes verdicts fields signers e in
     rw (admitted-passed AtClient (client .f) bytes verdicts (found .0) (found .1) .decodes, found .1)
-passed-step Viewing client bytes verdicts fields e =
-    let found = acceptance-accepted AtClient (client .f) bytes verdicts fields e in
+passed-step Viewing client bytes verdicts fields signers e =
+    let found = acceptance-accepted AtClient (client .f) bytes verdicts fields signers e in
     rw (admitted-passed AtClient (client .f) bytes verdicts (found .0) (found .1) .decodes, found .1)
 
 pub step-refused : (role : Role) (client : Client) (bytes verdicts : List ℕ) (n : ℕ) → acceptance AtClient (client .f) bytes verdicts ≡ refused n → roleStep role client bytes verdicts ≡ refused n

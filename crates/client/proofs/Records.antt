@@ -39,8 +39,8 @@ unfolding digestOf
 short-digest message h = rw (le-leb (length message) longestInput (omega arith))
 
 -- The proof that the client builds, as a writer takes it.
-pub kept-built : (client : Client) (counted : ReplicaSet) → length (client .signatures) ≡ 1_024 → (count : ℕ) (array : List ℕ)
-    → Keeps (built client counted (client .signatures)) count array → entriesKept array count ≡ built client counted (client .signatures)
-kept-built client counted long count array k =
+pub kept-built : (client : Client) (counted : ReplicaSet) → length (client .signatures) ≡ 1_024 → (count : ℕ) (set : ReplicaSet) (array : List ℕ)
+    → Keeps (built client counted (client .signatures)) count set array → entriesKept array count ≡ built client counted (client .signatures)
+kept-built client counted long count set array k =
     let n = replicaCount (client .f) in
-    kept (built client counted (client .signatures)) count array (built-sized counted (client .signatures) long n (omega arith)) (rw length-take (omega arith)) k
+    kept (built client counted (client .signatures)) count set array (built-sized counted (client .signatures) long n (omega arith)) (rw length-take (omega arith)) k

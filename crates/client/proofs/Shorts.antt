@@ -31,7 +31,7 @@ pub data Short : Outcome Turn → Type 0 where
   refuses : {number : ℕ} → Short (refused number)
   sends : {message : Message} {next : Client} → Short (accepted (record { answer = send message; next = next }))
   waiting : {next : Client} → Short (accepted (record { answer = waits; next = next }))
-  finishes : {timestamp : Timestamp} {card : List ℕ} {next : Client} → length card ≤ 17 → Short (accepted (record { answer = done timestamp card; next = next }))
+  finishes : {timestamp : Timestamp} {card : List ℕ} {signers : ReplicaSet} {next : Client} → length card ≤ 17 → Short (accepted (record { answer = done timestamp card signers; next = next }))
   ends : {next : Client} → Short (accepted (record { answer = ended; next = next }))
 
 short-guard : (number : ℕ) (test : Bool) (next : Outcome Turn) → Short next → Short (guard number test next)

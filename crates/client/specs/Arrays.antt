@@ -9,7 +9,7 @@ use Rattle.base.specs.Bytes.{filled}
 use Rattle.base.specs.ReplicaSet.{has}
 use Rattle.base.specs.declared.party.ReplicaId.{ReplicaId}
 use Rattle.base.specs.declared.replica_set.ReplicaSet.{ReplicaSet}
-use Rattle.wire.specs.Proof.{Entry, entriesBytes}
+use Rattle.wire.specs.Proof.{Entry, signerSet, entriesBytes}
 use Rattle.protocol.specs.Client.{signatureAt}
 
 -- An entry more, at the place behind so many: signer and signature.
@@ -24,7 +24,8 @@ pub record Added (counted : ReplicaSet) (id : ReplicaId) (signatures : List ℕ)
   pub next-is : next ≡ cond (taken counted id count) (count + 1) count
   pub holds : new ≡ cond (taken counted id count) (take (65 * count) old ++ (entryOf id signatures ++ drop (65 * count + 65) old)) old
 
--- Entries in an array, and how many they are.
-pub record Keeps (entries : List Entry) (count : ℕ) (array : List ℕ) : Type 0 where
+-- Entries in an array, how many they are, and who signed them.
+pub record Keeps (entries : List Entry) (count : ℕ) (set : ReplicaSet) (array : List ℕ) : Type 0 where
   pub many : count ≡ length entries
+  pub who : set ≡ signerSet entries
   pub holds : array ≡ filled 715 (entriesBytes entries)

@@ -7,6 +7,7 @@ use Rattle.base.specs.Bytes.{filled}
 use Rattle.base.specs.Outcome.{Outcome}
 use Rattle.base.specs.declared.party.Setup.{Setup}
 use Rattle.base.specs.declared.party.Setup.the-variants.{Good, Refused as NotSetUp}
+use Rattle.base.specs.declared.replica_set.ReplicaSet.{ReplicaSet}
 use Rattle.base.specs.declared.timestamp.Timestamp.{Timestamp}
 use Rattle.wire.specs.declared.writer.Encoded.{Encoded}
 use Rattle.wire.specs.declared.writer.Encoded.the-variants.{Length as Wrote, Refused as Unwritten}
@@ -25,8 +26,8 @@ callOf stepped output =
 abbrev pub plain : ClientAnswer → Client → Stepped
 plain answer client = record { answer = answer; «card_length» = 0; card = replicate 17 0; client = client }
 
-abbrev pub doneWith : Timestamp → List ℕ → Client → Stepped
-doneWith timestamp card client = record { answer = Done timestamp; «card_length» = length card; card = filled 17 card; client = client }
+abbrev pub doneWith : Timestamp → List ℕ → ReplicaSet → Client → Stepped
+doneWith timestamp card signers client = record { answer = Done timestamp signers; «card_length» = length card; card = filled 17 card; client = client }
 
 abbrev pub sentAs : Encoded → Client → Stepped
 sentAs (Wrote n) client = plain (Send n) client

@@ -3,9 +3,11 @@ use mathlib.Core.Path.{_≡_}
 use mathlib.Core.List.{List}
 use Prim.Native.Nat.{ℕ}
 use Rattle.base.specs.Outcome.{Outcome, accepted, _>>=_}
+use Rattle.base.specs.declared.replica_set.ReplicaSet.{ReplicaSet}
 use Rattle.wire.specs.Acceptance.{acceptance}
 use Rattle.wire.specs.Decode.{decode}
 use Rattle.wire.specs.Layout.{signature}
+use Rattle.wire.specs.Parts.{partAt, preparedPart, preparedSigners}
 use Rattle.wire.specs.declared.message.Fields.{Fields}
 use Rattle.wire.specs.declared.message.Party.the-variants.{Client as AtClient}
 use Rattle.protocol.specs.Client.{Turn, onReply}
@@ -22,4 +24,9 @@ afterTests Viewing client bytes = decode AtClient bytes >>= onViewerReply client
 -- A message that tests 2 to 11 let through at a client with this f, with some verdicts.
 pub record Passing (f : ℕ) (bytes : List ℕ) (fields : Fields) : Type 0 where
   pub verdicts : List ℕ
-  pub passes : acceptance AtClient f bytes verdicts ≡ accepted fields
+  pub signers : ReplicaSet
+  pub passes : acceptance AtClient f bytes verdicts ≡ accepted (fields, signers)
+
+-- These signed its prepared proof; nobody if there is none.
+abbrev pub SignedBy : List ℕ → Fields → ReplicaSet → Type 0
+SignedBy bytes fields signers = signers ≡ preparedSigners (preparedPart (partAt bytes (fields .prepared)))

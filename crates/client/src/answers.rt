@@ -55,15 +55,16 @@ fn kept(card_length: u8) -> u8
     }
 }
 
-// Done with the card that the record holds, which is then idle.
+// Done with the card and the signers that the record holds, which is then idle.
 pub(super) fn done(timestamp: Timestamp, client: Client) -> Stepped
-    ensures { λ r. ⌜ r ≡ doneWith timestamp (currentCard client) (withPhase Phase.Idle client) ⌝ }
+    ensures { λ r. ⌜ r ≡ doneWith timestamp (currentCard client) (client .signers) (withPhase Phase.Idle client) ⌝ }
 {
     let card = client.card;
+    let signers = client.signers;
     let length = kept(client.card_length);
     let end = length as usize;
     Stepped {
-        answer: ClientAnswer::Done(timestamp),
+        answer: ClientAnswer::Done(timestamp, signers),
         card_length: length,
         card: card_array(&card[..end]),
         client: with_phase(client, Phase::Idle),

@@ -17,6 +17,7 @@ use base::party::Setup;
 use base::refusal::BAD_CARD;
 use base::refusal::BUSY;
 use base::refusal::OUTPUT_TOO_SHORT;
+use base::replica_set::ReplicaSet;
 use base::timestamp::Timestamp;
 use protocol::client::Client;
 use protocol::client::ClientAnswer;
@@ -61,6 +62,7 @@ fn idle(f: u8, id: ClientId, last_nonce: u64) -> Client
         card_length: 0,
         card: [0; CARD_ROOM],
         digest: [0; DIGEST],
+        signers: ReplicaSet::empty(),
         entry_count: 0,
         entries: [0; ENTRIES_ROOM],
         signatures: [0; SIGNATURES_ROOM],

@@ -11,11 +11,12 @@ use base::party::ReplicaId;
 use base::refusal::BAD_CARD;
 use base::refusal::NOT_AWAITED;
 use base::refusal::OUTPUT_TOO_SHORT;
+use base::replica_set::ReplicaSet;
 use protocol::client::Client;
+use wire::acceptance::Accepting;
 use wire::layout::LONGEST_MESSAGE;
 use wire::message::Fields;
 use wire::message::Party;
-use wire::message::Reading;
 use wire::parts;
 use wire::parts::part;
 ghost use mathlib.Core.Path.{_≡_};
@@ -26,12 +27,18 @@ ghost use Rattle.wire.specs.Message.{longest};
 ghost use Rattle.protocol.specs.Client.{clientAnswers};
 ghost use Rattle.protocol.specs.Replica.{withOutput};
 ghost use Rattle.client.specs.Roles.{roleStep, roleCall};
-ghost use Rattle.client.specs.Messages.{Passing, afterTests};
+ghost use Rattle.client.specs.Messages.{Passing, SignedBy, afterTests};
 ghost use Rattle.client.specs.Leaving.{callOf};
 ghost use Rattle.client.specs.Stepping.{Calls};
 
-fn take_stamp(client: Client, message: &[u8], fields: Fields, out: &mut [u8]) -> Stepped
-    requires { ⌜ (longest ≤ length (now out)) × Passing (client .f) (now message) fields × (fields .kind ≡ 5) ⌝ }
+fn take_stamp(
+    client: Client,
+    message: &[u8],
+    fields: Fields,
+    signers: ReplicaSet,
+    out: &mut [u8],
+) -> Stepped
+    requires { ⌜ (longest ≤ length (now out)) × Passing (client .f) (now message) fields × SignedBy (now message) fields signers × (fields .kind ≡ 5) ⌝ }
     ensures { λ r. ⌜ callOf r (now (out .exit)) ≡ clientAnswers client (now (out .entry)) (afterTests Role.Ordinary client (now (message .entry))) ⌝ }
 {
     let proof_at = fields.prepared;
@@ -42,6 +49,7 @@ fn take_stamp(client: Client, message: &[u8], fields: Fields, out: &mut [u8]) ->
         sender,
         fields.nonce,
         part(message, proof_at),
+        signers,
         addressed,
         out,
     )
@@ -75,8 +83,15 @@ fn take_written(client: Client, message: &[u8], fields: Fields) -> Stepped
     on_written(client, sender, timestamp, part(message, signature_at))
 }
 
-fn take_card(client: Client, message: &[u8], fields: Fields, role: Role, out: &mut [u8]) -> Stepped
-    requires { ⌜ (longest ≤ length (now out)) × Passing (client .f) (now message) fields × (fields .kind ≡ 8) ⌝ }
+fn take_card(
+    client: Client,
+    message: &[u8],
+    fields: Fields,
+    signers: ReplicaSet,
+    role: Role,
+    out: &mut [u8],
+) -> Stepped
+    requires { ⌜ (longest ≤ length (now out)) × Passing (client .f) (now message) fields × SignedBy (now message) fields signers × (fields .kind ≡ 8) ⌝ }
     ensures { λ r. ⌜ callOf r (now (out .exit)) ≡ clientAnswers client (now (out .entry)) (afterTests role client (now (message .entry))) ⌝ }
 {
     let card_at = fields.card;
@@ -94,6 +109,7 @@ fn take_card(client: Client, message: &[u8], fields: Fields, role: Role, out: &m
         fields.nonce,
         card,
         proof,
+        signers,
         addressed,
         role,
         out,
@@ -101,38 +117,57 @@ fn take_card(client: Client, message: &[u8], fields: Fields, role: Role, out: &m
 }
 
 // At an ordinary client.
-fn take_reply(client: Client, message: &[u8], fields: Fields, out: &mut [u8]) -> Stepped
-    requires { ⌜ (longest ≤ length (now out)) × Passing (client .f) (now message) fields ⌝ }
+fn take_reply(
+    client: Client,
+    message: &[u8],
+    fields: Fields,
+    signers: ReplicaSet,
+    out: &mut [u8],
+) -> Stepped
+    requires { ⌜ (longest ≤ length (now out)) × Passing (client .f) (now message) fields × SignedBy (now message) fields signers ⌝ }
     ensures { λ r. ⌜ callOf r (now (out .exit)) ≡ clientAnswers client (now (out .entry)) (afterTests Role.Ordinary client (now (message .entry))) ⌝ }
 {
     let kind = fields.kind;
     match kind {
-        5 => take_stamp(client, message, fields, out),
+        5 => take_stamp(client, message, fields, signers, out),
         6 => take_prepared(client, message, fields, out),
         7 => take_written(client, message, fields),
-        _ => take_card(client, message, fields, Role::Ordinary, out),
+        _ => take_card(client, message, fields, signers, Role::Ordinary, out),
     }
 }
 
 // At a viewing client, which awaits CARDs alone.
-fn take_view(client: Client, message: &[u8], fields: Fields, out: &mut [u8]) -> Stepped
-    requires { ⌜ (longest ≤ length (now out)) × Passing (client .f) (now message) fields ⌝ }
+fn take_view(
+    client: Client,
+    message: &[u8],
+    fields: Fields,
+    signers: ReplicaSet,
+    out: &mut [u8],
+) -> Stepped
+    requires { ⌜ (longest ≤ length (now out)) × Passing (client .f) (now message) fields × SignedBy (now message) fields signers ⌝ }
     ensures { λ r. ⌜ callOf r (now (out .exit)) ≡ clientAnswers client (now (out .entry)) (afterTests Role.Viewing client (now (message .entry))) ⌝ }
 {
     let kind = fields.kind;
     if kind != 8 {
         return refused(NOT_AWAITED, client);
     }
-    take_card(client, message, fields, Role::Viewing, out)
+    take_card(client, message, fields, signers, Role::Viewing, out)
 }
 
-fn take(client: Client, message: &[u8], fields: Fields, role: Role, out: &mut [u8]) -> Stepped
-    requires { ⌜ (longest ≤ length (now out)) × Passing (client .f) (now message) fields ⌝ }
+fn take(
+    client: Client,
+    message: &[u8],
+    fields: Fields,
+    signers: ReplicaSet,
+    role: Role,
+    out: &mut [u8],
+) -> Stepped
+    requires { ⌜ (longest ≤ length (now out)) × Passing (client .f) (now message) fields × SignedBy (now message) fields signers ⌝ }
     ensures { λ r. ⌜ callOf r (now (out .exit)) ≡ clientAnswers client (now (out .entry)) (afterTests role client (now (message .entry))) ⌝ }
 {
     match role {
-        Role::Ordinary => take_reply(client, message, fields, out),
-        Role::Viewing => take_view(client, message, fields, out),
+        Role::Ordinary => take_reply(client, message, fields, signers, out),
+        Role::Viewing => take_view(client, message, fields, signers, out),
     }
 }
 
@@ -151,7 +186,7 @@ pub(super) fn hear(
         return refused(OUTPUT_TOO_SHORT, client);
     }
     match wire::acceptance::accept(Party::Client, client.f, message, verdicts) {
-        Reading::Message(fields) => take(client, message, fields, role, out),
-        Reading::Refused(number) => refused(number, client),
+        Accepting::Message(fields, signers) => { take(client, message, fields, signers, role, out) }
+        Accepting::Refused(number) => refused(number, client),
     }
 }

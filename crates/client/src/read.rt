@@ -22,7 +22,7 @@ ghost use mathlib.Core.Path.{_≡_};
 ghost use Prim.Native.Nat.{_≤_};
 ghost use lib.ListN.{length};
 ghost use Rattle.wire.specs.Message.{longest, WRITE};
-ghost use Rattle.wire.specs.Parts.{preparedPart, WholeIfThere};
+ghost use Rattle.wire.specs.Parts.{preparedPart, preparedSigners, WholeIfThere};
 ghost use Rattle.protocol.specs.Client.{clientAnswers, currentCard, bestProof, withPhase, turn, send, afterCard, countCard, onCard, afterWriteBack};
 ghost use Rattle.client.specs.Roles.{afterCards};
 ghost use Rattle.client.specs.Leaving.{callOf, Takes, TakesAny};
@@ -93,11 +93,12 @@ pub(super) fn on_card<'a>(
     nonce: u64,
     card: &'a [u8],
     proof: &'a [u8],
+    signers: ReplicaSet,
     addressed: ClientId,
     role: Role,
     out: &mut [u8],
 ) -> Stepped
-    requires { ⌜ (longest ≤ length (now out)) × WholeIfThere (now proof) × (length (now card) ≤ 17) ⌝ }
+    requires { ⌜ (longest ≤ length (now out)) × WholeIfThere (now proof) × (signers ≡ preparedSigners (preparedPart (now proof))) × (length (now card) ≤ 17) ⌝ }
     ensures { λ r. ⌜ callOf r (now (out .exit)) ≡ clientAnswers client (now (out .entry)) (onCard (afterCards role) client sender nonce (now (card .entry)) (preparedPart (now (proof .entry))) addressed (client .phase)) ⌝ }
 {
     let phase = client.phase;
@@ -110,7 +111,7 @@ pub(super) fn on_card<'a>(
     }
     let later = best_of(best, proof);
     let shown = showed_by(best, proof, sender, showed);
-    let kept = keep_better_card(client, best, card, proof);
+    let kept = keep_better_card(client, best, card, proof, signers);
     count_card(kept, asked, later, counted.with(sender), shown, role, out)
 }
 

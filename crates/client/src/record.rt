@@ -13,10 +13,10 @@ use wire::layout::SIGNATURES_ROOM;
 use wire::parts;
 ghost use mathlib.Core.Path.{_≡_};
 ghost use Prim.Native.Nat.{_≤_};
-ghost use lib.ListN.{length};
+ghost use lib.ListN.{length, replicate};
 ghost use Rattle.wire.specs.Parts.{Whole};
-ghost use Rattle.wire.specs.Proof.{preparedFrom};
-ghost use Rattle.protocol.specs.Client.{withPhase, beginning, withProof, withCard, withDigest, withSignatures, withLastWritten, built};
+ghost use Rattle.wire.specs.Proof.{preparedFrom, signerSet};
+ghost use Rattle.protocol.specs.Client.{withPhase, beginning, withProof, withCard, withDigest, withSignatures, withSigners, withLastWritten, built};
 ghost use Rattle.client.specs.Arrays.{Keeps};
 
 // The record anew: a field that is an enum is not stored to.
@@ -26,6 +26,7 @@ pub(super) fn with_phase(client: Client, phase: Phase) -> Client
     let id = client.id;
     let card = client.card;
     let digest = client.digest;
+    let signers = client.signers;
     let entries = client.entries;
     let signatures = client.signatures;
     let written = client.written;
@@ -38,6 +39,7 @@ pub(super) fn with_phase(client: Client, phase: Phase) -> Client
         card_length: client.card_length,
         card: card,
         digest: digest,
+        signers: signers,
         entry_count: client.entry_count,
         entries: entries,
         signatures: signatures,
@@ -63,6 +65,7 @@ pub(super) fn beginning(client: Client, nonce: u64, phase: Phase, card: &[u8]) -
         card_length: card.len() as u8,
         card: card_array(card),
         digest: [0; DIGEST],
+        signers: ReplicaSet::empty(),
         entry_count: 0,
         entries: [0; ENTRIES_ROOM],
         signatures: [0; SIGNATURES_ROOM],
@@ -72,15 +75,16 @@ pub(super) fn beginning(client: Client, nonce: u64, phase: Phase, card: &[u8]) -
     }
 }
 
-// The prepared proof of the bytes, in place of the one that was kept.
-pub(super) fn with_proof(client: Client, proof: &[u8]) -> Client
-    requires { ⌜ Whole (now proof) ⌝ }
+// The prepared proof of the bytes, with its signers, in place of the one that was kept.
+pub(super) fn with_proof(client: Client, proof: &[u8], signers: ReplicaSet) -> Client
+    requires { ⌜ Whole (now proof) × (signers ≡ signerSet (preparedFrom (now proof) .entries)) ⌝ }
     ensures { λ r. ⌜ r ≡ withProof (preparedFrom (now (proof .entry))) client ⌝ }
 {
     let digest = digest_array(parts::digest(proof));
     let entries = entries_array(parts::entries(proof));
     let mut next = client;
     next.digest = digest;
+    next.signers = signers;
     next.entry_count = parts::entry_count(proof);
     next.entries = entries;
     next
@@ -103,6 +107,7 @@ pub(super) fn with_digest(client: Client, digest: [u8; DIGEST]) -> Client
 {
     let mut next = client;
     next.digest = digest;
+    next.signers = ReplicaSet::empty();
     next.entry_count = 0;
     next.entries = [0; ENTRIES_ROOM];
     next
@@ -116,9 +121,19 @@ pub(super) fn with_signatures(client: Client, signatures: [u8; SIGNATURES_ROOM])
     next
 }
 
+// The proof is built, and its signers are kept in place of the signatures.
+pub(super) fn with_signers(client: Client, signers: ReplicaSet) -> Client
+    ensures { λ r. ⌜ r ≡ withSigners signers (withSignatures (replicate 1024 0) client) ⌝ }
+{
+    let mut next = client;
+    next.signatures = [0; SIGNATURES_ROOM];
+    next.signers = signers;
+    next
+}
+
 // The counted replicas and their signatures as a proof's entries.
 pub(super) fn built(client: Client, counted: ReplicaSet) -> Built
-    ensures { λ r. ⌜ Keeps (built client counted (client .signatures)) (r .count) (r .entries) ⌝ }
+    ensures { λ r. ⌜ Keeps (built client counted (client .signatures)) (r .count) (r .signers) (r .entries) ⌝ }
 {
     let signatures = client.signatures;
     crate::signatures::gather(base::party::replica_count(client.f), counted, &signatures)

@@ -20,7 +20,7 @@ ghost use Rattle.base.specs.Same.{same};
 ghost use Rattle.base.specs.Timestamp.{number};
 ghost use Rattle.protocol.specs.Client.{isBetter, bestOf, keepBetter, keepBetterCard, showedBy, isNew};
 ghost use Rattle.protocol.specs.Parts.{cardStands, startCard};
-ghost use Rattle.wire.specs.Parts.{preparedPart, WholeIfThere};
+ghost use Rattle.wire.specs.Parts.{preparedPart, preparedSigners, WholeIfThere};
 
 // Whether no reply of this replica was taken yet.
 fn is_new(counted: ReplicaSet, sender: ReplicaId) -> bool
@@ -66,15 +66,20 @@ pub(super) fn best_of(best: Timestamp, proof: &[u8]) -> Timestamp
     if best.is_before(shown) { shown } else { best }
 }
 
-// A better reply's proof is kept.
-pub(super) fn keep_better(client: Client, best: Timestamp, proof: &[u8]) -> Client
-    requires { ⌜ WholeIfThere (now proof) ⌝ }
+// A better reply's proof is kept, with its signers.
+pub(super) fn keep_better(
+    client: Client,
+    best: Timestamp,
+    proof: &[u8],
+    signers: ReplicaSet,
+) -> Client
+    requires { ⌜ WholeIfThere (now proof) × (signers ≡ preparedSigners (preparedPart (now proof))) ⌝ }
     ensures { λ r. ⌜ r ≡ keepBetter best (preparedPart (now (proof .entry))) client ⌝ }
 {
     if !is_better(best, proof) {
         return client;
     }
-    with_proof(client, proof)
+    with_proof(client, proof, signers)
 }
 
 pub(super) fn keep_better_card<'a>(
@@ -82,14 +87,15 @@ pub(super) fn keep_better_card<'a>(
     best: Timestamp,
     card: &'a [u8],
     proof: &'a [u8],
+    signers: ReplicaSet,
 ) -> Client
-    requires { ⌜ WholeIfThere (now proof) × (length (now card) ≤ 17) ⌝ }
+    requires { ⌜ WholeIfThere (now proof) × (signers ≡ preparedSigners (preparedPart (now proof))) × (length (now card) ≤ 17) ⌝ }
     ensures { λ r. ⌜ r ≡ keepBetterCard best (now (card .entry)) (preparedPart (now (proof .entry))) client ⌝ }
 {
     if !is_better(best, proof) {
         return client;
     }
-    with_card(with_proof(client, proof), card)
+    with_card(with_proof(client, proof, signers), card)
 }
 
 // The replicas that showed the largest timestamp.

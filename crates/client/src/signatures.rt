@@ -8,14 +8,17 @@ use wire::layout::MOST_ENTRIES;
 use wire::layout::SIGNATURE;
 use wire::layout::SIGNATURES_ROOM;
 ghost use mathlib.Core.Path.{_≡_};
+ghost use mathlib.Core.Bool.{cond};
 ghost use Prim.Native.Nat.{_≤_};
 ghost use lib.ListN.{length, take};
+ghost use Rattle.base.specs.ReplicaSet.{with};
 ghost use Rattle.protocol.specs.Client.{withSignature, gathered};
-ghost use Rattle.client.specs.Arrays.{Added, Keeps};
+ghost use Rattle.client.specs.Arrays.{taken, Added, Keeps};
 
-// Entries in an array, and how many they are.
+// Entries in an array, how many they are, and who signed them.
 pub struct Built {
     pub count: u8,
+    pub signers: ReplicaSet,
     pub entries: [u8; ENTRIES_ROOM],
 }
 
@@ -34,6 +37,16 @@ pub(super) fn with_signature(
     array
 }
 
+// Whether a replica is counted, and there is room for it behind so many entries.
+fn is_taken(counted: ReplicaSet, id: ReplicaId, count: u8) -> bool
+    ensures { λ r. ⌜ r ≡ taken counted id count ⌝ }
+{
+    if !counted.has(id) {
+        return false;
+    }
+    count < MOST_ENTRIES
+}
+
 // One replica more, if it is counted and there is room.
 fn add_entry(
     entries: &mut [u8],
@@ -45,10 +58,7 @@ fn add_entry(
     requires { ⌜ (1 ≤ id .0) × (id .0 ≤ 16) × (length (now entries) ≡ 715) × (length (now signatures) ≡ 1024) ⌝ }
     ensures { λ r. ⌜ Added counted id (now (signatures .entry)) count (now (entries .entry)) r (now (entries .exit)) ⌝ }
 {
-    if !counted.has(id) {
-        return count;
-    }
-    if MOST_ENTRIES <= count {
+    if !is_taken(counted, id, count) {
         return count;
     }
     let at = ENTRY * count as usize;
@@ -59,20 +69,33 @@ fn add_entry(
     count + 1
 }
 
+// The same of the signers.
+fn add_signer(signers: ReplicaSet, count: u8, counted: ReplicaSet, id: ReplicaId) -> ReplicaSet
+    ensures { λ r. ⌜ r ≡ cond (taken counted id count) (with signers id) signers ⌝ }
+{
+    if !is_taken(counted, id, count) {
+        return signers;
+    }
+    signers.with(id)
+}
+
 // The counted replicas among 1 to n, in rising order.
 pub(super) fn gather(n: u8, counted: ReplicaSet, signatures: &[u8; SIGNATURES_ROOM]) -> Built
     requires { ⌜ n ≤ 16 ⌝ }
-    ensures { λ r. ⌜ Keeps (take 11 (gathered n counted (now (signatures .entry)))) (r .count) (r .entries) ⌝ }
+    ensures { λ r. ⌜ Keeps (take 11 (gathered n counted (now (signatures .entry)))) (r .count) (r .signers) (r .entries) ⌝ }
 {
     let mut entries = [0u8; ENTRIES_ROOM];
     let mut count: u8 = 0;
+    let mut signers = ReplicaSet::empty();
     let mut id: u8 = 0;
     while id < n {
         id += 1;
+        signers = add_signer(signers, count, counted, ReplicaId(id));
         count = add_entry(&mut entries, count, counted, ReplicaId(id), signatures);
     }
     Built {
         count: count,
+        signers: signers,
         entries: entries,
     }
 }

@@ -10,6 +10,7 @@ use crate::record::with_digest;
 use crate::record::with_last_written;
 use crate::record::with_phase;
 use crate::record::with_signatures;
+use crate::record::with_signers;
 use crate::replies::best_of;
 use crate::replies::is_awaited;
 use crate::replies::is_awaited_prepared;
@@ -24,14 +25,13 @@ use base::timestamp::Timestamp;
 use protocol::client::Client;
 use protocol::client::ClientAnswer;
 use protocol::client::Phase;
-use wire::layout::SIGNATURES_ROOM;
 ghost use mathlib.Core.Path.{_≡_};
 ghost use Prim.Native.Nat.{_≤_};
 ghost use lib.ListN.{length};
 ghost use Rattle.base.specs.ReplicaSet.{with};
 ghost use Rattle.base.specs.Timestamp.{number, successor};
 ghost use Rattle.wire.specs.Message.{longest};
-ghost use Rattle.wire.specs.Parts.{preparedPart, WholeIfThere};
+ghost use Rattle.wire.specs.Parts.{preparedPart, preparedSigners, WholeIfThere};
 ghost use Rattle.protocol.specs.Client.{clientAnswers, toPrepare, afterStamp, onStamp, afterPrepared, onPrepared, afterWritten, withSignature, withSignatures};
 ghost use Rattle.client.specs.Leaving.{callOf, Takes, TakesAny};
 
@@ -91,10 +91,11 @@ pub(super) fn on_stamp(
     sender: ReplicaId,
     nonce: u64,
     proof: &[u8],
+    signers: ReplicaSet,
     addressed: ClientId,
     out: &mut [u8],
 ) -> Stepped
-    requires { ⌜ (longest ≤ length (now out)) × WholeIfThere (now proof) ⌝ }
+    requires { ⌜ (longest ≤ length (now out)) × WholeIfThere (now proof) × (signers ≡ preparedSigners (preparedPart (now proof))) ⌝ }
     ensures { λ r. ⌜ callOf r (now (out .exit)) ≡ clientAnswers client (now (out .entry)) (onStamp client sender nonce (preparedPart (now (proof .entry))) addressed (client .phase)) ⌝ }
 {
     let phase = client.phase;
@@ -107,7 +108,7 @@ pub(super) fn on_stamp(
     }
     let later = best_of(best, proof);
     after_stamp(
-        keep_better(client, best, proof),
+        keep_better(client, best, proof, signers),
         asked,
         later,
         counted.with(sender),
@@ -133,6 +134,7 @@ fn after_prepared(
     let id = client.id;
     let card = client.card;
     let digest = client.digest;
+    let signers = proof.signers;
     let entries = proof.entries;
     let encoded = wire::writer::write_write(
         out,
@@ -145,10 +147,7 @@ fn after_prepared(
         &entries,
     );
     let waiting = Phase::Writtens(timestamp, ReplicaSet::empty());
-    sent(
-        encoded,
-        with_phase(with_signatures(client, [0; SIGNATURES_ROOM]), waiting),
-    )
+    sent(encoded, with_phase(with_signers(client, signers), waiting))
 }
 
 pub(super) fn on_prepared<'a>(

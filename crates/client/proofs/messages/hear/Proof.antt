@@ -1,6 +1,8 @@
 -- `client::messages::hear` meets its contract. Assumes nothing.
 use mathlib.Core.Path.{sym, ap, _∙_}
-use Rattle.wire.specs.Decode.{readingOutcome}
+use Rattle.wire.specs.Acceptance.{acceptingOutcome}
+use Rattle.wire.specs.declared.message.Party.the-variants.{Client as AtClient}
+use Rattle.wire.proofs.Handed.{signers-are}
 use Rattle.client.specs.Roles.{roleStep}
 use Rattle.client.proofs.Calling.{step-calls, too-short, is-refused, behind-output}
 use Rattle.client.proofs.Parting.{step-refused, passed-step}
@@ -22,9 +24,9 @@ take-requires c κs =
     let bytes = a .message .now in
     let verdicts = a .verdicts .now in
     let old = a .out .now in
-    let passed = sym (c .before .before .before .before .accept .ensures) ∙ ap readingOutcome (c .before .before .fields .given .1) in
+    let passed = sym (c .before .before .before .before .accept .ensures) ∙ ap acceptingOutcome (c .before .before .fields .given .1) in
     let fields = c .before .before .fields .given .0 .0 in
-    (c .before .before .before .before .before .if1 .left, record { verdicts = verdicts; passes = passed })
+    (c .before .before .before .before .before .if1 .left, record { verdicts = verdicts; signers = _; passes = passed }, signers-are AtClient (a .client .f) bytes verdicts fields passed)
 
 returns-2 : tie.Need-returns-2
 returns-2 c =
@@ -32,10 +34,10 @@ returns-2 c =
     let bytes = a .message .now in
     let verdicts = a .verdicts .now in
     let old = a .out .now in
-    let passed = sym (c .before .before .before .before .before .before .before .accept .ensures) ∙ ap readingOutcome (c .before .before .before .before .before .fields .given .1) in
+    let passed = sym (c .before .before .before .before .before .before .before .accept .ensures) ∙ ap acceptingOutcome (c .before .before .before .before .before .fields .given .1) in
     let fields = c .before .before .before .before .before .fields .given .0 .0 in
     let taken = c .before .before .take in
-    step-calls (a .client) old (taken .result) (taken .last .1 .1 .1 .1 .0) (a .role) bytes verdicts (behind-output (a .client) old (taken .result) (taken .last .1 .1 .1 .1 .0) (roleStep (a .role) (a .client) bytes verdicts) _ (c .before .before .before .before .before .before .before .before .if1 .left) (passed-step (a .role) (a .client) bytes verdicts fields passed) (taken .ensures))
+    step-calls (a .client) old (taken .result) (taken .last .1 .1 .1 .1 .1 .0) (a .role) bytes verdicts (behind-output (a .client) old (taken .result) (taken .last .1 .1 .1 .1 .1 .0) (roleStep (a .role) (a .client) bytes verdicts) _ (c .before .before .before .before .before .before .before .before .if1 .left) (passed-step (a .role) (a .client) bytes verdicts fields _ passed) (taken .ensures))
 
 returns-3 : tie.Need-returns-3
 returns-3 c =
@@ -44,7 +46,7 @@ returns-3 c =
     let verdicts = a .verdicts .now in
     let old = a .out .now in
     let number = c .before .before .number .given .0 .0 in
-    let no = sym (c .before .before .before .before .accept .ensures) ∙ ap readingOutcome (c .before .before .number .given .1) in
+    let no = sym (c .before .before .before .before .accept .ensures) ∙ ap acceptingOutcome (c .before .before .number .given .1) in
     step-calls (a .client) old (c .refused2 .result) old (a .role) bytes verdicts (is-refused (a .client) old (c .refused2 .result) (roleStep (a .role) (a .client) bytes verdicts) number (c .before .before .before .before .before .if1 .left) (step-refused (a .role) (a .client) bytes verdicts number no) (c .refused2 .ensures))
 
 pub hear-spec : {M : Type 1} → statement M

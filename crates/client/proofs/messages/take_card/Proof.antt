@@ -35,7 +35,7 @@ returns c =
     let x = c .before .before in
     let s = start (x .before) in
     let a = s .args in
-    rw (card-step (a .client) (a .message .now) (a .fields) (s .pre .1) (a .role) (s .pre .2), guard-refuses 14 _ _ (asked x ∙ not-true _ (c .before .if1 .taken)))
+    rw (card-step (a .client) (a .message .now) (a .fields) (s .pre .1) (a .role) (s .pre .3), guard-refuses 14 _ _ (asked x ∙ not-true _ (c .before .if1 .taken)))
     (plain-call (c .refused .result) (a .out .now) (a .client) (Refused 14) (c .refused .ensures))
 
 on-card-requires : tie.Need-on-card-requires
@@ -44,7 +44,7 @@ on-card-requires c κs =
     let s = start (x .before) in
     let a = s .args in
     let short = standing-short (cardAt (a .message .now) (a .fields .card)) (preparedPart (partAt (a .message .now) (a .fields .prepared))) (asked x ∙ not-false _ (c .before .before .if1 .left)) in
-    (s .pre .0, rw (x .before .part .ensures) (proof-there (a .client) (a .message .now) (a .fields) (s .pre .1)), rw (x .before .before .card .ensures) short)
+    (s .pre .0, rw (x .before .part .ensures) (proof-there (a .client) (a .message .now) (a .fields) (s .pre .1)), rw (x .before .part .ensures) (s .pre .2), rw (x .before .before .card .ensures) short)
 
 returns-2 : tie.Need-returns-2
 returns-2 c =
@@ -55,7 +55,7 @@ returns-2 c =
     let s = start p in
     let a = s .args in
     let fields = a .fields in
-    rw (card-step (a .client) (a .message .now) fields (s .pre .1) (a .role) (s .pre .2), guard-passes 14 _ _ (asked x ∙ not-false _ (e .if1 .left)))
+    rw (card-step (a .client) (a .message .now) fields (s .pre .1) (a .role) (s .pre .3), guard-passes 14 _ _ (asked x ∙ not-false _ (e .if1 .left)))
     (o .on-card .ensures
     ∙ ap₂ (λ (card proof : List ℕ). clientAnswers (a .client) (a .out .now) (onCard (afterCards (a .role)) (a .client) (replica (fields .sender)) (fields .nonce) card (preparedPart proof) (fields .addressed) (a .client .phase))) (p .before .card .ensures) (p .part .ensures))
 

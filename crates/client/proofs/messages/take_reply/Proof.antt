@@ -8,7 +8,7 @@ take-card-requires : tie.Need-take-card-requires
 take-card-requires c κs =
     let s = c .before .before .before .before in
     let rest = c .before .match .rest in
-    (s .pre .0, s .pre .1, last-kind (s .args .client) (s .args .message .now) (s .args .fields) (s .pre .1) (rest .0 .0 .1) (rest .0 .1) (rest .1))
+    (s .pre .0, s .pre .1, s .pre .2, last-kind (s .args .client) (s .args .message .now) (s .args .fields) (s .pre .1) (rest .0 .0 .1) (rest .0 .1) (rest .1))
 
 returns-3 : tie.Need-returns-3
 returns-3 c = c .take-written .ensures (c .before .before .before .before .args .out .now)

@@ -16,7 +16,7 @@ start c = c .before .before .before .before .before
 on-stamp-requires : tie.Need-on-stamp-requires
 on-stamp-requires c κs =
     let s = start (c .before) in
-    (s .pre .0, rw (c .before .part .ensures) (proof-there (s .args .client) (s .args .message .now) (s .args .fields) (s .pre .1)))
+    (s .pre .0, rw (c .before .part .ensures) (proof-there (s .args .client) (s .args .message .now) (s .args .fields) (s .pre .1)), rw (c .before .part .ensures) (s .pre .2))
 
 returns : tie.Need-returns
 returns c =
@@ -26,7 +26,7 @@ returns c =
     let fields = a .fields in
     c .before .before .on-stamp .ensures
     ∙ ap (λ (proof : List ℕ). clientAnswers (a .client) (a .out .now) (onStamp (a .client) (replica (fields .sender)) (fields .nonce) (preparedPart proof) (fields .addressed) (a .client .phase))) (p .part .ensures)
-    ∙ ap (clientAnswers (a .client) (a .out .now)) (sym (stamp-step (a .client) (a .message .now) fields (s .pre .1) (s .pre .2)))
+    ∙ ap (clientAnswers (a .client) (a .out .now)) (sym (stamp-step (a .client) (a .message .now) fields (s .pre .1) (s .pre .3)))
 
 pub take-stamp-spec : {M : Type 1} → statement M
 take-stamp-spec = tie.close (tie.spec (λ c κs. search needs) on-stamp-requires (λ c. search needs) returns)

@@ -11,7 +11,7 @@ returns : tie.Need-returns
 unfolding afterCard
 returns c =
     let a = c .before .before .before .before .args in
-    λ before. rw (sym (c .before .before .is-quorum .ensures) ∙ c .before .if1 .taken) (done-call (c .done .result) (a .out .now) (withPhase Idle (a .client)) (a .best) (currentCard (a .client)) (c .done .ensures))
+    λ before. rw (sym (c .before .before .is-quorum .ensures) ∙ c .before .if1 .taken) (done-call (c .done .result) (a .out .now) (withPhase Idle (a .client)) (a .best) (currentCard (a .client)) (a .client .signers) (c .done .ensures))
 
 returns-2 : tie.Need-returns-2
 unfolding afterCard

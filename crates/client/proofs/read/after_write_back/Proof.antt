@@ -19,7 +19,7 @@ returns-2 : tie.Need-returns-2
 unfolding afterWriteBack
 returns-2 c =
     let a = c .before .before .before .args in
-    λ old before. rw (sym (c .before .before .is-quorum .ensures) ∙ not-false _ (c .before .if1 .left)) (done-call (c .done .result) old (withPhase Idle (a .client)) (a .timestamp) (currentCard (a .client)) (c .done .ensures))
+    λ old before. rw (sym (c .before .before .is-quorum .ensures) ∙ not-false _ (c .before .if1 .left)) (done-call (c .done .result) old (withPhase Idle (a .client)) (a .timestamp) (currentCard (a .client)) (a .client .signers) (c .done .ensures))
 
 pub after-write-back-spec : {M : Type 1} → statement M
 after-write-back-spec =

@@ -28,7 +28,7 @@ returns-3 c =
     let q = c .before .before .before in
     let a = q .before .before .before .args in
     λ before. rw (sym (q .before .is-quorum .ensures) ∙ not-false _ (q .if1 .left), c .before .enum-told2 .given .1)
-    (done-call (c .done .result) (a .out .now) (withPhase Idle (a .client)) (a .best) (currentCard (a .client)) (c .done .ensures))
+    (done-call (c .done .result) (a .out .now) (withPhase Idle (a .client)) (a .best) (currentCard (a .client)) (a .client .signers) (c .done .ensures))
 
 pub count-card-spec : {M : Type 1} → statement M
 count-card-spec =

@@ -3,6 +3,7 @@ use mathlib.Core.Path.{sym, ap, _∙_}
 use borrow.Author.Tests.{not-true, not-false}
 use borrow.Author.Needs.{needs}
 use Rattle.base.specs.Timestamp.{number}
+use Rattle.wire.specs.Parts.{preparedSigners}
 use Rattle.protocol.specs.Client.{withCard}
 use Rattle.client.proofs.ProofPart.{later-there}
 use Rattle.client.proofs.replies.keep_better_card.Statement.{statement}
@@ -14,7 +15,8 @@ returns c = rw (sym (c .before .is-better .ensures) ∙ not-true _ (c .if1 .take
 with-proof-requires : tie.Need-with-proof-requires
 with-proof-requires c κs =
     let s = c .before .before .before .before in
-    later-there (number (s .args .best)) (s .args .proof .now) (s .pre .0) (sym (c .before .is-better .ensures) ∙ not-false _ (c .if1 .left)) .whole
+    let there = later-there (number (s .args .best)) (s .args .proof .now) (s .pre .0) (sym (c .before .is-better .ensures) ∙ not-false _ (c .if1 .left)) in
+    (there .whole, s .pre .1 ∙ ap preparedSigners (there .is))
 
 returns-2 : tie.Need-returns-2
 returns-2 c =

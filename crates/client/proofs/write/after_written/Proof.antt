@@ -20,7 +20,7 @@ unfolding afterWritten
 returns-2 c =
     let a = c .before .before .before .before .args in
     let last = withLastWritten (a .timestamp) (built (a .client) (a .counted) (a .client .signatures)) (a .client) in
-    λ old before. rw (sym (c .before .before .before .is-quorum .ensures) ∙ not-false _ (c .before .before .if1 .left)) (done-call (c .done .result) old (withPhase Idle last) (a .timestamp) (currentCard last) (rw (c .before .with-last-written .ensures) at (c .done .ensures)))
+    λ old before. rw (sym (c .before .before .before .is-quorum .ensures) ∙ not-false _ (c .before .before .if1 .left)) (done-call (c .done .result) old (withPhase Idle last) (a .timestamp) (currentCard last) (last .signers) (rw (c .before .with-last-written .ensures) at (c .done .ensures)))
 
 pub after-written-spec : {M : Type 1} → statement M
 after-written-spec =
