@@ -38,7 +38,7 @@ replica-says before old (refused number) = record { leaves = refl; gives = refl 
 turn-says : (before : Client) (old : List ℕ) (answer : Answer) (next : Client) → ClientSays before old (accepted (record { answer = answer; next = next })) (answered old answer next)
 turn-says before old (send message) next = record { leaves = refl; gives = refl }
 turn-says before old waits next = record { leaves = refl; gives = refl }
-turn-says before old (done timestamp card) next = record { leaves = refl; gives = refl }
+turn-says before old (done timestamp card signers) next = record { leaves = refl; gives = refl }
 turn-says before old ended next = record { leaves = refl; gives = refl }
 
 client-says : (before : Client) (old : List ℕ) (step : Outcome Turn) → ClientSays before old step (clientAnswers before old step)

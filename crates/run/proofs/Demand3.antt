@@ -7,11 +7,14 @@ use mathlib.Core.Option.{some}
 use Prim.Native.Nat.{ℕ, suc, _%_}
 use native.Mathlib.Omega.{arith}
 use Rattle.base.specs.Timestamp.{number}
+use Rattle.base.specs.declared.replica_set.ReplicaSet.{ReplicaSet}
+use Rattle.base.specs.declared.timestamp.Timestamp.{Timestamp}
 use Rattle.protocol.specs.Parts.{startCard}
 use Rattle.run.specs.Claims.{Begins, Finished, Claims}
 use Rattle.run.specs.Premises.{Premises}
 use Rattle.run.specs.Run.{begins-write, Run, event}
 use Rattle.run.specs.Views.{Views}
+use Rattle.run.specs.Vouching.{VouchedFor, Vouching}
 use Rattle.run.proofs.Turns.{apart, same-client}
 use Rattle.run.proofs.Slots.{one-digest}
 use Rattle.run.proofs.Operations.{Shown}
@@ -42,12 +45,23 @@ write-shows R P o card e = go (o .is-write) (o .begins) (finish R P o .own)
     go false b own = apart (cc)
 
 -- What is shown at 0.0 is the starting card, `00 00`: in an operation, and in a view.
-shown-start : (R : Run) (t s : ℕ) (card : List ℕ) → s ≡ 0 → Shown R t s card → card ≡ startCard
-shown-start R t s card e (inl k) = k .1
-shown-start R t s card e (inr v) = let p = v .positive in absurd (omega arith)
+shown-start : (R : Run) (t s : ℕ) (card : List ℕ) (signers : ReplicaSet) → s ≡ 0 → Shown R t s card signers → card ≡ startCard
+shown-start R t s card signers e (inl k) = k .1
+shown-start R t s card signers e (inr v) = let p = v .positive in absurd (omega arith)
 
 pub start-shows : (R : Run) → Premises R → (o : Finished R) → number (o .timestamp) ≡ 0 → o .card ≡ startCard
-start-shows R P o e = shown-start R (suc (o .finished)) (number (o .timestamp)) (o .card) e (finish R P o .is-shown)
+start-shows R P o e = shown-start R (suc (o .finished)) (number (o .timestamp)) (o .card) (o .signers) e (finish R P o .is-shown)
 
 pub views : (R : Run) → Premises R → Views R
-views R P = record { same-card = view-card R P; start-card = λ v e. shown-start R (suc (v .finished)) (number (v .timestamp)) (v .card) e (view R P v .is-shown) }
+views R P = record { same-card = view-card R P; start-card = λ v e. shown-start R (suc (v .finished)) (number (v .timestamp)) (v .card) (v .signers) e (view R P v .is-shown) }
+
+-- Who is shown with a card vouched for it: in an operation, and in a view.
+shown-vouched : (R : Run) (t : ℕ) (timestamp : Timestamp) (card : List ℕ) (signers : ReplicaSet) → Shown R t (number timestamp) card signers → VouchedFor R timestamp card signers t
+shown-vouched R t timestamp card signers (inl k) = inl (k .0, k .2)
+shown-vouched R t timestamp card signers (inr v) = inr (v .backed .exact, v .backed .signed)
+
+pub vouching : (R : Run) → Premises R → Vouching R
+vouching R P = record {
+  operations = λ o. shown-vouched R (suc (o .finished)) (o .timestamp) (o .card) (o .signers) (finish R P o .is-shown);
+  views = λ v. shown-vouched R (suc (v .finished)) (v .timestamp) (v .card) (v .signers) (view R P v .is-shown);
+}

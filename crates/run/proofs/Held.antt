@@ -1,5 +1,5 @@
--- What a replica holds never falls, and its replies show it. Assumes nothing.
-use mathlib.Core.Path.{_≡_, ap, _∙_}
+-- What a replica holds never falls, with its proof's signers, and its replies show it. Assumes nothing.
+use mathlib.Core.Path.{_≡_, refl, ap, _∙_}
 use mathlib.Core.Logic.{⊎-elim}
 use mathlib.Core.Bool.{true}
 use mathlib.Core.List.{List}
@@ -12,13 +12,14 @@ use Rattle.base.specs.declared.party.ReplicaId.{ReplicaId}
 use Rattle.wire.specs.Message.{Message, READ-STAMP, READ, STAMP, WRITTEN, CARD}
 use Rattle.wire.specs.Proof.{PreparedProof}
 use Rattle.protocol.specs.Client.{send}
-use Rattle.protocol.specs.Replica.{heldTimestamp, heldProof}
+use Rattle.protocol.specs.Replica.{heldTimestamp, heldProof, freshRegister}
 use Rattle.run.specs.Premises.{Premises}
+use Rattle.run.specs.Vouching.{SignersOfHeld}
 use Rattle.wire.specs.Acceptance.{replica, client}
-use Rattle.run.specs.Run.{Run, replicaAt}
-use Rattle.protocol.proofs.ReplicaFacts.{held-shown}
+use Rattle.run.specs.Run.{Run, replicaAt, Said}
+use Rattle.protocol.proofs.ReplicaFacts.{SignersHeld, held-shown}
 use Rattle.run.proofs.Turns.{ReplicaTurn, rests, steps, replica-turn, replica-step}
-use Rattle.run.proofs.SentMessages.{Said, step-said}
+use Rattle.run.proofs.SentMessages.{step-said}
 use Rattle.wire.specs.Parts.{preparedTimestamp}
 
 module _ (R : Run) where
@@ -49,6 +50,16 @@ module _ (R : Run) where
         let then : s ≤ held id (suc (e .time)) = rw (x .next-is) (x .facts .written-sent id s same .1) in
         let since = held-rises (suc (e .time)) t (e .earlier) in
         omega arith
+
+  -- In every run, whatever verdicts were handed over.
+  pub signers-of-held : SignersOfHeld R
+  unfolding replicaAt freshRegister
+  signers-of-held id c zero = refl
+  signers-of-held id c (suc t) = go (replica-turn R id c t) (signers-of-held id c t)
+    where
+      go : ReplicaTurn R id t → SignersHeld (replicaAt R id t .register .held) → SignersHeld (replicaAt R id (suc t) .register .held)
+      go (rests same silent) was = rw same was
+      go (steps s) was = rw (s .next-is) (s .facts .signers-held was)
 
   -- A reply that shows what a replica held at a time before t, after the client asked.
   pub record Showed (id : ReplicaId) (t : ℕ) (question : Message) (by : ClientId) (shown : ℕ) : Type 0 where

@@ -14,9 +14,8 @@ use Rattle.protocol.specs.declared.client.Client.{Client}
 use Rattle.protocol.specs.declared.client.Phase.{Phase}
 use Rattle.protocol.proofs.ClientCases.{Begun, ClientCase, stamp-counted, stamps-enough, stamps-ended, prepared-counted, prepareds-enough, written-counted, writtens-enough, card-counted, cards-agree, cards-viewed, cards-differ, back-counted, back-enough}
 use Rattle.wire.specs.Acceptance.{client}
-use Rattle.run.specs.Run.{Run, clientAt, answerAt, At}
+use Rattle.run.specs.Run.{Run, clientAt, answerAt, At, Said}
 use Rattle.run.proofs.Turns.{apart, ClientStep, ClientTurn, rested, wrote, asked, heard, client-turn}
-use Rattle.run.proofs.SentMessages.{Said}
 use Rattle.run.proofs.Slots.{order}
 
 -- Whether an answer is a question with a nonce.
@@ -30,22 +29,22 @@ isQuestion (send (PREPARED id timestamp digest)) = false
 isQuestion (send (WRITTEN id timestamp)) = false
 isQuestion (send (CARD id nonce card proof addressed)) = false
 isQuestion waits = false
-isQuestion (done timestamp card) = false
+isQuestion (done timestamp card signers) = false
 isQuestion ended = false
 
 -- A client that takes a message asks nothing.
 quiet : (before : Client) (message : Message) (turn : Turn) → ClientCase before message turn → isQuestion (turn .answer) ≡ false
-quiet before message turn (stamp-counted s n p b k e₁ e₂ e₃ e₄ left) = ap isQuestion (left .answer-is)
-quiet before message turn (stamps-enough s n p b k next shown last e₁ e₂ e₃ e₄ e₅ e₆ e₇ e₈ left) = ap isQuestion (left .answer-is)
+quiet before message turn (stamp-counted s n p b k e₁ e₂ e₃ e₄ e₅ left) = ap isQuestion (left .answer-is)
+quiet before message turn (stamps-enough s n p b k next shown last e₁ e₂ e₃ e₄ e₅ e₆ e₇ e₈ e₉ left) = ap isQuestion (left .answer-is)
 quiet before message turn (stamps-ended s n p b k e₁ e₂ left) = ap isQuestion (left .answer-is)
-quiet before message turn (prepared-counted s t k e₁ e₂ e₃ e₄ left) = ap isQuestion (left .answer-is)
-quiet before message turn (prepareds-enough s t k p e₁ e₂ e₃ e₄ e₅ e₆ e₇ left) = ap isQuestion (left .answer-is)
+quiet before message turn (prepared-counted s t k e₁ e₂ e₃ e₄ e₅ left) = ap isQuestion (left .answer-is)
+quiet before message turn (prepareds-enough s t k p e₁ e₂ e₃ e₄ e₅ e₆ e₇ e₈ e₉ left) = ap isQuestion (left .answer-is)
 quiet before message turn (written-counted s t k e₁ e₂ e₃ e₄ left) = ap isQuestion (left .answer-is)
 quiet before message turn (writtens-enough s t k e₁ e₂ e₃ e₄ left) = ap isQuestion (left .answer-is)
-quiet before message turn (card-counted s n c p b k g e₁ e₂ e₃ e₄ e₅ left) = ap isQuestion (left .answer-is)
+quiet before message turn (card-counted s n c p b k g e₁ e₂ e₃ e₄ e₅ e₆ left) = ap isQuestion (left .answer-is)
 quiet before message turn (cards-agree s n c p b k g e₁ e₂ e₃ e₄ e₅ e₆ left) = ap isQuestion (left .answer-is)
 quiet before message turn (cards-viewed s n c p b k g e₁ e₂ e₃ e₄ e₅ e₆ left) = ap isQuestion (left .answer-is)
-quiet before message turn (cards-differ s n c p b k g shown e₁ e₂ e₃ e₄ e₅ e₆ left) = ap isQuestion (left .answer-is)
+quiet before message turn (cards-differ s n c p b k g shown e₁ e₂ e₃ e₄ e₅ e₆ e₇ left) = ap isQuestion (left .answer-is)
 quiet before message turn (back-counted s t k e₁ e₂ e₃ e₄ left) = ap isQuestion (left .answer-is)
 quiet before message turn (back-enough s t k e₁ e₂ e₃ e₄ left) = ap isQuestion (left .answer-is)
 

@@ -1,16 +1,16 @@
 -- An operation from its beginning to its end: what holds in each phase. Assumes nothing.
-use mathlib.Core.Path.{_≡_, refl, sym, ap, subst, _∙_}
+use mathlib.Core.Path.{_≡_, refl, sym, ap, subst, subst₂, _∙_}
 use mathlib.Core.Logic.{_⊎_, inl, inr, ⊎-elim}
 use mathlib.Core.Bool.{Bool, true, false, cond}
 use mathlib.Core.List.{List}
 use mathlib.Core.Option.{Option, none, some}
 use Prim.Native.Nat.{ℕ, suc, _/_, _%_, _≤_, _<_}
 use native.Mathlib.Omega.{arith}
-use borrow.Author.Tests.{eqb-true, leb-true}
+use borrow.Author.Tests.{eqb-true, leb-true, lt-leb}
 use lib.Dec.{eqb, leb, ltb}
-use Rattle.base.specs.Counting.{count}
+use Rattle.base.specs.Counting.{count, replica as numbered}
 use Rattle.base.specs.Outcome.{accepted}
-use Rattle.base.specs.Party.{replicaCount, quorumSize, isWriter, isReplica}
+use Rattle.base.specs.Party.{replicaCount, quorumSize, isWriter}
 use Rattle.base.specs.Range.{within}
 use Rattle.base.specs.ReplicaSet.{empty, has, with, isQuorum}
 use Rattle.base.specs.Same.{same}
@@ -20,34 +20,35 @@ use Rattle.base.specs.declared.party.ReplicaId.{ReplicaId}
 use Rattle.base.specs.declared.replica_set.ReplicaSet.{ReplicaSet}
 use Rattle.base.specs.declared.timestamp.Timestamp.{Timestamp}
 use Rattle.base.proofs.Booleans.{and-true-both, or-true}
-use Rattle.base.proofs.Counting.{or-is}
-use Rattle.base.proofs.Range.{bounds}
+use Rattle.base.proofs.Counting.{or-is, count-agree, count-none}
 use Rattle.base.proofs.ReplicaSet.{has-with, has-empty}
 use Rattle.base.proofs.Same.{same-equal}
 use Rattle.base.proofs.Timestamps.{successor-number}
 use Rattle.wire.specs.Card.{isCard}
 use Rattle.wire.specs.Checks.{issued}
 use Rattle.wire.specs.Message.{Message, READ-STAMP, READ, STAMP, PREPARED, WRITTEN, CARD}
-use Rattle.wire.specs.Proof.{PreparedProof}
+use Rattle.wire.specs.Proof.{PreparedProof, signerSet}
 use Rattle.wire.specs.Sha256.{sha256}
 use Rattle.protocol.specs.Client.{Answer, send, waits, done, ended, Turn, currentCard, bestOf, showedBy}
 use Rattle.protocol.specs.Parts.{startCard, cardStands}
 use Rattle.protocol.specs.declared.client.Client.{Client}
 use Rattle.protocol.specs.declared.client.Phase.{Phase}
 use Rattle.protocol.specs.declared.client.Phase.the-variants.{Idle, Stamps, Prepareds, Writtens, Cards, WriteBack}
+use Rattle.protocol.proofs.Built.{Built}
 use Rattle.protocol.proofs.ClientArrays.{best-least}
 use Rattle.protocol.proofs.Fit.{TimestampFits}
 use Rattle.wire.proofs.Passed.{Passed}
-use Rattle.protocol.proofs.ClientCases.{Leaves, betterCard, PhaseFits, ClientCase, stamp-counted, stamps-enough, stamps-ended, prepared-counted, prepareds-enough, written-counted, writtens-enough, card-counted, cards-agree, cards-viewed, cards-differ, back-counted, back-enough}
+use Rattle.protocol.proofs.ClientCases.{Leaves, betterCard, betterSigners, PhaseFits, ClientCase, stamp-counted, stamps-enough, stamps-ended, prepared-counted, prepareds-enough, written-counted, writtens-enough, card-counted, cards-agree, cards-viewed, cards-differ, back-counted, back-enough}
+use Rattle.run.specs.Claims.{NotDone}
 use Rattle.run.specs.Premises.{CardOfRun, Premises}
 use Rattle.wire.specs.Acceptance.{replica, client}
-use Rattle.run.specs.Run.{Run, clientAt, answerAt}
+use Rattle.run.specs.Run.{Run, clientAt, answerAt, Said}
 use Rattle.run.proofs.Turns.{apart, same-replica, correct-replica-range, correct-client-range, GoodClient, good-client, ClientStep, Heard}
-use Rattle.run.proofs.SentMessages.{Said, said-later, heard-said}
-use Rattle.run.proofs.Slots.{Backed, backed-later, meet, card-backed}
+use Rattle.run.proofs.SentMessages.{said-later, heard-said}
+use Rattle.run.proofs.Slots.{Backed, backed-later, shaped-backed, meet, card-backed}
 use Rattle.run.proofs.Held.{held, held-rises, written-held, Showed, stamp-showed, card-showed}
 use Rattle.run.proofs.Nonces.{Asks, for-stamps, for-cards, asked-since}
-use Rattle.wire.specs.Parts.{preparedTimestamp}
+use Rattle.wire.specs.Parts.{preparedTimestamp, preparedSigners}
 
 -- ---- The best of the replies
 
@@ -61,7 +62,7 @@ best-fits best proof h = go (ltb (number best) (preparedTimestamp proof))
 abbrev isDone : Answer → Bool
 isDone (send message) = false
 isDone waits = false
-isDone (done timestamp card) = true
+isDone (done timestamp card signers) = true
 isDone ended = false
 
 carried-fits : {timestamp : Timestamp} → TimestampFits timestamp → timestamp .client .0 < 256
@@ -71,17 +72,22 @@ carried-fits fits = fits .1
 pub none-in : {A : Type 0} (id : ReplicaId) → has empty id ≡ true → A
 none-in id h = let no-one = has-empty id in apart (cc)
 
+-- So it is no quorum.
+empty-few : (f : ℕ) → isQuorum f empty ≡ false
+empty-few f =
+    let none = count-agree (replicaCount f) (has empty) (λ (i : ReplicaId). false) (λ i low high. has-empty (numbered i)) ∙ count-none (replicaCount f) in
+    lt-leb (quorumSize f) (count (replicaCount f) (has empty)) (omega arith)
+
 module _ (R : Run) where
   -- What is true of each correct member of a set.
   abbrev pub Each : ReplicaSet → (ReplicaId → Type 0) → Type 0
   Each set Q = (id : ReplicaId) → has set id ≡ true → R .correct-replica id ≡ true → Q id
 
   -- One more member: the new one, or an old one.
-  more : (Q : ReplicaId → Type 0) (sender : ReplicaId) (set : ReplicaSet) → 1 ≤ sender .0 → sender .0 ≤ 16 → (R .correct-replica sender ≡ true → Q sender)
-      → Each set Q → Each (with set sender) Q
-  more Q sender set low high new old id member c =
+  more : (Q : ReplicaId → Type 0) (sender : ReplicaId) (set : ReplicaSet) → (R .correct-replica sender ≡ true → Q sender) → Each set Q → Each (with set sender) Q
+  more Q sender set new old id member c =
       let range = correct-replica-range R id c in
-      let one-of : or-is sender (has set) id ≡ true = sym (has-with set sender (id .0) low high (range .0) (omega arith)) ∙ member in
+      let one-of : or-is sender (has set) id ≡ true = sym (has-with set sender (id .0) (range .0) (omega arith)) ∙ member in
       ⊎-elim
       (λ e. let is : sender ≡ id = same-replica sender id (sym (eqb-true (id .0) (sender .0) e)) in subst (λ (i : ReplicaId). R .correct-replica i ≡ true → Q i) is new c)
       (λ e. old id e c)
@@ -100,18 +106,18 @@ module _ (R : Run) where
     hold = λ id k c. let then = a .hold id k c in let rose = held-rises R id c t t′ l in omega arith;
   }
 
-  -- What a timestamp is shown with: the starting card, or a card of the run whose digest a quorum backs.
-  pub record Vouched (t s : ℕ) (card : List ℕ) : Type 0 where
+  -- What a timestamp is shown with: the starting card and nobody, or a card of the run whose digest these replicas back.
+  pub record Vouched (t s : ℕ) (card : List ℕ) (signers : ReplicaSet) : Type 0 where
     pub positive : 1 ≤ s
-    pub backed : Backed R t s (sha256 card)
+    pub backed : Backed R t s (sha256 card) signers
     pub card-in : CardOfRun R card
 
-  abbrev pub Shown : ℕ → ℕ → List ℕ → Type 0
-  Shown t s card = ((s ≡ 0) × (card ≡ startCard)) ⊎ Vouched t s card
+  abbrev pub Shown : ℕ → ℕ → List ℕ → ReplicaSet → Type 0
+  Shown t s card signers = ((s ≡ 0) × (card ≡ startCard) × (signers ≡ empty)) ⊎ Vouched t s card signers
 
-  pub shown-later : (t t′ s : ℕ) (card : List ℕ) → t ≤ t′ → Shown t s card → Shown t′ s card
-  shown-later t t′ s card l (inl e) = inl e
-  shown-later t t′ s card l (inr v) = inr (record { positive = v .positive; backed = backed-later R t t′ s (sha256 card) l (v .backed); card-in = v .card-in })
+  pub shown-later : (t t′ s : ℕ) (card : List ℕ) (signers : ReplicaSet) → t ≤ t′ → Shown t s card signers → Shown t′ s card signers
+  shown-later t t′ s card signers l (inl e) = inl e
+  shown-later t t′ s card signers l (inr v) = inr (record { positive = v .positive; backed = backed-later R t t′ s (sha256 card) signers l (v .backed); card-in = v .card-in })
 
   -- ---- The phases of a write of a card, begun by a client at t₀
 
@@ -136,12 +142,14 @@ module _ (R : Run) where
     pub card-is : currentCard now ≡ card
     pub digest-is : now .digest ≡ sha256 card
     pub chosen : Chosen id t₀ s
+    -- So that the reply that makes a quorum makes one of exactly q.
+    pub fewer : isQuorum (R .f) counted ≡ false
     pub signed : Each counted (λ r. Said R (replica r) (PREPARED r s (sha256 card)) t)
 
   pub record Writing (id : ClientId) (card : List ℕ) (t₀ t : ℕ) (now : Client) (s : ℕ) (counted : ReplicaSet) : Type 0 where
     pub card-is : currentCard now ≡ card
     pub chosen : Chosen id t₀ s
-    pub backed : Backed R t s (sha256 card)
+    pub backed : Backed R t s (sha256 card) (now .signers)
     pub stored : Holds counted s t
 
   abbrev pub WriteIn : ClientId → List ℕ → ℕ → ℕ → Client → Phase → Type 0
@@ -159,12 +167,13 @@ module _ (R : Run) where
     card-is = x .card-is;
     digest-is = x .digest-is;
     chosen = x .chosen;
+    fewer = x .fewer;
     signed = λ r k c. said-later R (replica r) (PREPARED r (number timestamp) (sha256 card)) t (suc t) (omega arith) (x .signed r k c);
   }
   write-later id card t₀ t now (Writtens timestamp counted) x = record {
     card-is = x .card-is;
     chosen = x .chosen;
-    backed = backed-later R t (suc t) (number timestamp) (sha256 card) (omega arith) (x .backed);
+    backed = backed-later R t (suc t) (number timestamp) (sha256 card) (now .signers) (omega arith) (x .backed);
     stored = holds-later counted (number timestamp) t (x .stored);
   }
   write-later id card t₀ t now (Cards nonce best counted showed) x = x
@@ -176,12 +185,12 @@ module _ (R : Run) where
     pub new : clientAt R id t₀ .«last_nonce» < nonce
     pub seen : Each counted (λ r. held R r t₀ ≤ best)
     pub shown-by : Holds showed best t
-    pub is-shown : Shown t best (currentCard now)
+    pub is-shown : Shown t best (currentCard now) (now .signers)
 
   pub record WritingBack (t₀ t : ℕ) (now : Client) (s : ℕ) (counted : ReplicaSet) : Type 0 where
     pub above : (s′ : ℕ) → Settled t₀ s′ → s′ ≤ s
     pub stored : Holds counted s t
-    pub is-shown : Shown t s (currentCard now)
+    pub is-shown : Shown t s (currentCard now) (now .signers)
 
   abbrev pub ReadIn : ClientId → ℕ → ℕ → Client → Phase → Type 0
   ReadIn id t₀ t now Idle = ⊥
@@ -200,12 +209,12 @@ module _ (R : Run) where
     new = x .new;
     seen = x .seen;
     shown-by = holds-later showed (number best) t (x .shown-by);
-    is-shown = shown-later t (suc t) (number best) (currentCard now) (omega arith) (x .is-shown);
+    is-shown = shown-later t (suc t) (number best) (currentCard now) (now .signers) (omega arith) (x .is-shown);
   }
   read-later id t₀ t now (WriteBack timestamp counted) x = record {
     above = x .above;
     stored = holds-later counted (number timestamp) t (x .stored);
-    is-shown = shown-later t (suc t) (number timestamp) (currentCard now) (omega arith) (x .is-shown);
+    is-shown = shown-later t (suc t) (number timestamp) (currentCard now) (now .signers) (omega arith) (x .is-shown);
   }
 
   -- ---- Both kinds of operation; true for a write
@@ -233,19 +242,20 @@ module _ (R : Run) where
   Above true t₀ s = (s′ : ℕ) → Settled t₀ s′ → s′ < s
   Above false t₀ s = (s′ : ℕ) → Settled t₀ s′ → s′ ≤ s
 
-  -- An operation of a client at its done, with timestamp and card.
-  pub record AtDone (w : Bool) (id : ClientId) (begun : List ℕ) (t₀ t : ℕ) (timestamp : Timestamp) (card : List ℕ) : Type 0 where
+  -- An operation of a client at its done, with timestamp, card and signers.
+  pub record AtDone (w : Bool) (id : ClientId) (begun : List ℕ) (t₀ t : ℕ) (timestamp : Timestamp) (card : List ℕ) (signers : ReplicaSet) : Type 0 where
     pub fits : timestamp .client .0 < 256
     pub own : w ≡ true → (number timestamp % 256 ≡ id .0) × (card ≡ begun)
     pub settled : isWriter id ≡ true → Settled t (number timestamp)
     pub above : Above w t₀ (number timestamp)
-    pub is-shown : Shown t (number timestamp) card
+    pub is-shown : Shown t (number timestamp) card signers
 
   -- Event t at the client while its operation is under way.
   pub data Next (w : Bool) (id : ClientId) (card : List ℕ) (t₀ t : ℕ) : Type 0 where
     goes-on : During w id card t₀ (suc t) (clientAt R id (suc t)) (clientAt R id (suc t) .phase)
-        → ((timestamp : Timestamp) (shown : List ℕ) → answerAt R t ≡ accepted (done timestamp shown) → ⊥) → Next w id card t₀ t
-    finishes : (timestamp : Timestamp) (shown : List ℕ) → answerAt R t ≡ accepted (done timestamp shown) → AtDone w id card t₀ (suc t) timestamp shown → Next w id card t₀ t
+        → NotDone R t → Next w id card t₀ t
+    finishes : (timestamp : Timestamp) (shown : List ℕ) (signers : ReplicaSet) → answerAt R t ≡ accepted (done timestamp shown signers)
+        → AtDone w id card t₀ (suc t) timestamp shown signers → Next w id card t₀ t
     stops : w ≡ true → answerAt R t ≡ accepted ended → Next w id card t₀ t
 
   module _ (P : Premises R) (id : ClientId) (correct : R .correct-client id ≡ true) (t₀ t : ℕ) where
@@ -267,9 +277,6 @@ module _ (R : Run) where
     quorum counted q =
         let at-run : isQuorum (R .f) counted ≡ true = subst (λ (f : ℕ). isQuorum f counted ≡ true) (good .f-is) q in
         leb-true (quorumSize (R .f)) (count (replicaCount (R .f)) (has counted)) at-run
-
-    sender-range : (sender : ReplicaId) → isReplica (now .f) sender ≡ true → (1 ≤ sender .0) × (sender .0 ≤ 16)
-    sender-range sender h = let range = bounds 1 (replicaCount (now .f)) (sender .0) h in (range .0, omega arith)
 
     -- What a reply shows lies between what its replica held at t₀ and what it holds now.
     within-time : (sender : ReplicaId) → R .correct-replica sender ≡ true → (question : Message) (nonce shown : ℕ) → Asks id nonce question → clientAt R id t₀ .«last_nonce» < nonce
@@ -296,27 +303,26 @@ module _ (R : Run) where
           within-time sender c (READ id nonce) nonce (preparedTimestamp proof) (for-cards refl) new
           (card-showed R P sender c id correct nonce proof t card (heard-said R P id t h (CARD sender nonce card proof id) is c))
 
-    seen-more : (sender : ReplicaId) (counted : ReplicaSet) (best : Timestamp) (proof : Option PreparedProof) → isReplica (now .f) sender ≡ true
+    seen-more : (sender : ReplicaId) (counted : ReplicaSet) (best : Timestamp) (proof : Option PreparedProof)
         → (R .correct-replica sender ≡ true → held R sender t₀ ≤ preparedTimestamp proof) → Each counted (λ r. held R r t₀ ≤ number best)
         → Each (with counted sender) (λ r. held R r t₀ ≤ number (bestOf best proof))
-    seen-more sender counted best proof inside new old =
-        let range = sender-range sender inside in
+    seen-more sender counted best proof new old =
         let least = best-least best proof in
-        more (λ r. held R r t₀ ≤ number (bestOf best proof)) sender counted (range .0) (range .1)
+        more (λ r. held R r t₀ ≤ number (bestOf best proof)) sender counted
         (λ c. let l = new c in omega arith) (λ r k c. let l = old r k c in omega arith)
 
-    stored-more : (h : Heard R id t) (sender : ReplicaId) (counted : ReplicaSet) (s : ℕ) → isReplica (now .f) sender ≡ true → h .message ≡ WRITTEN sender s
+    stored-more : (h : Heard R id t) (sender : ReplicaId) (counted : ReplicaSet) (s : ℕ) → h .message ≡ WRITTEN sender s
         → Holds counted s t → Holds (with counted sender) s (suc t)
-    stored-more h sender counted s inside e old =
-        let range = sender-range sender inside in
-        more (λ r. s ≤ held R r (suc t)) sender counted (range .0) (range .1)
+    stored-more h sender counted s e old =
+        more (λ r. s ≤ held R r (suc t)) sender counted
         (λ c. let then = written-held R sender c t s (heard-said R P id t h (WRITTEN sender s) e c) in let rose = held-rises R sender c t (suc t) (omega arith) in omega arith)
         (holds-later counted s t old)
 
     goes-to : (w : Bool) (card : List ℕ) (turn : Turn) (answer : Answer) (phase : Phase) → ClientStep R id t turn → Leaves turn answer phase
-        → ((timestamp : Timestamp) (shown : List ℕ) → answer ≡ done timestamp shown → ⊥) → During w id card t₀ (suc t) (turn .next) phase → Next w id card t₀ t
+        → isDone answer ≡ false → During w id card t₀ (suc t) (turn .next) phase → Next w id card t₀ t
     goes-to w card turn answer phase step left not-done x =
-        goes-on (moved w id card t₀ t turn phase step (left .phase-is) x) (λ timestamp shown e. not-done timestamp shown (cc (step .answer-is, left .answer-is)))
+        goes-on (moved w id card t₀ t turn phase step (left .phase-is) x)
+        (λ timestamp shown signers e. let is : answer ≡ done timestamp shown signers = cc (step .answer-is, left .answer-is) in apart (cc (ap isDone is)))
 
     done-is : (turn : Turn) (answer : Answer) (phase : Phase) → ClientStep R id t turn → Leaves turn answer phase → answerAt R t ≡ accepted answer
     done-is turn answer phase step left = step .answer-is ∙ ap accepted (left .answer-is)
@@ -324,10 +330,10 @@ module _ (R : Run) where
     -- ---- A write takes a message
 
     take-stamp : (card : List ℕ) (h : Heard R id t) (sender : ReplicaId) (nonce : ℕ) (proof : Option PreparedProof) (best : Timestamp) (counted : ReplicaSet)
-        → h .message ≡ STAMP sender nonce proof (now .id) → isReplica (now .f) sender ≡ true → Stamping id card t₀ now nonce (number best) counted
+        → h .message ≡ STAMP sender nonce proof (now .id) → Stamping id card t₀ now nonce (number best) counted
         → Each (with counted sender) (λ r. held R r t₀ ≤ number (bestOf best proof))
-    take-stamp card h sender nonce proof best counted e inside x =
-        seen-more sender counted best proof inside (λ c. stamp-within h sender nonce proof (x .new) c e .0) (x .seen)
+    take-stamp card h sender nonce proof best counted e x =
+        seen-more sender counted best proof (λ c. stamp-within h sender nonce proof (x .new) c e .0) (x .seen)
 
     -- The successor of the best timestamp, for this client.
     choose : (best next : Timestamp) → best .client .0 < 256 → successor best (now .id) ≡ some next → ((s : ℕ) → Settled t₀ s → s ≤ number best) → Chosen id t₀ (number next)
@@ -337,77 +343,87 @@ module _ (R : Run) where
         let range = correct-client-range R id correct in
         record { positive = omega arith; own = omega arith; above = λ s a. let l = least s a in omega arith }
 
-    take-prepared : (card : List ℕ) (h : Heard R id t) (sender : ReplicaId) (s : ℕ) (counted : ReplicaSet) → h .message ≡ PREPARED sender s (now .digest) → isReplica (now .f) sender ≡ true
+    take-prepared : (card : List ℕ) (h : Heard R id t) (sender : ReplicaId) (s : ℕ) (counted : ReplicaSet) → h .message ≡ PREPARED sender s (now .digest)
         → Preparing id card t₀ t now s counted → Each (with counted sender) (λ r. Said R (replica r) (PREPARED r s (sha256 card)) (suc t))
-    take-prepared card h sender s counted e inside x =
-        let range = sender-range sender inside in
+    take-prepared card h sender s counted e x =
         let is : h .message ≡ PREPARED sender s (sha256 card) = e ∙ ap (PREPARED sender s) (x .digest-is) in
-        more (λ r. Said R (replica r) (PREPARED r s (sha256 card)) (suc t)) sender counted (range .0) (range .1)
+        more (λ r. Said R (replica r) (PREPARED r s (sha256 card)) (suc t)) sender counted
         (λ c. said-later R (replica sender) (PREPARED sender s (sha256 card)) t (suc t) (omega arith) (heard-said R P id t h (PREPARED sender s (sha256 card)) is c))
         (λ r k c. said-later R (replica r) (PREPARED r s (sha256 card)) t (suc t) (omega arith) (x .signed r k c))
 
-    no-done : (answer : Answer) → isDone answer ≡ false → (timestamp : Timestamp) (shown : List ℕ) → answer ≡ done timestamp shown → ⊥
-    no-done answer e timestamp shown q = let p : isDone answer ≡ true = ap isDone q in apart (cc)
+    -- The proof that is built of them.
+    build-backed : (card : List ℕ) (h : Heard R id t) (sender : ReplicaId) (s : ℕ) (counted : ReplicaSet) (proof : PreparedProof) → h .message ≡ PREPARED sender s (now .digest)
+        → Preparing id card t₀ t now s counted → (isQuorum (now .f) counted ≡ false → Built (now .f) (with counted sender) (proof .entries))
+        → Backed R (suc t) s (sha256 card) (signerSet (proof .entries))
+    build-backed card h sender s counted proof e x built =
+        let b : Built (R .f) (with counted sender) (proof .entries) =
+        subst (λ (f : ℕ). isQuorum f counted ≡ false → Built f (with counted sender) (proof .entries)) (good .f-is) built (x .fewer) in
+        shaped-backed R (suc t) s (sha256 card) (proof .entries) (b .is-shaped) (λ r k c. take-prepared card h sender s counted e x r (b .of-counted r k) c)
+
+    still-backed : (card : List ℕ) (counted : ReplicaSet) (timestamp : Timestamp) → Writing id card t₀ t now (number timestamp) counted → Backed R (suc t) (number timestamp) (sha256 card) (now .signers)
+    still-backed card counted timestamp x = backed-later R t (suc t) (number timestamp) (sha256 card) (now .signers) (omega arith) (x .backed)
 
     write-heard : (card : List ℕ) → CardOfRun R card → (h : Heard R id t) → WriteIn id card t₀ t now (now .phase) → ClientCase now (h .message) (h .turn) → Next true id card t₀ t
-    write-heard card in-run h x (stamp-counted sender nonce proof best counted e phase new kept left) =
+    write-heard card in-run h x (stamp-counted sender nonce proof best counted e phase new kept from left) =
         let y : Stamping id card t₀ now nonce (number best) counted = subst (WriteIn id card t₀ t now) phase x in
-        goes-to true card (h .turn) waits (Stamps nonce (bestOf best proof) (with counted sender)) (h .step) left (no-done waits refl)
-        (record { card-is = kept ∙ y .card-is; new = y .new; seen = take-stamp card h sender nonce proof best counted e (new .0) y })
-    write-heard card in-run h x (stamps-enough sender nonce proof best counted next shown last e phase new full succ kept digest of left) =
+        goes-to true card (h .turn) waits (Stamps nonce (bestOf best proof) (with counted sender)) (h .step) left refl
+        (record { card-is = kept ∙ y .card-is; new = y .new; seen = take-stamp card h sender nonce proof best counted e y })
+    write-heard card in-run h x (stamps-enough sender nonce proof best counted next shown last e phase new full succ kept digest nobody of left) =
         let y : Stamping id card t₀ now nonce (number best) counted = subst (WriteIn id card t₀ t now) phase x in
         let fits : TimestampFits best = subst PhaseFits phase (good .phase-fits) in
-        goes-to true card (h .turn) _ (Prepareds next empty) (h .step) left (no-done _ refl)
+        goes-to true card (h .turn) _ (Prepareds next empty) (h .step) left refl
         (record {
           card-is = kept ∙ y .card-is;
           digest-is = digest ∙ ap sha256 (y .card-is);
           chosen = choose (bestOf best proof) next (best-fits best proof (fits .1)) succ
-              (below (number (bestOf best proof)) (with counted sender) (quorum (with counted sender) full) (take-stamp card h sender nonce proof best counted e (new .0) y));
+              (below (number (bestOf best proof)) (with counted sender) (quorum (with counted sender) full) (take-stamp card h sender nonce proof best counted e y));
+          fewer = empty-few (R .f);
           signed = λ r k c. none-in r k;
         })
     write-heard card in-run h x (stamps-ended sender nonce proof best counted e phase left) = stops refl (done-is (h .turn) ended Idle (h .step) left)
-    write-heard card in-run h x (prepared-counted sender timestamp counted e phase new same-card left) =
+    write-heard card in-run h x (prepared-counted sender timestamp counted e phase new less same-card left) =
         let y : Preparing id card t₀ t now (number timestamp) counted = subst (WriteIn id card t₀ t now) phase x in
-        goes-to true card (h .turn) waits (Prepareds timestamp (with counted sender)) (h .step) left (no-done waits refl)
+        goes-to true card (h .turn) waits (Prepareds timestamp (with counted sender)) (h .step) left refl
         (record {
           card-is = same-card .card-kept ∙ y .card-is;
           digest-is = same-card .digest-kept ∙ y .digest-is;
           chosen = y .chosen;
-          signed = take-prepared card h sender (number timestamp) counted e (new .0) y;
+          fewer = subst (λ (f : ℕ). isQuorum f (with counted sender) ≡ false) (good .f-is) less;
+          signed = take-prepared card h sender (number timestamp) counted e y;
         })
-    write-heard card in-run h x (prepareds-enough sender timestamp counted proof e phase new full same-card of-timestamp of-digest left) =
+    write-heard card in-run h x (prepareds-enough sender timestamp counted proof e phase new full kept from built of-timestamp of-digest left) =
         let y : Preparing id card t₀ t now (number timestamp) counted = subst (WriteIn id card t₀ t now) phase x in
-        goes-to true card (h .turn) _ (Writtens timestamp empty) (h .step) left (no-done _ refl)
+        goes-to true card (h .turn) _ (Writtens timestamp empty) (h .step) left refl
         (record {
-          card-is = same-card .card-kept ∙ y .card-is;
+          card-is = kept ∙ y .card-is;
           chosen = y .chosen;
-          backed = record { who = has (with counted sender); enough = quorum (with counted sender) full; signed = take-prepared card h sender (number timestamp) counted e (new .0) y };
+          backed = subst (Backed R (suc t) (number timestamp) (sha256 card)) (sym from) (build-backed card h sender (number timestamp) counted proof e y built);
           stored = λ r k c. none-in r k;
         })
     write-heard card in-run h x (written-counted sender timestamp counted e phase new same-card left) =
         let y : Writing id card t₀ t now (number timestamp) counted = subst (WriteIn id card t₀ t now) phase x in
-        goes-to true card (h .turn) waits (Writtens timestamp (with counted sender)) (h .step) left (no-done waits refl)
+        goes-to true card (h .turn) waits (Writtens timestamp (with counted sender)) (h .step) left refl
         (record {
           card-is = same-card .card-kept ∙ y .card-is;
           chosen = y .chosen;
-          backed = backed-later R t (suc t) (number timestamp) (sha256 card) (omega arith) (y .backed);
-          stored = stored-more h sender counted (number timestamp) (new .0) e (y .stored);
+          backed = subst (Backed R (suc t) (number timestamp) (sha256 card)) (sym (same-card .signers-kept)) (still-backed card counted timestamp y);
+          stored = stored-more h sender counted (number timestamp) e (y .stored);
         })
     write-heard card in-run h x (writtens-enough sender timestamp counted e phase new full left) =
         let y : Writing id card t₀ t now (number timestamp) counted = subst (WriteIn id card t₀ t now) phase x in
-        finishes timestamp (currentCard now) (done-is (h .turn) (done timestamp (currentCard now)) Idle (h .step) left)
+        finishes timestamp (currentCard now) (now .signers) (done-is (h .turn) (done timestamp (currentCard now) (now .signers)) Idle (h .step) left)
         (record {
           fits = carried-fits (subst PhaseFits phase (good .phase-fits));
           own = λ w. (y .chosen .own, y .card-is);
-          settled = λ w. record { who = has (with counted sender); enough = quorum (with counted sender) full; hold = stored-more h sender counted (number timestamp) (new .0) e (y .stored) };
+          settled = λ w. record { who = has (with counted sender); enough = quorum (with counted sender) full; hold = stored-more h sender counted (number timestamp) e (y .stored) };
           above = y .chosen .above;
-          is-shown = subst (Shown (suc t) (number timestamp)) (sym (y .card-is))
-              (inr (record { positive = y .chosen .positive; backed = backed-later R t (suc t) (number timestamp) (sha256 card) (omega arith) (y .backed); card-in = in-run }));
+          is-shown = subst (λ (card : List ℕ). Shown (suc t) (number timestamp) card (now .signers)) (sym (y .card-is))
+              (inr (record { positive = y .chosen .positive; backed = still-backed card counted timestamp y; card-in = in-run }));
         })
-    write-heard card in-run h x (card-counted sender nonce card′ proof best counted showed e phase new stands better left) = absurd (subst (WriteIn id card t₀ t now) phase x)
+    write-heard card in-run h x (card-counted sender nonce card′ proof best counted showed e phase new stands better from left) = absurd (subst (WriteIn id card t₀ t now) phase x)
     write-heard card in-run h x (cards-agree sender nonce card′ proof best counted showed e phase new stands full full′ left) = absurd (subst (WriteIn id card t₀ t now) phase x)
     write-heard card in-run h x (cards-viewed sender nonce card′ proof best counted showed e phase new stands full no-writer left) = absurd (subst (WriteIn id card t₀ t now) phase x)
-    write-heard card in-run h x (cards-differ sender nonce card′ proof best counted showed shown e phase new stands full better left) = absurd (subst (WriteIn id card t₀ t now) phase x)
+    write-heard card in-run h x (cards-differ sender nonce card′ proof best counted showed shown e phase new stands full better from left) = absurd (subst (WriteIn id card t₀ t now) phase x)
     write-heard card in-run h x (back-counted sender timestamp counted e phase new same-card left) = absurd (subst (WriteIn id card t₀ t now) phase x)
     write-heard card in-run h x (back-enough sender timestamp counted e phase new full left) = absurd (subst (WriteIn id card t₀ t now) phase x)
 
@@ -425,29 +441,29 @@ module _ (R : Run) where
     issued-positive s e = let l = leb-true 1 (s / 256) (and-true-both (leb 1 (s / 256)) (within 1 64 (s % 256)) e .0) in omega arith
 
     card-shown : (h : Heard R id t) (sender : ReplicaId) (nonce : ℕ) (card : List ℕ) (proof : Option PreparedProof) → h .message ≡ CARD sender nonce card proof (now .id)
-        → cardStands card proof ≡ true → Shown t (preparedTimestamp proof) card
-    card-shown h sender nonce card none e stands = inl (refl, same-equal card startCard stands)
+        → cardStands card proof ≡ true → Shown t (preparedTimestamp proof) card (preparedSigners proof)
+    card-shown h sender nonce card none e stands = inl (refl, same-equal card startCard stands, refl)
     card-shown h sender nonce card (some proof) e stands =
         let passed : Passed (R .f) (h .message) (h .verdicts) = subst (λ (f : ℕ). Passed f (h .message) (h .verdicts)) (good .f-is) (h .facts .passed) in
         let there : Passed (R .f) (CARD sender nonce card (some proof) (now .id)) (h .verdicts) = subst (λ (m : Message). Passed (R .f) m (h .verdicts)) e passed in
         let digest : sha256 card ≡ proof .digest = same-equal (sha256 card) (proof .digest) (and-true-both (isCard card) (same (sha256 card) (proof .digest)) stands .1) in
         inr (record {
           positive = issued-positive (proof .timestamp) (there .prepared-issued);
-          backed = subst (Backed R t (proof .timestamp)) (sym digest) (card-backed R P id t h sender nonce card proof (now .id) e passed);
+          backed = subst (λ (d : List ℕ). Backed R t (proof .timestamp) d (signerSet (proof .entries))) (sym digest) (card-backed R P id t h sender nonce card proof (now .id) e passed);
           card-in = heard-card h sender nonce card (some proof) e;
         })
 
-    -- The best timestamp and card after a CARD, and who showed it.
+    -- The best timestamp, card and signers after a CARD, and who showed it.
     record Taken (sender : ReplicaId) (card : List ℕ) (proof : Option PreparedProof) (best : Timestamp) (counted showed : ReplicaSet) : Type 0 where
       seen : Each (with counted sender) (λ r. held R r t₀ ≤ number (bestOf best proof))
       shown-by : Holds (showedBy best proof sender showed) (number (bestOf best proof)) (suc t)
-      is-shown : Shown (suc t) (number (bestOf best proof)) (betterCard best proof card now)
+      is-shown : Shown (suc t) (number (bestOf best proof)) (betterCard best proof card now) (betterSigners best proof now)
 
     take-card : (h : Heard R id t) (sender : ReplicaId) (nonce : ℕ) (card : List ℕ) (proof : Option PreparedProof) (best : Timestamp) (counted showed : ReplicaSet)
-        → h .message ≡ CARD sender nonce card proof (now .id) → isReplica (now .f) sender ≡ true → cardStands card proof ≡ true → Reading id t₀ t now nonce (number best) counted showed
+        → h .message ≡ CARD sender nonce card proof (now .id) → cardStands card proof ≡ true → Reading id t₀ t now nonce (number best) counted showed
         → Taken sender card proof best counted showed
-    take-card h sender nonce card proof best counted showed e inside stands x = record {
-      seen = seen-more sender counted best proof inside (λ c. fresh c .0) (x .seen);
+    take-card h sender nonce card proof best counted showed e stands x = record {
+      seen = seen-more sender counted best proof (λ c. fresh c .0) (x .seen);
       shown-by = both .0;
       is-shown = both .1;
     }
@@ -455,13 +471,10 @@ module _ (R : Run) where
         fresh : R .correct-replica sender ≡ true → (held R sender t₀ ≤ preparedTimestamp proof) × (preparedTimestamp proof ≤ held R sender t)
         fresh c = card-within h sender nonce proof (x .new) c card e
 
-        range : (1 ≤ sender .0) × (sender .0 ≤ 16)
-        range = sender-range sender inside
-
         Parts : Bool → Bool → Type 0
         Parts u v =
             Holds (cond u (with empty sender) (cond v (with showed sender) showed)) (number (cond u (ofNumber (preparedTimestamp proof)) best)) (suc t)
-            × Shown (suc t) (number (cond u (ofNumber (preparedTimestamp proof)) best)) (cond u card (currentCard now))
+            × Shown (suc t) (number (cond u (ofNumber (preparedTimestamp proof)) best)) (cond u card (currentCard now)) (cond u (preparedSigners proof) (now .signers))
 
         old : Holds showed (number best) (suc t)
         old = holds-later showed (number best) t (x .shown-by)
@@ -469,42 +482,43 @@ module _ (R : Run) where
         rose : (c : R .correct-replica sender ≡ true) → preparedTimestamp proof ≤ held R sender (suc t)
         rose c = let l = fresh c .1 in let r = held-rises R sender c t (suc t) (omega arith) in omega arith
 
-        kept : Shown (suc t) (number best) (currentCard now)
-        kept = shown-later t (suc t) (number best) (currentCard now) (omega arith) (x .is-shown)
+        kept : Shown (suc t) (number best) (currentCard now) (now .signers)
+        kept = shown-later t (suc t) (number best) (currentCard now) (now .signers) (omega arith) (x .is-shown)
 
         whole : number (ofNumber (preparedTimestamp proof)) ≡ preparedTimestamp proof
         whole = omega arith
 
         go : (u v : Bool) → ltb (number best) (preparedTimestamp proof) ≡ u → eqb (number best) (preparedTimestamp proof) ≡ v → Parts u v
         go true v e₁ e₂ = (
-          more (λ r. number (ofNumber (preparedTimestamp proof)) ≤ held R r (suc t)) sender empty (range .0) (range .1) (λ c. let l = rose c in omega arith) (λ r k c. none-in r k),
-          subst (λ (s : ℕ). Shown (suc t) s card) (sym whole) (shown-later t (suc t) (preparedTimestamp proof) card (omega arith) (card-shown h sender nonce card proof e stands)),
+          more (λ r. number (ofNumber (preparedTimestamp proof)) ≤ held R r (suc t)) sender empty (λ c. let l = rose c in omega arith) (λ r k c. none-in r k),
+          subst (λ (s : ℕ). Shown (suc t) s card (preparedSigners proof)) (sym whole) (shown-later t (suc t) (preparedTimestamp proof) card (preparedSigners proof) (omega arith) (card-shown h sender nonce card proof e stands)),
         )
         go false true e₁ e₂ =
             let equal = eqb-true (number best) (preparedTimestamp proof) e₂ in
-            (more (λ r. number best ≤ held R r (suc t)) sender showed (range .0) (range .1) (λ c. let l = rose c in omega arith) old, kept)
+            (more (λ r. number best ≤ held R r (suc t)) sender showed (λ c. let l = rose c in omega arith) old, kept)
         go false false e₁ e₂ = (old, kept)
 
         both : Parts (ltb (number best) (preparedTimestamp proof)) (eqb (number best) (preparedTimestamp proof))
         both = go (ltb (number best) (preparedTimestamp proof)) (eqb (number best) (preparedTimestamp proof)) refl refl
 
     read-heard : (card : List ℕ) (h : Heard R id t) → ReadIn id t₀ t now (now .phase) → ClientCase now (h .message) (h .turn) → Next false id card t₀ t
-    read-heard card₀ h x (stamp-counted sender nonce proof best counted e phase new kept left) = absurd (subst (ReadIn id t₀ t now) phase x)
-    read-heard card₀ h x (stamps-enough sender nonce proof best counted next shown last e phase new full succ kept digest of left) = absurd (subst (ReadIn id t₀ t now) phase x)
+    read-heard card₀ h x (stamp-counted sender nonce proof best counted e phase new kept from left) = absurd (subst (ReadIn id t₀ t now) phase x)
+    read-heard card₀ h x (stamps-enough sender nonce proof best counted next shown last e phase new full succ kept digest nobody of left) = absurd (subst (ReadIn id t₀ t now) phase x)
     read-heard card₀ h x (stamps-ended sender nonce proof best counted e phase left) = absurd (subst (ReadIn id t₀ t now) phase x)
-    read-heard card₀ h x (prepared-counted sender timestamp counted e phase new same-card left) = absurd (subst (ReadIn id t₀ t now) phase x)
-    read-heard card₀ h x (prepareds-enough sender timestamp counted proof e phase new full same-card of-timestamp of-digest left) = absurd (subst (ReadIn id t₀ t now) phase x)
+    read-heard card₀ h x (prepared-counted sender timestamp counted e phase new less same-card left) = absurd (subst (ReadIn id t₀ t now) phase x)
+    read-heard card₀ h x (prepareds-enough sender timestamp counted proof e phase new full kept from built of-timestamp of-digest left) = absurd (subst (ReadIn id t₀ t now) phase x)
     read-heard card₀ h x (written-counted sender timestamp counted e phase new same-card left) = absurd (subst (ReadIn id t₀ t now) phase x)
     read-heard card₀ h x (writtens-enough sender timestamp counted e phase new full left) = absurd (subst (ReadIn id t₀ t now) phase x)
-    read-heard card₀ h x (card-counted sender nonce card proof best counted showed e phase new stands better left) =
+    read-heard card₀ h x (card-counted sender nonce card proof best counted showed e phase new stands better from left) =
         let y : Reading id t₀ t now nonce (number best) counted showed = subst (ReadIn id t₀ t now) phase x in
-        let q = take-card h sender nonce card proof best counted showed e (new .0) stands y in
-        goes-to false card₀ (h .turn) waits (Cards nonce (bestOf best proof) (with counted sender) (showedBy best proof sender showed)) (h .step) left (no-done waits refl)
-        (record { new = y .new; seen = q .seen; shown-by = q .shown-by; is-shown = subst (Shown (suc t) (number (bestOf best proof))) (sym better) (q .is-shown) })
+        let q = take-card h sender nonce card proof best counted showed e stands y in
+        goes-to false card₀ (h .turn) waits (Cards nonce (bestOf best proof) (with counted sender) (showedBy best proof sender showed)) (h .step) left refl
+        (record { new = y .new; seen = q .seen; shown-by = q .shown-by; is-shown = subst₂ (Shown (suc t) (number (bestOf best proof))) (sym better) (sym from) (q .is-shown) })
     read-heard card₀ h x (cards-agree sender nonce card proof best counted showed e phase new stands full full′ left) =
         let y : Reading id t₀ t now nonce (number best) counted showed = subst (ReadIn id t₀ t now) phase x in
-        let q = take-card h sender nonce card proof best counted showed e (new .0) stands y in
-        finishes (bestOf best proof) (betterCard best proof card now) (done-is (h .turn) (done (bestOf best proof) (betterCard best proof card now)) Idle (h .step) left)
+        let q = take-card h sender nonce card proof best counted showed e stands y in
+        finishes (bestOf best proof) (betterCard best proof card now) (betterSigners best proof now)
+        (done-is (h .turn) (done (bestOf best proof) (betterCard best proof card now) (betterSigners best proof now)) Idle (h .step) left)
         (record {
           fits = best-fits best proof (carried-fits (subst PhaseFits phase (good .phase-fits)));
           own = λ w. apart (cc);
@@ -514,8 +528,9 @@ module _ (R : Run) where
         })
     read-heard card₀ h x (cards-viewed sender nonce card proof best counted showed e phase new stands full no-writer left) =
         let y : Reading id t₀ t now nonce (number best) counted showed = subst (ReadIn id t₀ t now) phase x in
-        let q = take-card h sender nonce card proof best counted showed e (new .0) stands y in
-        finishes (bestOf best proof) (betterCard best proof card now) (done-is (h .turn) (done (bestOf best proof) (betterCard best proof card now)) Idle (h .step) left)
+        let q = take-card h sender nonce card proof best counted showed e stands y in
+        finishes (bestOf best proof) (betterCard best proof card now) (betterSigners best proof now)
+        (done-is (h .turn) (done (bestOf best proof) (betterCard best proof card now) (betterSigners best proof now)) Idle (h .step) left)
         (record {
           fits = best-fits best proof (carried-fits (subst PhaseFits phase (good .phase-fits)));
           own = λ w. apart (cc);
@@ -523,32 +538,32 @@ module _ (R : Run) where
           above = below (number (bestOf best proof)) (with counted sender) (quorum (with counted sender) full) (q .seen);
           is-shown = q .is-shown;
         })
-    read-heard card₀ h x (cards-differ sender nonce card proof best counted showed shown e phase new stands full better left) =
+    read-heard card₀ h x (cards-differ sender nonce card proof best counted showed shown e phase new stands full better from left) =
         let y : Reading id t₀ t now nonce (number best) counted showed = subst (ReadIn id t₀ t now) phase x in
-        let q = take-card h sender nonce card proof best counted showed e (new .0) stands y in
-        goes-to false card₀ (h .turn) _ (WriteBack (bestOf best proof) (showedBy best proof sender showed)) (h .step) left (no-done _ refl)
+        let q = take-card h sender nonce card proof best counted showed e stands y in
+        goes-to false card₀ (h .turn) _ (WriteBack (bestOf best proof) (showedBy best proof sender showed)) (h .step) left refl
         (record {
           above = below (number (bestOf best proof)) (with counted sender) (quorum (with counted sender) full) (q .seen);
           stored = q .shown-by;
-          is-shown = subst (Shown (suc t) (number (bestOf best proof))) (sym better) (q .is-shown);
+          is-shown = subst₂ (Shown (suc t) (number (bestOf best proof))) (sym better) (sym from) (q .is-shown);
         })
     read-heard card₀ h x (back-counted sender timestamp counted e phase new same-card left) =
         let y : WritingBack t₀ t now (number timestamp) counted = subst (ReadIn id t₀ t now) phase x in
-        goes-to false card₀ (h .turn) waits (WriteBack timestamp (with counted sender)) (h .step) left (no-done waits refl)
+        goes-to false card₀ (h .turn) waits (WriteBack timestamp (with counted sender)) (h .step) left refl
         (record {
           above = y .above;
-          stored = stored-more h sender counted (number timestamp) (new .0) e (y .stored);
-          is-shown = subst (Shown (suc t) (number timestamp)) (sym (same-card .card-kept)) (shown-later t (suc t) (number timestamp) (currentCard now) (omega arith) (y .is-shown));
+          stored = stored-more h sender counted (number timestamp) e (y .stored);
+          is-shown = subst₂ (Shown (suc t) (number timestamp)) (sym (same-card .card-kept)) (sym (same-card .signers-kept)) (shown-later t (suc t) (number timestamp) (currentCard now) (now .signers) (omega arith) (y .is-shown));
         })
     read-heard card₀ h x (back-enough sender timestamp counted e phase new full left) =
         let y : WritingBack t₀ t now (number timestamp) counted = subst (ReadIn id t₀ t now) phase x in
-        finishes timestamp (currentCard now) (done-is (h .turn) (done timestamp (currentCard now)) Idle (h .step) left)
+        finishes timestamp (currentCard now) (now .signers) (done-is (h .turn) (done timestamp (currentCard now) (now .signers)) Idle (h .step) left)
         (record {
           fits = carried-fits (subst PhaseFits phase (good .phase-fits));
           own = λ w. apart (cc);
-          settled = λ w. record { who = has (with counted sender); enough = quorum (with counted sender) full; hold = stored-more h sender counted (number timestamp) (new .0) e (y .stored) };
+          settled = λ w. record { who = has (with counted sender); enough = quorum (with counted sender) full; hold = stored-more h sender counted (number timestamp) e (y .stored) };
           above = y .above;
-          is-shown = shown-later t (suc t) (number timestamp) (currentCard now) (omega arith) (y .is-shown);
+          is-shown = shown-later t (suc t) (number timestamp) (currentCard now) (now .signers) (omega arith) (y .is-shown);
         })
 
     pub heard-next : (w : Bool) (card : List ℕ) → (w ≡ true → CardOfRun R card) → (h : Heard R id t) → During w id card t₀ t now (now .phase) → Next w id card t₀ t

@@ -1,5 +1,5 @@
 -- Finished operations and their order. Assumes nothing.
-use mathlib.Core.Path.{_≡_, refl, sym, ap, subst, _∙_}
+use mathlib.Core.Path.{_≡_, refl, sym, ap, subst, subst₂, _∙_}
 use mathlib.Core.Logic.{_⊎_, inl, inr, ⊎-elim}
 use mathlib.Core.Bool.{Bool, true, false}
 use mathlib.Core.List.{List}
@@ -10,6 +10,7 @@ use native.Mathlib.Nat.{eq-or-lt-of-le}
 use Rattle.base.specs.Outcome.{accepted}
 use Rattle.base.specs.Timestamp.{number}
 use Rattle.base.specs.declared.party.ClientId.{ClientId}
+use Rattle.base.specs.declared.replica_set.ReplicaSet.{ReplicaSet}
 use Rattle.base.specs.declared.timestamp.Timestamp.{Timestamp}
 use Rattle.wire.specs.Sha256.{sha256}
 use Rattle.protocol.specs.Client.{done, ended}
@@ -63,7 +64,7 @@ module _ (R : Run) where
         go (wrote card′ turn e′ b s) = apart (cc)
         go (asked turn e′ b s) =
             moved R false id startCard t₀ t₀ turn _ s (b .phase-is)
-            (record { new = omega arith; seen = λ r k c. none-in r k; shown-by = λ r k c. none-in r k; is-shown = inl (refl, b .card-is) })
+            (record { new = omega arith; seen = λ r k c. none-in r k; shown-by = λ r k c. none-in r k; is-shown = inl (refl, b .card-is, b .no-signers) })
         go (heard h) = apart (cc (h .event-is))
 
     start : (w : Bool) (t₀ : ℕ) (b : Begins R w id (event R t₀)) → Accepted R t₀
@@ -152,7 +153,7 @@ module _ (R : Run) where
         go : t₀ < t → Turned id c w card t₀ t → Under (suc t)
         go k (waits x silent) = x
         go k (acts at (goes-on x not-done)) = x
-        go k (acts at (finishes timestamp card e x)) = absurd (between-done w t (none-between t k l′ at) timestamp card e)
+        go k (acts at (finishes timestamp shown signers e x)) = absurd (between-done w t (none-between t k l′ at) timestamp shown signers e)
         go k (acts at (stops is-write e)) = absurd (between-ended w t is-write (none-between t k l′ at) e)
 
     during : (o : Finished R) (t : ℕ) → o .begun < t → t ≤ o .finished
@@ -161,9 +162,9 @@ module _ (R : Run) where
 
     -- What holds at the first done after a beginning.
     first-done : (id : ClientId) (w : Bool) (t₀ : ℕ) (b : Begins R w id (event R t₀)) (a : Accepted R t₀) (end : ℕ) → t₀ < end → ((t : ℕ) → t₀ < t → t < end → At R t (client id) → Between w t)
-        → At R end (client id) → (timestamp : Timestamp) (card : List ℕ) → answerAt R end ≡ accepted (done timestamp card)
-        → AtDone R w id (begunWith w id (event R t₀) b) t₀ (suc end) timestamp card
-    first-done id w t₀ b a end l none-between at timestamp card e = go (turned id c P w begun (begun-card w id t₀ b a) t₀ end (stays id c w t₀ b a end none-between end l (omega arith)))
+        → At R end (client id) → (timestamp : Timestamp) (card : List ℕ) (signers : ReplicaSet) → answerAt R end ≡ accepted (done timestamp card signers)
+        → AtDone R w id (begunWith w id (event R t₀) b) t₀ (suc end) timestamp card signers
+    first-done id w t₀ b a end l none-between at timestamp card signers e = go (turned id c P w begun (begun-card w id t₀ b a) t₀ end (stays id c w t₀ b a end none-between end l (omega arith)))
       where
         c : R .correct-client id ≡ true
         c = correct-at id end at
@@ -171,21 +172,22 @@ module _ (R : Run) where
         begun : List ℕ
         begun = begunWith w id (event R t₀) b
 
-        go : Turned id c w begun t₀ end → AtDone R w id begun t₀ (suc end) timestamp card
-        go (waits x silent) = absurd (silent at (done timestamp card) e)
-        go (acts at (goes-on x not-done)) = absurd (not-done timestamp card e)
-        go (acts at (finishes timestamp′ card′ e′ x)) =
+        go : Turned id c w begun t₀ end → AtDone R w id begun t₀ (suc end) timestamp card signers
+        go (waits x silent) = absurd (silent at (done timestamp card signers) e)
+        go (acts at (goes-on x not-done)) = absurd (not-done timestamp card signers e)
+        go (acts at (finishes timestamp′ card′ signers′ e′ x)) =
             let same-timestamp : timestamp′ ≡ timestamp = cc in
             let same-card : card′ ≡ card = cc in
-            subst (λ (c : List ℕ). AtDone R w id begun t₀ (suc end) timestamp c) same-card (subst (λ (s : Timestamp). AtDone R w id begun t₀ (suc end) s card′) same-timestamp x)
+            let same-signers : signers′ ≡ signers = cc in
+            subst₂ (AtDone R w id begun t₀ (suc end) timestamp) same-card same-signers (subst (λ (s : Timestamp). AtDone R w id begun t₀ (suc end) s card′ signers′) same-timestamp x)
         go (acts at (stops is-write e′)) = apart (cc)
 
     -- What holds of an operation when it finishes, and of a view.
-    pub finish : (o : Finished R) → AtDone R (o .is-write) (o .id) (cardBegun o) (o .begun) (suc (o .finished)) (o .timestamp) (o .card)
-    finish o = first-done (o .id) (o .is-write) (o .begun) (o .begins) (o .not-refused) (o .finished) (o .after) (λ t l l′ at. between (o .is-write) t (o .none-between t l l′ at)) (o .at-client) (o .timestamp) (o .card) (o .is-done)
+    pub finish : (o : Finished R) → AtDone R (o .is-write) (o .id) (cardBegun o) (o .begun) (suc (o .finished)) (o .timestamp) (o .card) (o .signers)
+    finish o = first-done (o .id) (o .is-write) (o .begun) (o .begins) (o .not-refused) (o .finished) (o .after) (λ t l l′ at. between (o .is-write) t (o .none-between t l l′ at)) (o .at-client) (o .timestamp) (o .card) (o .signers) (o .is-done)
 
-    pub view : (v : Viewed R) → AtDone R false (v .id) startCard (v .begun) (suc (v .finished)) (v .timestamp) (v .card)
-    view v = first-done (v .id) false (v .begun) (v .begins) (v .not-refused) (v .finished) (v .after) (v .none-between) (v .at-client) (v .timestamp) (v .card) (v .is-done)
+    pub view : (v : Viewed R) → AtDone R false (v .id) startCard (v .begun) (suc (v .finished)) (v .timestamp) (v .card) (v .signers)
+    view v = first-done (v .id) false (v .begun) (v .begins) (v .not-refused) (v .finished) (v .after) (v .none-between) (v .at-client) (v .timestamp) (v .card) (v .signers) (v .is-done)
 
     -- ---- Timestamps rise
 
@@ -222,22 +224,25 @@ module _ (R : Run) where
 
     -- ---- One card for a timestamp
 
-    same-shown : (t s : ℕ) (card card′ : List ℕ) → Shown R t s card → Shown R t s card′ → card ≡ card′
-    same-shown t s card card′ (inl a) (inl b) = a .1 ∙ sym (b .1)
-    same-shown t s card card′ (inl a) (inr b) = let z = a .0 in let p = b .positive in absurd (omega arith)
-    same-shown t s card card′ (inr a) (inl b) = let z = b .0 in let p = a .positive in absurd (omega arith)
-    same-shown t s card card′ (inr a) (inr b) = P .different-digests card card′ (a .card-in) (b .card-in) (one-backed R (P .few-faulty) t s (sha256 card) (sha256 card′) (a .backed) (b .backed))
+    module _ (card card′ : List ℕ) (signers signers′ : ReplicaSet) where
+      same-shown : (t s : ℕ) → Shown R t s card signers → Shown R t s card′ signers′ → card ≡ card′
+      same-shown t s (inl a) (inl b) = a .1 ∙ sym (b .1)
+      same-shown t s (inl a) (inr b) = let z = a .0 in let p = b .positive in absurd (omega arith)
+      same-shown t s (inr a) (inl b) = let z = b .0 in let p = a .positive in absurd (omega arith)
+      same-shown t s (inr a) (inr b) =
+          P .different-digests card card′ (a .card-in) (b .card-in) (one-backed R (P .few-faulty) t s (sha256 card) (sha256 card′) signers signers′ (a .backed) (b .backed))
 
-    shown-alike : (t t′ s s′ : ℕ) (card card′ : List ℕ) → Shown R t s card → Shown R t′ s′ card′ → s ≡ s′ → card ≡ card′
-    shown-alike t t′ s s′ card card′ a b e =
-        same-shown (t + t′) s card card′ (shown-later R t (t + t′) s card (omega arith) a) (subst (λ (s : ℕ). Shown R (t + t′) s card′) (sym e) (shown-later R t′ (t + t′) s′ card′ (omega arith) b))
+      shown-alike : (t t′ s s′ : ℕ) → Shown R t s card signers → Shown R t′ s′ card′ signers′ → s ≡ s′ → card ≡ card′
+      shown-alike t t′ s s′ a b e =
+          same-shown (t + t′) s (shown-later R t (t + t′) s card signers (omega arith) a)
+          (subst (λ (s : ℕ). Shown R (t + t′) s card′ signers′) (sym e) (shown-later R t′ (t + t′) s′ card′ signers′ (omega arith) b))
 
     pub one-card : (o o′ : Finished R) → number (o .timestamp) ≡ number (o′ .timestamp) → o .card ≡ o′ .card
-    one-card o o′ e = shown-alike (suc (o .finished)) (suc (o′ .finished)) _ _ (o .card) (o′ .card) (finish o .is-shown) (finish o′ .is-shown) e
+    one-card o o′ e = shown-alike (o .card) (o′ .card) (o .signers) (o′ .signers) (suc (o .finished)) (suc (o′ .finished)) _ _ (finish o .is-shown) (finish o′ .is-shown) e
 
     -- A view at an operation's timestamp shows that operation's card.
     pub view-card : (o : Finished R) (v : Viewed R) → number (o .timestamp) ≡ number (v .timestamp) → o .card ≡ v .card
-    view-card o v e = shown-alike (suc (o .finished)) (suc (v .finished)) _ _ (o .card) (v .card) (finish o .is-shown) (view v .is-shown) e
+    view-card o v e = shown-alike (o .card) (v .card) (o .signers) (v .signers) (suc (o .finished)) (suc (v .finished)) _ _ (finish o .is-shown) (view v .is-shown) e
 
     -- ---- The order is total
 
@@ -302,15 +307,15 @@ module _ (R : Run) where
   earliest : (o o′ : Finished R) → o .id ≡ o′ .id → o .begun ≡ o′ .begun → o .finished < o′ .finished → ⊥
   earliest o o′ i e l =
       let after = o .after in
-      o′ .none-between (o .finished) (omega arith) l (subst (λ (id : ClientId). At R (o .finished) (client id)) i (o .at-client)) .not-done (o .timestamp) (o .card) (o .is-done)
+      o′ .none-between (o .finished) (omega arith) l (subst (λ (id : ClientId). At R (o .finished) (client id)) i (o .at-client)) .not-done (o .timestamp) (o .card) (o .signers) (o .is-done)
 
   -- so they are one.
   pub same-operation : (o o′ : Finished R) → o .begun ≡ o′ .begun → SameOperation R o o′
   same-operation o o′ e =
       let (same-id, same-kind) = same-begins o o′ e in
       let ends : o .finished ≡ o′ .finished = three-ways (o .finished) (o′ .finished) (λ l. absurd (earliest o o′ same-id e l)) (λ k. k) (λ l. absurd (earliest o′ o (sym same-id) (sym e) l)) in
-      let there : answerAt R (o .finished) ≡ accepted (done (o′ .timestamp) (o′ .card)) = ap (answerAt R) ends ∙ o′ .is-done in
-      record { same-id = same-id; same-kind = same-kind; same-end = ends; same-timestamp = cc (o .is-done); same-card = cc (o .is-done) }
+      let there : answerAt R (o .finished) ≡ accepted (done (o′ .timestamp) (o′ .card) (o′ .signers)) = ap (answerAt R) ends ∙ o′ .is-done in
+      record { same-id = same-id; same-kind = same-kind; same-end = ends; same-timestamp = cc (o .is-done); same-card = cc (o .is-done); same-signers = cc (o .is-done) }
 
   pub not-itself : (s : ℕ) (w : Bool) (at : ℕ) → LiesBefore R s w at s w at → ⊥
   not-itself s w at (inl l) = omega arith

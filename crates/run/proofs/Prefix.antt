@@ -67,14 +67,18 @@ module _ (R : Run) (n : ℕ) where
 
   sent-same : (party : Sender) (bytes : List ℕ) (t : ℕ) → t ≤ n → Sent R party bytes t → Sent S party bytes t
   sent-same party bytes t l s =
-      let before = s .earlier in
-      let early : s .time < n = omega arith in
+      let x = s .said in
+      let before = x .earlier in
+      let early : x .time < n = omega arith in
       record {
-        time = s .time;
-        earlier = before;
-        by = (s .by .0, event-same (s .time) early ∙ s .by .1, s .by .2);
         message = s .message;
-        answered = answer-same (s .time) early ∙ s .answered;
+        said =
+            record {
+              time = x .time;
+              earlier = before;
+              by = (x .by .0, event-same (x .time) early ∙ x .by .1, x .by .2);
+              answered = answer-same (x .time) early ∙ x .answered;
+            };
         same-bytes = s .same-bytes;
       }
 

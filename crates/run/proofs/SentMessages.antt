@@ -1,9 +1,9 @@
 -- What correct parties sent, as messages: legal, and what true verdicts say of a message that passed. Assumes nothing.
-use mathlib.Core.Path.{_≡_, sym, ap, subst, _∙_}
+use mathlib.Core.Path.{_≡_, sym, subst}
 use mathlib.Core.Logic.{⊎-elim}
 use mathlib.Core.Bool.{true}
-use mathlib.Core.List.{List, [], _∷_, _++_, map}
-use Prim.Native.Nat.{ℕ, _+_, _≤_, _<_}
+use mathlib.Core.List.{List, [], _∷_, _++_}
+use Prim.Native.Nat.{ℕ, _+_, _≤_}
 use native.Mathlib.Omega.{arith}
 use borrow.Author.Tests.{eqb-true}
 use lib.Dec.{eqb}
@@ -16,7 +16,7 @@ use Rattle.base.proofs.Booleans.{and-true-both, or-true}
 use Rattle.wire.specs.Checks.{all, ownGenuine, genuine}
 use Rattle.wire.specs.Decode.{decode}
 use Rattle.wire.specs.Message.{Message, READ-STAMP, READ, body, Legal}
-use Rattle.wire.specs.Proof.{Entry}
+use Rattle.wire.specs.Proof.{Entry, signers}
 use Rattle.wire.specs.Signatures.{Signature, signedBy, signaturesOf}
 use Rattle.wire.proofs.OneForm.{decoded-legal}
 use Rattle.wire.proofs.RoundTrip.{body-injective}
@@ -25,19 +25,12 @@ use Rattle.protocol.specs.Client.{send}
 use Rattle.protocol.proofs.ClientCases.{LegalAnswer}
 use Rattle.run.specs.Premises.{TrueVerdicts, TrueFor, TrueAt, Premises}
 use Rattle.wire.specs.Acceptance.{senderOf, Sender, replica, client}
-use Rattle.run.specs.Run.{to-replica, to-client, Run, clientAt, answerAt, At, Correct, Sent}
+use Rattle.run.specs.Run.{to-replica, to-client, Run, clientAt, answerAt, At, Correct, Said, Sent}
 use Rattle.run.proofs.Bodies.{covered}
 use Rattle.run.proofs.Turns.{apart, same-replica, ReplicaStep, replica-step, ClientTurn, rested, wrote, asked, heard, client-turn, Heard}
 
 module _ (R : Run) where
-  -- The party was answered with this message before event t.
-  pub record Said (party : Sender) (message : Message) (t : ℕ) : Type 0 where
-    pub time : ℕ
-    pub earlier : time < t
-    pub by : At R time party
-    pub answered : answerAt R time ≡ accepted (send message)
-
-  pub said-later : (party : Sender) (message : Message) (t t′ : ℕ) → t ≤ t′ → Said party message t → Said party message t′
+  pub said-later : (party : Sender) (message : Message) (t t′ : ℕ) → t ≤ t′ → Said R party message t → Said R party message t′
   said-later party message t t′ l s = let before = s .earlier in record { time = s .time; earlier = omega arith; by = s .by; answered = s .answered }
 
   -- What a correct party sends is legal.
@@ -55,10 +48,10 @@ module _ (R : Run) where
       go (heard h) = let same : h .turn .answer ≡ send m = cc (h .step .answer-is) in subst LegalAnswer same (h .facts .legal)
 
   -- A correct party that sent a legal message's bytes sent that message.
-  pub said : (party : Sender) → Correct R party → (message : Message) → Legal message → (t : ℕ) → Sent R party (body message) t → Said party message t
+  pub said : (party : Sender) → Correct R party → (message : Message) → Legal message → (t : ℕ) → Sent R party (body message) t → Said R party message t
   said party c m legal t s =
-      let same : s .message ≡ m = body-injective (s .message) m (sent-legal party c (s .time) (s .message) (s .by) (s .answered) .fits) (legal .fits) (s .same-bytes) in
-      record { time = s .time; earlier = s .earlier; by = s .by; answered = s .answered ∙ ap (λ (x : Message). accepted (send x)) same }
+      let by = s .said in
+      subst (λ (x : Message). Said R party x t) (body-injective (s .message) m (sent-legal party c (by .time) (s .message) (by .by) (by .answered) .fits) (legal .fits) (s .same-bytes)) by
 
   -- ---- True verdicts
 
@@ -87,7 +80,7 @@ module _ (R : Run) where
 
   -- Entries whose verdicts are all 1: each correct signer sent its message.
   pub entry-sent : (t : ℕ) (message : ReplicaId → Message) (entries : List Entry) (verdicts : List ℕ) → length entries ≤ length verdicts → genuine verdicts ≡ true
-      → TrueVerdicts R t (signedBy message entries) verdicts → (id : ReplicaId) → listed (map (λ (entry : Entry). entry .signer) entries) id ≡ true
+      → TrueVerdicts R t (signedBy message entries) verdicts → (id : ReplicaId) → listed (signers entries) id ≡ true
       → R .correct-replica id ≡ true → Sent R (replica id) (body (message id)) t
   unfolding TrueVerdicts listed all
   entry-sent t message [] vs l g h id m c = apart (cc)
@@ -98,7 +91,7 @@ module _ (R : Run) where
       (λ e. let same : x .signer ≡ id = same-replica (x .signer) id (sym (eqb-true (id .0) (x .signer .0) e)) in
       subst (λ (i : ReplicaId). R .correct-replica i ≡ true → Sent R (replica i) (body (message i)) t) same (h .0 (eqb-true v 1 (ones .0))) c)
       (λ e. entry-sent t message xs vs (omega arith) (ones .1) (h .1) id e c)
-      (or-true (eqb (id .0) (x .signer .0)) (listed (map (λ (entry : Entry). entry .signer) xs) id) m)
+      (or-true (eqb (id .0) (x .signer .0)) (listed (signers xs) id) m)
 
   module _ (P : Premises R) where
     -- The message that a client takes at event t was sent by its sender.
@@ -111,10 +104,10 @@ module _ (R : Run) where
     pub heard-legal : (id : ClientId) (t : ℕ) (h : Heard R id t) → Legal (h .message)
     heard-legal id t h = decoded-legal AtClient (h .bytes) (h .message) (h .decoded) (R .have-bytes t (to-client id (h .bytes) (h .verdicts)) (h .event-is))
 
-    pub heard-said : (id : ClientId) (t : ℕ) (h : Heard R id t) (m : Message) → h .message ≡ m → Correct R (senderOf m) → Said (senderOf m) m t
-    heard-said id t h m e = subst (λ (x : Message). Correct R (senderOf x) → Said (senderOf x) x t) e own
+    pub heard-said : (id : ClientId) (t : ℕ) (h : Heard R id t) (m : Message) → h .message ≡ m → Correct R (senderOf m) → Said R (senderOf m) m t
+    heard-said id t h m e = subst (λ (x : Message). Correct R (senderOf x) → Said R (senderOf x) x t) e own
       where
-        own : Correct R (senderOf (h .message)) → Said (senderOf (h .message)) (h .message) t
+        own : Correct R (senderOf (h .message)) → Said R (senderOf (h .message)) (h .message) t
         own c =
             let small = R .have-bytes t (to-client id (h .bytes) (h .verdicts)) (h .event-is) in
             let sent = own-sent t _ _ (h .verdicts) (h .facts .passed .own) (heard-true id t h) c in
@@ -122,11 +115,11 @@ module _ (R : Run) where
             (subst (λ (b : List ℕ). Sent R (senderOf (h .message)) b t) (covered AtClient (h .bytes) (h .message) small (h .decoded)) sent)
 
     -- So was the message that a replica takes.
-    pub step-said : (id : ReplicaId) (t : ℕ) (s : ReplicaStep R id t) (m : Message) → s .message ≡ m → Correct R (senderOf m) → Said (senderOf m) m t
+    pub step-said : (id : ReplicaId) (t : ℕ) (s : ReplicaStep R id t) (m : Message) → s .message ≡ m → Correct R (senderOf m) → Said R (senderOf m) m t
     unfolding TrueAt
-    step-said id t s m e = subst (λ (x : Message). Correct R (senderOf x) → Said (senderOf x) x t) e own
+    step-said id t s m e = subst (λ (x : Message). Correct R (senderOf x) → Said R (senderOf x) x t) e own
       where
-        own : Correct R (senderOf (s .message)) → Said (senderOf (s .message)) (s .message) t
+        own : Correct R (senderOf (s .message)) → Said R (senderOf (s .message)) (s .message) t
         own c =
             let small = R .have-bytes t (to-replica id (s .bytes) (s .verdicts)) (s .event-is) in
             let there : TrueFor R t (s .bytes) (s .verdicts) (decode AtReplica (s .bytes)) = subst (TrueAt R t) (s .event-is) (P .true-verdicts t) in

@@ -2,7 +2,7 @@
 use mathlib.Core.Path.{_≡_, refl, sym, subst, _∙_}
 use mathlib.Core.Logic.{_⊎_, inl, inr, ⊎-elim}
 use mathlib.Core.Bool.{Bool, true, false}
-use mathlib.Core.List.{List, [], _∷_, _++_, map}
+use mathlib.Core.List.{List, [], _∷_, _++_}
 use mathlib.Core.Option.{some}
 use Prim.Native.Nat.{ℕ, zero, suc, _+_, _/_, _≤_, _<_}
 use native.Mathlib.Omega.{arith}
@@ -13,16 +13,20 @@ use lib.ListN.{length, drop, length-append, length-map}
 use Rattle.base.specs.Counting.{count}
 use Rattle.base.specs.Outcome.{accepted, guard}
 use Rattle.base.specs.Party.{replicaCount, quorumSize, isWriter}
+use Rattle.base.specs.Range.{within}
+use Rattle.base.specs.ReplicaSet.{has, size}
 use Rattle.base.specs.Rising.{listed, rising}
 use Rattle.base.specs.declared.party.ClientId.{ClientId}
 use Rattle.base.specs.declared.party.ReplicaId.{ReplicaId}
+use Rattle.base.specs.declared.replica_set.ReplicaSet.{ReplicaSet}
 use Rattle.base.proofs.Booleans.{and-true-both}
+use Rattle.base.proofs.Listed.{members, count-members, rising-size}
 use Rattle.base.proofs.Outcome.{guard-accepted}
 use Rattle.base.proofs.Quorum.{Common, quorums-meet, rising-count}
 use Rattle.base.proofs.Range.{bounds}
 use Rattle.wire.specs.Checks.{all, oneEach, entriesOf, shaped, genuine, issued, proofOutcome}
-use Rattle.wire.specs.Message.{Message, PREPARED, CARD, Legal, Fits, PreparedFits, size}
-use Rattle.wire.specs.Proof.{Entry, PreparedProof}
+use Rattle.wire.specs.Message.{Message, PREPARED, CARD, Legal, Fits, PreparedFits}
+use Rattle.wire.specs.Proof.{Entry, PreparedProof, signers, signerSet}
 use Rattle.wire.specs.Signatures.{preparedSignatures, signaturesOf}
 use Rattle.wire.proofs.ProofBytes.{prepared-rewritten}
 use Rattle.protocol.specs.Client.{send}
@@ -33,9 +37,9 @@ use Rattle.protocol.proofs.ReplicaFacts.{clientOf, SlotRises, prepared-legal}
 use Rattle.run.specs.Claims.{Genuine, OneDigest}
 use Rattle.run.specs.Premises.{TrueVerdicts, FewFaulty, Premises}
 use Rattle.wire.specs.Acceptance.{replica}
-use Rattle.run.specs.Run.{Run, replicaAt, answerAt, At}
+use Rattle.run.specs.Run.{Run, replicaAt, answerAt, At, Said}
 use Rattle.run.proofs.Turns.{correct-replica-range, ReplicaTurn, rests, steps, replica-turn, ReplicaStep, replica-step, Heard}
-use Rattle.run.proofs.SentMessages.{Said, said-later, said, front-true, rest-true, entry-sent, heard-true, heard-legal}
+use Rattle.run.proofs.SentMessages.{said-later, said, front-true, rest-true, entry-sent, heard-true, heard-legal}
 
 -- An event before the next one is this one or an earlier one.
 pub split-last : {P : Type 0} (u t : ℕ) → u < suc t → (u ≡ t → P) → (u < t → P) → P
@@ -102,37 +106,39 @@ module _ (R : Run) where
   one-digest-each : (id : ReplicaId) → R .correct-replica id ≡ true → (t s : ℕ) (d d′ : List ℕ) → Said R (replica id) (PREPARED id s d) t → Said R (replica id) (PREPARED id s d′) t → d ≡ d′
   one-digest-each id c t s d d′ e e′ = ⊎-elim (one-ordered id c s d d′ t e e′) (λ l. sym (one-ordered id c s d′ d t e′ e (omega arith))) (order (e .time) (e′ .time))
 
-  -- A quorum whose correct members sent PREPARED with this timestamp and digest before event t.
-  pub record Backed (t s : ℕ) (d : List ℕ) : Type 0 where
-    pub who : ReplicaId → Bool
-    pub enough : quorumSize (R .f) ≤ count (replicaCount (R .f)) who
-    pub signed : (id : ReplicaId) → who id ≡ true → R .correct-replica id ≡ true → Said R (replica id) (PREPARED id s d) t
+  -- The set is of exactly q replicas, all among 1 to n, whose correct members sent PREPARED with this timestamp and digest before event t.
+  pub record Backed (t s : ℕ) (d : List ℕ) (who : ReplicaSet) : Type 0 where
+    pub exact : size who ≡ quorumSize (R .f)
+    pub enough : quorumSize (R .f) ≤ count (replicaCount (R .f)) (has who)
+    pub signed : (id : ReplicaId) → has who id ≡ true → R .correct-replica id ≡ true → Said R (replica id) (PREPARED id s d) t
 
-  pub backed-later : (t t′ s : ℕ) (d : List ℕ) → t ≤ t′ → Backed t s d → Backed t′ s d
-  backed-later t t′ s d l b = record { who = b .who; enough = b .enough; signed = λ id k c. said-later R (replica id) (PREPARED id s d) t t′ l (b .signed id k c) }
+  pub backed-later : (t t′ s : ℕ) (d : List ℕ) (who : ReplicaSet) → t ≤ t′ → Backed t s d who → Backed t′ s d who
+  backed-later t t′ s d who l b = record { exact = b .exact; enough = b .enough; signed = λ id k c. said-later R (replica id) (PREPARED id s d) t t′ l (b .signed id k c) }
+
+  -- The signers of entries that pass 9, if the correct ones sent it.
+  pub shaped-backed : (t s : ℕ) (d : List ℕ) (entries : List Entry) → shaped (R .f) entries ≡ true
+      → ((id : ReplicaId) → has (signerSet entries) id ≡ true → R .correct-replica id ≡ true → Said R (replica id) (PREPARED id s d) t) → Backed t s d (signerSet entries)
+  unfolding shaped
+  shaped-backed t s d entries shape said-it =
+      let parts = and-true-both (eqb (length entries) (quorumSize (R .f))) (rising 0 (replicaCount (R .f)) (signers entries)) shape in
+      let q : length entries ≡ quorumSize (R .f) = eqb-true (length entries) (quorumSize (R .f)) (parts .0) in
+      let same = length-map entries (λ (entry : Entry). entry .signer) in
+      let among = count-members (replicaCount (R .f)) (signers entries) (omega arith) ∙ rising-count 0 (replicaCount (R .f)) (signers entries) (parts .1) in
+      record { exact = rising-size (replicaCount (R .f)) (signers entries) (omega arith) (parts .1) ∙ same ∙ q; enough = omega arith; signed = said-it }
 
   -- A proof of the right shape whose entries are genuine.
   backed-by : (t : ℕ) (proof : PreparedProof) (verdicts : List ℕ) → PreparedFits proof → shaped (R .f) (proof .entries) ≡ true → length (proof .entries) ≤ length verdicts → genuine verdicts ≡ true
-      → TrueVerdicts R t (preparedSignatures proof) verdicts → Backed t (proof .timestamp) (proof .digest)
-  unfolding shaped
+      → TrueVerdicts R t (preparedSignatures proof) verdicts → Backed t (proof .timestamp) (proof .digest) (signerSet (proof .entries))
   backed-by t proof verdicts fits shape long ones true-ones =
-      let signers = map (λ (entry : Entry). entry .signer) (proof .entries) in
-      let parts = and-true-both (eqb (length (proof .entries)) (quorumSize (R .f))) (rising 0 (replicaCount (R .f)) signers) shape in
-      let size : length (proof .entries) ≡ quorumSize (R .f) = eqb-true (length (proof .entries)) (quorumSize (R .f)) (parts .0) in
-      let counted = rising-count 0 (replicaCount (R .f)) signers (parts .1) in
-      let same = length-map (proof .entries) (λ (entry : Entry). entry .signer) in
-      record {
-        who = listed signers;
-        enough = omega arith;
-        signed = λ id k c.
-            let range = correct-replica-range R id c in
-            said R (replica id) c (PREPARED id (proof .timestamp) (proof .digest)) (prepared-legal id (proof .timestamp) (proof .digest) (omega arith) (fits .0) (fits .1)) t
-            (entry-sent R t (λ id. PREPARED id (proof .timestamp) (proof .digest)) (proof .entries) verdicts long ones true-ones id k c);
-      }
+      shaped-backed t (proof .timestamp) (proof .digest) (proof .entries) shape (λ id k c.
+      let range = correct-replica-range R id c in
+      let is-listed = and-true-both (within 1 16 (id .0)) (listed (signers (proof .entries)) id) (sym (members (signers (proof .entries)) id) ∙ k) .1 in
+      said R (replica id) c (PREPARED id (proof .timestamp) (proof .digest)) (prepared-legal id (proof .timestamp) (proof .digest) (omega arith) (fits .0) (fits .1)) t
+      (entry-sent R t (λ id. PREPARED id (proof .timestamp) (proof .digest)) (proof .entries) verdicts long ones true-ones id is-listed c))
 
   -- The prepared proof of a CARD that a client takes.
   pub card-backed : Premises R → (id : ClientId) (t : ℕ) (h : Heard R id t) (sender : ReplicaId) (nonce : ℕ) (card : List ℕ) (proof : PreparedProof) (addressed : ClientId)
-      → h .message ≡ CARD sender nonce card (some proof) addressed → Passed (R .f) (h .message) (h .verdicts) → Backed t (proof .timestamp) (proof .digest)
+      → h .message ≡ CARD sender nonce card (some proof) addressed → Passed (R .f) (h .message) (h .verdicts) → Backed t (proof .timestamp) (proof .digest) (signerSet (proof .entries))
   unfolding Fits oneEach entriesOf
   card-backed P id t h sender nonce card proof addressed e passed =
       let m = CARD sender nonce card (some proof) addressed in
@@ -149,7 +155,7 @@ module _ (R : Run) where
       dropped (v ∷ vs) l = let both = length-append (proof .entries) [] in omega arith
 
   -- A genuine proof is backed at the end of the list.
-  genuine-backed : (proof : PreparedProof) → Genuine R proof → Backed (length (R .events)) (proof .timestamp) (proof .digest)
+  genuine-backed : (proof : PreparedProof) → Genuine R proof → Backed (length (R .events)) (proof .timestamp) (proof .digest) (signerSet (proof .entries))
   unfolding proofOutcome
   genuine-backed proof g =
       let nine = guard-accepted 9 (shaped (R .f) (proof .entries)) (guard 10 (genuine (g .verdicts)) (guard 11 (issued (proof .timestamp)) (accepted tt))) tt (g .passes) in
@@ -164,13 +170,13 @@ module _ (R : Run) where
     pub meet : (p q : ReplicaId → Bool) → quorumSize (R .f) ≤ count (replicaCount (R .f)) p → quorumSize (R .f) ≤ count (replicaCount (R .f)) q → Common (replicaCount (R .f)) p q (R .correct-replica)
     meet = quorums-meet (R .f) (R .correct-replica) few (bounds 1 5 (R .f) (R .f-in-range) .1)
 
-    pub one-backed : (t s : ℕ) (d d′ : List ℕ) → Backed t s d → Backed t s d′ → d ≡ d′
-    one-backed t s d d′ a b =
-        let c = meet (a .who) (b .who) (a .enough) (b .enough) in
+    pub one-backed : (t s : ℕ) (d d′ : List ℕ) (who who′ : ReplicaSet) → Backed t s d who → Backed t s d′ who′ → d ≡ d′
+    one-backed t s d d′ who who′ a b =
+        let c = meet (has who) (has who′) (a .enough) (b .enough) in
         one-digest-each (c .at) (c .in-r) t s d d′ (a .signed (c .at) (c .in-p) (c .in-r)) (b .signed (c .at) (c .in-q) (c .in-r))
 
     -- "no two genuine prepared proofs, whoever gathered them, carry one stamp and two digests": whatever verdicts were handed over, and whatever the cards.
     pub one-digest : OneDigest R
     one-digest proof proof′ g g′ e =
-        one-backed (length (R .events)) (proof .timestamp) (proof .digest) (proof′ .digest) (genuine-backed proof g)
-        (subst (λ (s : ℕ). Backed (length (R .events)) s (proof′ .digest)) (sym e) (genuine-backed proof′ g′))
+        one-backed (length (R .events)) (proof .timestamp) (proof .digest) (proof′ .digest) _ _ (genuine-backed proof g)
+        (subst (λ (s : ℕ). Backed (length (R .events)) s (proof′ .digest) (signerSet (proof′ .entries))) (sym e) (genuine-backed proof′ g′))

@@ -5,6 +5,7 @@ use mathlib.Core.List.{List}
 use mathlib.Core.Option.{Option, none, some}
 use Prim.Native.Nat.{ℕ}
 use Rattle.base.specs.Timestamp.{number}
+use Rattle.base.specs.declared.replica_set.ReplicaSet.{ReplicaSet}
 use Rattle.base.specs.declared.timestamp.Timestamp.{Timestamp}
 use Rattle.wire.specs.Message.{Message, READ-STAMP, PREPARE, WRITE, READ, STAMP, PREPARED, WRITTEN, CARD}
 use Rattle.wire.specs.Proof.{PreparedProof, WrittenProof}
@@ -42,14 +43,14 @@ isPrepare (send (PREPARED id timestamp digest)) = false
 isPrepare (send (WRITTEN id timestamp)) = false
 isPrepare (send (CARD id nonce card proof addressed)) = false
 isPrepare waits = false
-isPrepare (done timestamp card) = false
+isPrepare (done timestamp card signers) = false
 isPrepare ended = false
 
 -- Whether an answer ends an operation.
 abbrev pub isOver : Answer → Bool
 isOver (send message) = false
 isOver waits = false
-isOver (done timestamp card) = true
+isOver (done timestamp card signers) = true
 isOver ended = true
 
 pub data Stage (before : Client) (turn : Turn) : Type 0 where
@@ -58,8 +59,8 @@ pub data Stage (before : Client) (turn : Turn) : Type 0 where
       → isStamping (turn .next .phase) ≡ false → preparedFor (turn .next .phase) ≡ some timestamp → turn .answer ≡ send (PREPARE (before .id) timestamp (sha256 (currentCard before)) shown last) → Stage before turn
   keeps : (timestamp : ℕ) → preparedFor (before .phase) ≡ some timestamp → preparedFor (turn .next .phase) ≡ some timestamp → isStamping (turn .next .phase) ≡ false
       → isPrepare (turn .answer) ≡ false → isOver (turn .answer) ≡ false → Stage before turn
-  finishes : (timestamp : Timestamp) (card : List ℕ) → preparedFor (before .phase) ≡ some (number timestamp) → isStamping (turn .next .phase) ≡ false
-      → turn .answer ≡ done timestamp card → Stage before turn
+  finishes : (timestamp : Timestamp) (card : List ℕ) (signers : ReplicaSet) → preparedFor (before .phase) ≡ some (number timestamp) → isStamping (turn .next .phase) ≡ false
+      → turn .answer ≡ done timestamp card signers → Stage before turn
   others : preparedFor (before .phase) ≡ none → isStamping (turn .next .phase) ≡ false → isPrepare (turn .answer) ≡ false → Stage before turn
 
 module _ (before : Client) (turn : Turn) where
@@ -73,17 +74,17 @@ module _ (before : Client) (turn : Turn) where
   other was next answer at e₁ e₂ e₃ l = others (ap preparedFor at ∙ e₁) (ap isStamping (l .phase-is) ∙ e₂) (ap isPrepare (l .answer-is) ∙ e₃)
 
   pub stage : (message : Message) → ClientCase before message turn → Stage before turn
-  stage message (stamp-counted sender nonce proof best counted m at new card l) = stamping (ap isStamping at) (ap preparedFor at) card (l .answer-is)
-  stage message (stamps-enough sender nonce proof best counted next shown last m at new q s c d t l) =
+  stage message (stamp-counted sender nonce proof best counted m at new card b l) = stamping (ap isStamping at) (ap preparedFor at) card (l .answer-is)
+  stage message (stamps-enough sender nonce proof best counted next shown last m at new q s c d b t l) =
       prepares (number next) shown last (ap isStamping at) (ap preparedFor at) (ap isStamping (l .phase-is)) (ap preparedFor (l .phase-is)) (l .answer-is)
   stage message (stamps-ended sender nonce proof best counted m at l) = other _ _ _ at refl refl refl l
-  stage message (prepared-counted sender timestamp counted m at new c l) = kept _ _ _ (number timestamp) at refl refl refl refl refl l
-  stage message (prepareds-enough sender timestamp counted proof m at new q c t d l) = kept _ _ _ (number timestamp) at refl refl refl refl refl l
+  stage message (prepared-counted sender timestamp counted m at new q c l) = kept _ _ _ (number timestamp) at refl refl refl refl refl l
+  stage message (prepareds-enough sender timestamp counted proof m at new q c b s t d l) = kept _ _ _ (number timestamp) at refl refl refl refl refl l
   stage message (written-counted sender timestamp counted m at new c l) = kept _ _ _ (number timestamp) at refl refl refl refl refl l
-  stage message (writtens-enough sender timestamp counted m at new q l) = finishes timestamp (currentCard before) (ap preparedFor at) (ap isStamping (l .phase-is)) (l .answer-is)
-  stage message (card-counted sender nonce card proof best counted showed m at new s c l) = other _ _ _ at refl refl refl l
+  stage message (writtens-enough sender timestamp counted m at new q l) = finishes timestamp (currentCard before) (before .signers) (ap preparedFor at) (ap isStamping (l .phase-is)) (l .answer-is)
+  stage message (card-counted sender nonce card proof best counted showed m at new s c b l) = other _ _ _ at refl refl refl l
   stage message (cards-agree sender nonce card proof best counted showed m at new s q a l) = other _ _ _ at refl refl refl l
   stage message (cards-viewed sender nonce card proof best counted showed m at new s q v l) = other _ _ _ at refl refl refl l
-  stage message (cards-differ sender nonce card proof best counted showed shown m at new s q c l) = other _ _ _ at refl refl refl l
+  stage message (cards-differ sender nonce card proof best counted showed shown m at new s q c b l) = other _ _ _ at refl refl refl l
   stage message (back-counted sender timestamp counted m at new c l) = other _ _ _ at refl refl refl l
   stage message (back-enough sender timestamp counted m at new q l) = other _ _ _ at refl refl refl l

@@ -9,6 +9,7 @@ use native.Mathlib.Omega.{arith}
 use Rattle.base.specs.Outcome.{accepted}
 use Rattle.base.specs.Timestamp.{number}
 use Rattle.base.specs.declared.party.ClientId.{ClientId}
+use Rattle.base.specs.declared.replica_set.ReplicaSet.{ReplicaSet}
 use Rattle.base.specs.declared.timestamp.Timestamp.{Timestamp}
 use Rattle.wire.specs.Acceptance.{client}
 use Rattle.wire.specs.Message.{PREPARE}
@@ -33,12 +34,12 @@ module _ (R : Run) where
   not-over : (t : ℕ) (answer : Answer) → answerAt R t ≡ accepted answer → isOver answer ≡ false → GoesOn R t
   not-over t answer e o =
       record {
-        not-done = λ timestamp card q. let is : answer ≡ done timestamp card = cc in apart (cc (o, ap isOver is));
+        not-done = λ timestamp card signers q. let is : answer ≡ done timestamp card signers = cc in apart (cc (o, ap isOver is));
         not-ended = λ q. let is : answer ≡ ended = cc in apart (cc (o, ap isOver is));
       }
 
   silent-goes-on : (t : ℕ) (id : ClientId) → Silent R (client id) t → At R t (client id) → GoesOn R t
-  silent-goes-on t id silent at = record { not-done = λ timestamp card e. silent at (done timestamp card) e; not-ended = λ e. silent at ended e }
+  silent-goes-on t id silent at = record { not-done = λ timestamp card signers e. silent at (done timestamp card signers) e; not-ended = λ e. silent at ended e }
 
   module _ (id : ClientId) (c : R .correct-client id ≡ true) where
     heard-stage : (t : ℕ) (h : Heard R id t) → Stage (clientAt R id t) (h .turn)
@@ -103,7 +104,7 @@ module _ (R : Run) where
                 stamped-on t (ap currentCard (h .step .next-is) ∙ same) (λ at. not-over t waits (h .step .answer-is ∙ ap accepted answer) refl) (ih was)
             by (prepares timestamp shown last was no-timestamp is for answer) = no is
             by (keeps timestamp was is no-stamps no-prepare goes) = no no-stamps
-            by (finishes timestamp card was is answer) = no is
+            by (finishes timestamp card signers was is answer) = no is
             by (others was is no-prepare) = no is
 
     -- ---- A PREPARE is of a write
@@ -133,7 +134,7 @@ module _ (R : Run) where
                 let same-digest : d ≡ sha256 (currentCard (clientAt R id t)) = cc (h .step .answer-is) in
                 record { was-stamping = was; had-no-timestamp = no-timestamp; has-timestamp = next-phase preparedFor t h ∙ for ∙ ap some same-timestamp; digest-is = same-digest }
             by (keeps timestamp was is no-stamps no-prepare goes) = no (h .turn .answer) (h .step .answer-is) no-prepare
-            by (finishes timestamp card was is answer) = no (h .turn .answer) (h .step .answer-is) (ap isPrepare answer)
+            by (finishes timestamp card signers was is answer) = no (h .turn .answer) (h .step .answer-is) (ap isPrepare answer)
             by (others was is no-prepare) = no (h .turn .answer) (h .step .answer-is) no-prepare
 
     -- The write that a PREPARE is of; the digest is its card's.
@@ -206,7 +207,7 @@ module _ (R : Run) where
         go : Turned R (w .id) correct true (w .card) (w .begun) (w .prepared) → Under (suc (w .prepared))
         go (waits x silent) = x
         go (acts at (goes-on x not-done)) = x
-        go (acts at (ends timestamp card e x)) = apart (cc (w .prepares))
+        go (acts at (ends timestamp card signers e x)) = apart (cc (w .prepares))
         go (acts at (stops is-write e)) = apart (cc (w .prepares))
 
     pub chosen : Chosen R (w .id) (w .begun) (w .timestamp)
@@ -220,14 +221,15 @@ module _ (R : Run) where
       at : At R time (client (w .id))
       timestamp : Timestamp
       card : List ℕ
-      is-done : answerAt R time ≡ accepted (done timestamp card)
+      signers : ReplicaSet
+      is-done : answerAt R time ≡ accepted (done timestamp card signers)
       is-timestamp : number timestamp ≡ w .timestamp
       settled : Settled R (suc time) (w .timestamp)
 
     -- The timestamp at event t: kept, or a done with it.
     data Timed (t : ℕ) : Type 0 where
       still : preparedFor (now (suc t) .phase) ≡ some (w .timestamp) → (At R t (client (w .id)) → GoesOn R t) → Timed t
-      done-with : At R t (client (w .id)) → (timestamp : Timestamp) (card : List ℕ) → answerAt R t ≡ accepted (done timestamp card) → number timestamp ≡ w .timestamp → Timed t
+      done-with : At R t (client (w .id)) → (timestamp : Timestamp) (card : List ℕ) (signers : ReplicaSet) → answerAt R t ≡ accepted (done timestamp card signers) → number timestamp ≡ w .timestamp → Timed t
 
     timed : (t : ℕ) → preparedFor (now t .phase) ≡ some (w .timestamp) → Timed t
     timed t has = go (client-turn R (w .id) correct t)
@@ -247,8 +249,8 @@ module _ (R : Run) where
             by (keeps timestamp was is no-stamps no-prepare goes) =
                 let same : timestamp ≡ w .timestamp = cc in
                 still (next-phase (w .id) correct preparedFor t h ∙ is ∙ ap some same) (λ at. not-over t (h .turn .answer) (h .step .answer-is) goes)
-            by (finishes timestamp card was is answer) =
-                done-with (to-client (w .id) (h .bytes) (h .verdicts), h .event-is, refl) timestamp card (h .step .answer-is ∙ ap accepted answer) (cc)
+            by (finishes timestamp card signers was is answer) =
+                done-with (to-client (w .id) (h .bytes) (h .verdicts), h .event-is, refl) timestamp card signers (h .step .answer-is ∙ ap accepted answer) (cc)
             by (others was is no-prepare) = no was
 
     -- Event t while it has its timestamp.
@@ -257,11 +259,11 @@ module _ (R : Run) where
       where
         go : Turned R (w .id) correct true (w .card) (w .begun) t → Timed t → On (suc t) ⊎ Over (suc t)
         go (waits x silent) (still e goes) = inl (x, e)
-        go (waits x silent) (done-with at timestamp card e is) = absurd (silent at (done timestamp card) e)
+        go (waits x silent) (done-with at timestamp card signers e is) = absurd (silent at (done timestamp card signers) e)
         go (acts at (goes-on x not-done)) (still e goes) = inl (x, e)
-        go (acts at (goes-on x not-done)) (done-with at′ timestamp card e is) = absurd (not-done timestamp card e)
-        go (acts at (ends timestamp card e x)) (still e′ goes) = absurd (goes at .not-done timestamp card e)
-        go (acts at (ends timestamp card e x)) (done-with at′ timestamp′ card′ e′ is) =
+        go (acts at (goes-on x not-done)) (done-with at′ timestamp card signers e is) = absurd (not-done timestamp card signers e)
+        go (acts at (ends timestamp card signers e x)) (still e′ goes) = absurd (goes at .not-done timestamp card signers e)
+        go (acts at (ends timestamp card signers e x)) (done-with at′ timestamp′ card′ signers′ e′ is) =
             let same : timestamp ≡ timestamp′ = cc in
             let number-is : number timestamp ≡ w .timestamp = ap number same ∙ is in
             inr (record {
@@ -271,12 +273,13 @@ module _ (R : Run) where
               at = at;
               timestamp = timestamp;
               card = card;
+              signers = signers;
               is-done = e;
               is-timestamp = number-is;
               settled = subst (Settled R (suc t)) number-is (x .settled (R .writers-begin (w .begun) (w .id) (w .card) (w .begins)));
             })
         go (acts at (stops is-write e)) (still e′ goes) = absurd (goes at .not-ended e)
-        go (acts at (stops is-write e)) (done-with at′ timestamp card e′ is) = apart (cc)
+        go (acts at (stops is-write e)) (done-with at′ timestamp card signers e′ is) = apart (cc)
 
     -- It has its timestamp, or was done with it.
     until : (t : ℕ) → w .prepared < t → On t ⊎ Over t
@@ -293,6 +296,7 @@ module _ (R : Run) where
               at = o .at;
               timestamp = o .timestamp;
               card = o .card;
+              signers = o .signers;
               is-done = o .is-done;
               is-timestamp = o .is-timestamp;
               settled = o .settled;
@@ -329,22 +333,22 @@ module _ (R : Run) where
         not-yet k =
             let after = o .after in
             split-last (o .finished) (w .prepared) (omega arith)
-            (λ q. let is : answerAt R (w .prepared) ≡ accepted (done (o .timestamp) (o .card)) = rw q at (o .is-done) in apart (cc (w .prepares)))
-            (λ l. w .none-between (o .finished) (omega arith) l at .not-done (o .timestamp) (o .card) (o .is-done))
+            (λ q. let is : answerAt R (w .prepared) ≡ accepted (done (o .timestamp) (o .card) (o .signers)) = rw q at (o .is-done) in apart (cc (w .prepares)))
+            (λ l. w .none-between (o .finished) (omega arith) l at .not-done (o .timestamp) (o .card) (o .signers) (o .is-done))
 
         early : Over (o .finished) → ⊥
         early x =
             let since = x .since in
             let after = w .after in
             let by : At R (x .time) (client (o .id)) = subst (λ (i : ClientId). At R (x .time) (client i)) (sym (same-writer o e .0)) (x .at) in
-            o .none-between (x .time) (omega arith) (x .earlier) by .not-done (x .timestamp) (x .card) (x .is-done)
+            o .none-between (x .time) (omega arith) (x .earlier) by .not-done (x .timestamp) (x .card) (x .signers) (x .is-done)
 
         now-done : w .prepared < o .finished → On (o .finished) → number (o .timestamp) ≡ w .timestamp
         now-done k on = go (timed (o .finished) (on .1))
           where
             go : Timed (o .finished) → number (o .timestamp) ≡ w .timestamp
-            go (still x goes) = absurd (goes at .not-done (o .timestamp) (o .card) (o .is-done))
-            go (done-with at′ timestamp card x is) = let same : timestamp ≡ o .timestamp = cc (o .is-done) in ap number (sym same) ∙ is
+            go (still x goes) = absurd (goes at .not-done (o .timestamp) (o .card) (o .signers) (o .is-done))
+            go (done-with at′ timestamp card signers x is) = let same : timestamp ≡ o .timestamp = cc (o .is-done) in ap number (sym same) ∙ is
 
     -- It has one PREPARE.
     same-begins : (w′ : Write R) → w .begun ≡ w′ .begun → (w .id ≡ w′ .id) × (w .card ≡ w′ .card)
@@ -368,7 +372,7 @@ module _ (R : Run) where
         early x =
             let since = x .since in
             let after = w .after in
-            w′ .none-between (x .time) (omega arith) (x .earlier) (subst (λ (i : ClientId). At R (x .time) (client i)) same (x .at)) .not-done (x .timestamp) (x .card) (x .is-done)
+            w′ .none-between (x .time) (omega arith) (x .earlier) (subst (λ (i : ClientId). At R (x .time) (client i)) same (x .at)) .not-done (x .timestamp) (x .card) (x .signers) (x .is-done)
 
   -- So what begins with one event is one write.
   pub same-write : Premises R → (w w′ : Write R) → w .begun ≡ w′ .begun → (w .timestamp ≡ w′ .timestamp) × (w .card ≡ w′ .card)

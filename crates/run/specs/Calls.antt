@@ -52,7 +52,7 @@ givenByClient call = record { answer = call .answer; card-length = call .«card_
 abbrev pub givenFor : List ℕ → Outcome Answer → Given
 givenFor old (accepted (send message)) = withoutCard (Send (length (unsigned message))) (inFront (unsigned message) old)
 givenFor old (accepted waits) = withoutCard Counted old
-givenFor old (accepted (done timestamp card)) = record { answer = Done timestamp; card-length = length card; card = filled 17 card; output = old }
+givenFor old (accepted (done timestamp card signers)) = record { answer = Done timestamp signers; card-length = length card; card = filled 17 card; output = old }
 givenFor old (accepted ended) = withoutCard Ended old
 givenFor old (refused number) = withoutCard (Refused number) old
 

@@ -11,6 +11,7 @@ use Rattle.base.specs.Outcome.{accepted}
 use Rattle.base.specs.Party.{isWriter, isViewer}
 use Rattle.base.specs.Timestamp.{number}
 use Rattle.base.specs.declared.party.ClientId.{ClientId}
+use Rattle.base.specs.declared.replica_set.ReplicaSet.{ReplicaSet}
 use Rattle.base.specs.declared.timestamp.Timestamp.{Timestamp}
 use Rattle.protocol.specs.Client.{done, ended}
 use Rattle.wire.specs.Checks.{proofOutcome}
@@ -42,14 +43,15 @@ module _ (R : Run) where
   Begins false id e = e ≡ some (begins-read id)
 
   abbrev pub NotDone : ℕ → Type 0
-  NotDone t = (timestamp : Timestamp) (card : List ℕ) → answerAt R t ≡ accepted (done timestamp card) → ⊥
+  NotDone t = (timestamp : Timestamp) (card : List ℕ) (signers : ReplicaSet) → answerAt R t ≡ accepted (done timestamp card signers) → ⊥
 
   -- Neither done nor ended.
   pub record GoesOn (t : ℕ) : Type 0 where
     pub not-done : NotDone t
     pub not-ended : answerAt R t ≡ accepted ended → ⊥
 
-  -- "It is finished by its desk's first done after that, if no ended comes between; its stamp and card are those of that done."
+  -- "It is finished by its desk's first done after that, if no ended comes between; its stamp and card are those of that done." So are
+  -- the card's signers (document 02, #102).
   pub record Finished : Type 0 where
     pub id : ClientId
     -- Reads of viewing clients "are left out of the ordering of reads and writes".
@@ -59,11 +61,12 @@ module _ (R : Run) where
     pub finished : ℕ
     pub timestamp : Timestamp
     pub card : List ℕ
+    pub signers : ReplicaSet
     pub begins : Begins is-write id (event R begun)
     pub not-refused : Accepted R begun
     pub after : begun < finished
     pub at-client : At R finished (client id)
-    pub is-done : answerAt R finished ≡ accepted (done timestamp card)
+    pub is-done : answerAt R finished ≡ accepted (done timestamp card signers)
     pub none-between : (t : ℕ) → begun < t → t < finished → At R t (client id) → GoesOn t
 
   -- A view (document 02, #101): a viewing client's, from its READ to the client's first done after that.
@@ -74,11 +77,12 @@ module _ (R : Run) where
     pub finished : ℕ
     pub timestamp : Timestamp
     pub card : List ℕ
+    pub signers : ReplicaSet
     pub begins : event R begun ≡ some (begins-read id)
     pub not-refused : Accepted R begun
     pub after : begun < finished
     pub at-client : At R finished (client id)
-    pub is-done : answerAt R finished ≡ accepted (done timestamp card)
+    pub is-done : answerAt R finished ≡ accepted (done timestamp card signers)
     pub none-between : (t : ℕ) → begun < t → t < finished → At R t (client id) → NotDone t
 
   -- Two that are one operation. `same-operation` proves it of any two that begin with one event.
@@ -88,6 +92,7 @@ module _ (R : Run) where
     pub same-end : o .finished ≡ o′ .finished
     pub same-timestamp : o .timestamp ≡ o′ .timestamp
     pub same-card : o .card ≡ o′ .card
+    pub same-signers : o .signers ≡ o′ .signers
 
   -- "One finished before another began if the first's done stands earlier in the list than the other's beginning."
   abbrev pub FinishedBefore : Finished → Finished → Type 0

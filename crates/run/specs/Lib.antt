@@ -6,3 +6,4 @@ pub mod Premises
 pub mod ReadsFrom
 pub mod Run
 pub mod Views
+pub mod Vouching

@@ -130,11 +130,15 @@ module _ (R : Run) where
   abbrev pub Correct : Sender → Type 0
   Correct party = CorrectIn (R .correct-replica) (R .correct-client) party
 
-  -- "A party sent a message earlier if one of its earlier events was answered with it, all bytes before the seal being equal."
-  pub record Sent (party : Sender) (bytes : List ℕ) (t : ℕ) : Type 0 where
+  -- "one of its earlier events was answered with it": the party said this message before event t.
+  pub record Said (party : Sender) (message : Message) (t : ℕ) : Type 0 where
     pub time : ℕ
     pub earlier : time < t
     pub by : At time party
-    pub message : Message
     pub answered : answerAt time ≡ accepted (send message)
+
+  -- "A party sent a message earlier if one of its earlier events was answered with it, all bytes before the seal being equal."
+  pub record Sent (party : Sender) (bytes : List ℕ) (t : ℕ) : Type 0 where
+    pub message : Message
+    pub said : Said party message t
     pub same-bytes : body message ≡ bytes

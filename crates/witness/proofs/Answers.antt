@@ -8,6 +8,7 @@ use borrow.Author.Tests.{eqb-false}
 use lib.Dec.{eqb}
 use lib.ListN.{getD}
 use Rattle.base.specs.Outcome.{Outcome, accepted, refused}
+use Rattle.base.specs.declared.replica_set.ReplicaSet.{ReplicaSet}
 use Rattle.base.specs.declared.timestamp.Timestamp.{Timestamp}
 use Rattle.protocol.specs.Client.{Answer, send, waits, done, ended}
 use Rattle.wire.specs.Message.{Message, body}
@@ -19,11 +20,14 @@ no-test h = absurd (false≢true h)
 
 -- ---- Answers
 
+abbrev doneCode : Timestamp → List ℕ → ReplicaSet → List ℕ
+doneCode timestamp card signers = timestamp .count ∷ timestamp .client .0 ∷ signers .0 ∷ card
+
 -- A message counts by the bytes that its signature covers.
 unfoldable pub code : Outcome Answer → List ℕ
 code (accepted (send message)) = 0 ∷ body message
 code (accepted waits) = 1 ∷ []
-code (accepted (done timestamp card)) = 2 ∷ timestamp .count ∷ timestamp .client .0 ∷ card
+code (accepted (done timestamp card signers)) = 2 ∷ doneCode timestamp card signers
 code (accepted ended) = 3 ∷ []
 code (refused number) = 4 ∷ number ∷ []
 
@@ -34,35 +38,37 @@ pub is-sent : (answer : Outcome Answer) (message : Message) → code answer ≡ 
 unfolding code
 is-sent (accepted (send m)) message e = (m, refl, cc)
 is-sent (accepted waits) message e = other-code 1 0 [] (body message) refl e
-is-sent (accepted (done timestamp card)) message e = other-code 2 0 (timestamp .count ∷ timestamp .client .0 ∷ card) (body message) refl e
+is-sent (accepted (done timestamp card signers)) message e = other-code 2 0 (doneCode timestamp card signers) (body message) refl e
 is-sent (accepted ended) message e = other-code 3 0 [] (body message) refl e
 is-sent (refused number) message e = other-code 4 0 (number ∷ []) (body message) refl e
 
-pub is-done : (answer : Outcome Answer) (timestamp : Timestamp) (card : List ℕ) → code answer ≡ code (accepted (done timestamp card)) → answer ≡ accepted (done timestamp card)
-unfolding code
-is-done (accepted (send m)) timestamp card e = other-code 0 2 (body m) (timestamp .count ∷ timestamp .client .0 ∷ card) refl e
-is-done (accepted waits) timestamp card e = other-code 1 2 [] (timestamp .count ∷ timestamp .client .0 ∷ card) refl e
-is-done (accepted (done t c)) timestamp card e =
-    let counted : t .count ≡ timestamp .count = cc in
-    let clients : t .client .0 ≡ timestamp .client .0 = cc in
-    let cards : c ≡ card = cc in
-    λ i. accepted (done (record { count = counted i; client = record { 0 = clients i } }) (cards i))
-is-done (accepted ended) timestamp card e = other-code 3 2 [] (timestamp .count ∷ timestamp .client .0 ∷ card) refl e
-is-done (refused number) timestamp card e = other-code 4 2 (number ∷ []) (timestamp .count ∷ timestamp .client .0 ∷ card) refl e
+module _ (timestamp : Timestamp) (card : List ℕ) (signers : ReplicaSet) where
+  pub is-done : (answer : Outcome Answer) → code answer ≡ code (accepted (done timestamp card signers)) → answer ≡ accepted (done timestamp card signers)
+  unfolding code
+  is-done (accepted (send m)) e = other-code 0 2 (body m) (doneCode timestamp card signers) refl e
+  is-done (accepted waits) e = other-code 1 2 [] (doneCode timestamp card signers) refl e
+  is-done (accepted (done t c s)) e =
+      let counted : t .count ≡ timestamp .count = cc in
+      let clients : t .client .0 ≡ timestamp .client .0 = cc in
+      let sets : s .0 ≡ signers .0 = cc in
+      let cards : c ≡ card = cc in
+      λ i. accepted (done (record { count = counted i; client = record { 0 = clients i } }) (cards i) (record { 0 = sets i }))
+  is-done (accepted ended) e = other-code 3 2 [] (doneCode timestamp card signers) refl e
+  is-done (refused number) e = other-code 4 2 (number ∷ []) (doneCode timestamp card signers) refl e
 
 pub is-accepted : (answer : Outcome Answer) (told : Answer) → code answer ≡ code (accepted told) → (a : Answer) × (answer ≡ accepted a)
 unfolding code
 is-accepted (accepted a) told e = (a, refl)
 is-accepted (refused number) (send message) e = other-code 4 0 (number ∷ []) (body message) refl e
 is-accepted (refused number) waits e = other-code 4 1 (number ∷ []) [] refl e
-is-accepted (refused number) (done timestamp card) e = other-code 4 2 (number ∷ []) (timestamp .count ∷ timestamp .client .0 ∷ card) refl e
+is-accepted (refused number) (done timestamp card signers) e = other-code 4 2 (number ∷ []) (doneCode timestamp card signers) refl e
 is-accepted (refused number) ended e = other-code 4 3 (number ∷ []) [] refl e
 
 pub is-refused : (answer : Outcome Answer) (number : ℕ) → code answer ≡ code (refused number) → answer ≡ refused number
 unfolding code
 is-refused (accepted (send message)) number e = other-code 0 4 (body message) (number ∷ []) refl e
 is-refused (accepted waits) number e = other-code 1 4 [] (number ∷ []) refl e
-is-refused (accepted (done timestamp card)) number e = other-code 2 4 (timestamp .count ∷ timestamp .client .0 ∷ card) (number ∷ []) refl e
+is-refused (accepted (done timestamp card signers)) number e = other-code 2 4 (doneCode timestamp card signers) (number ∷ []) refl e
 is-refused (accepted ended) number e = other-code 3 4 [] (number ∷ []) refl e
 is-refused (refused other) number e = let same : other ≡ number = cc in λ i. refused (same i)
 
@@ -86,6 +92,6 @@ pub is-counted : (answer : Outcome Answer) → isCounted (code answer) ≡ true 
 unfolding code
 is-counted (accepted (send message)) h = no-test h
 is-counted (accepted waits) h = refl
-is-counted (accepted (done timestamp card)) h = no-test h
+is-counted (accepted (done timestamp card signers)) h = no-test h
 is-counted (accepted ended) h = no-test h
 is-counted (refused number) h = no-test h

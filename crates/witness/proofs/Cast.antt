@@ -7,6 +7,7 @@ use Prim.Native.Nat.{ℕ, _+_}
 use lib.ListN.{replicate}
 use Rattle.base.specs.declared.party.ClientId.{ClientId}
 use Rattle.base.specs.declared.party.ReplicaId.{ReplicaId}
+use Rattle.base.specs.declared.replica_set.ReplicaSet.{ReplicaSet}
 use Rattle.base.specs.declared.timestamp.Timestamp.{Timestamp}
 use Rattle.protocol.specs.Parts.{startCard}
 use Rattle.wire.specs.Message.{Message, CARD, encode}
@@ -57,6 +58,13 @@ abbrev pub 3·1 : ℕ
 
 abbrev pub at-1·1 : Timestamp
 at-1·1 = record { count = 1; client = client-1 }
+
+-- Sets of replicas as 16 bits, replica 1 lowest: 1, 2 and 3, and 1, 2 and 4.
+abbrev pub by-1-2-3 : ReplicaSet
+by-1-2-3 = record { 0 = 0x0007 }
+
+abbrev pub by-1-2-4 : ReplicaSet
+by-1-2-4 = record { 0 = 0x000B }
 
 -- Signatures are made up: 64 times the same byte.
 abbrev pub signature : ReplicaId → List ℕ

@@ -3,7 +3,7 @@ use Rattle.base.specs.BigEndian.{fromBytes, toBytes}
 use Rattle.base.specs.Counting.{count}
 use Rattle.base.specs.Outcome.{guard}
 use Rattle.base.specs.Range.{within}
-use Rattle.base.specs.ReplicaSet.{has, with}
+use Rattle.base.specs.ReplicaSet.{has, with, withAll}
 use Rattle.base.specs.Rising.{rising}
 use Rattle.base.specs.Same.{same}
 use Rattle.protocol.specs.Client.{gathered, beginWrite, beginRead, afterStamp, onStamp, afterPrepared, onPrepared, afterWritten, afterWriteBack, onWritten, afterCard, countCard, onCard, clientStep, onReply}
@@ -24,7 +24,7 @@ unfolding fromBytes toBytes guard within same rules place field kinds ofKind fra
 messages = tt
 
 unfoldable pub steps : Unit {0}
-unfolding messages count has with rising entriesOf all oneEach shaped proven checked admits admitted proofOutcome table readFields goodCardMap readCard freshRegister afterPrepare afterWrite onRequest replicaStep gathered beginWrite beginRead afterStamp onStamp afterPrepared onPrepared afterWritten afterWriteBack onWritten afterCard countCard onCard onReply clientStep afterView onViewerReply viewerStep replicaAt clientAt answerTo
+unfolding messages count has with withAll rising entriesOf all oneEach shaped proven checked admits admitted proofOutcome table readFields goodCardMap readCard freshRegister afterPrepare afterWrite onRequest replicaStep gathered beginWrite beginRead afterStamp onStamp afterPrepared onPrepared afterWritten afterWriteBack onWritten afterCard countCard onCard onReply clientStep afterView onViewerReply viewerStep replicaAt clientAt answerTo
 steps = tt
 
 unfoldable pub digests : Unit {0}

@@ -8,7 +8,7 @@ use Rattle.protocol.specs.Client.{send, waits, done}
 use Rattle.run.specs.Run.{begins-write, to-replica, to-client}
 use Rattle.wire.specs.Message.{Message, READ-STAMP, PREPARE, WRITE, STAMP, PREPARED, WRITTEN, CARD}
 use Rattle.wire.specs.Proof.{PreparedProof}
-use Rattle.witness.proofs.Cast.{replica-1, replica-2, replica-4, client-1, 1·1, at-1·1, entry, from-replica, from-client, one, four, service, service-digest}
+use Rattle.witness.proofs.Cast.{replica-1, replica-2, replica-4, client-1, 1·1, at-1·1, by-1-2-4, entry, from-replica, from-client, one, four, service, service-digest}
 use Rattle.witness.proofs.Story.{Line, _↝_}
 
 -- The faulty replica's signature counts in the proof.
@@ -63,5 +63,5 @@ write-done =
     to-replica replica-2 (from-client client-1 write) four ↝ send (written replica-2)
     ∷ to-client client-1 (from-replica replica-1 written) one ↝ waits
     ∷ to-client client-1 (from-replica replica-2 written) one ↝ waits
-    ∷ to-client client-1 (from-replica replica-4 written) one ↝ done at-1·1 service
+    ∷ to-client client-1 (from-replica replica-4 written) one ↝ done at-1·1 service by-1-2-4
     ∷ []

@@ -1,26 +1,31 @@
 -- A run at f = 1 that meets the premises, so that the theorem says something of it: three writes, two reads, replica 4 and client 4 faulty. Assumes nothing.
 use mathlib.Core.Path.{_≡_, refl, subst}
+use mathlib.Core.Logic.{⊎-elim}
 use mathlib.Core.Bool.{true, false, false≢true}
 use mathlib.Core.List.{List, [], _∷_, _++_}
 use mathlib.Core.Option.{none, some}
 use Prim.Native.Nat.{ℕ, _<_}
+use native.Mathlib.Omega.{arith}
 use lib.Dec.{lit<, lit≤}
 use Rattle.base.specs.Counting.{count}
 use Rattle.base.specs.Outcome.{accepted, refused}
 use Rattle.base.specs.Range.{within}
+use Rattle.base.specs.ReplicaSet.{has}
 use Rattle.base.specs.declared.party.ClientId.{ClientId}
 use Rattle.base.specs.declared.party.ReplicaId.{ReplicaId}
 use Rattle.base.specs.declared.timestamp.Timestamp.{Timestamp}
 use Rattle.protocol.specs.Client.{send, waits, done}
-use Rattle.run.proofs.Demand3.{demand-3}
+use Rattle.run.proofs.Demand3.{demand-3, vouching}
 use Rattle.run.specs.Claims.{Finished, Genuine, Claims}
 use Rattle.run.specs.Premises.{Premises}
-use Rattle.run.specs.Run.{begins-write, begins-read, to-replica, to-client, Run, event, answerAt, At, Correct, Sent}
+use Rattle.run.specs.Vouching.{Vouching}
+use Rattle.run.specs.Run.{begins-write, begins-read, to-replica, to-client, Run, event, answerAt, At, Correct, Said, Sent}
 use Rattle.wire.specs.Acceptance.{replica, client}
 use Rattle.wire.specs.Message.{Message, READ-STAMP, PREPARE, WRITE, READ, STAMP, PREPARED, WRITTEN}
 use Rattle.wire.specs.Proof.{PreparedProof, WrittenProof}
+use Rattle.wire.specs.Sha256.{sha256}
 use Rattle.witness.proofs.Answers.{code}
-use Rattle.witness.proofs.Cast.{replica-1, replica-2, replica-3, replica-4, client-1, client-2, client-3, client-4, 1·1, 1·4, 2·2, 3·1, at-1·1, entry, from-replica, from-client, stale, one, three, four, seven, not-genuine, service, lathe, scrapped, service-digest, lathe-digest, cards, right-digests, different-cards}
+use Rattle.witness.proofs.Cast.{replica-1, replica-2, replica-3, replica-4, client-1, client-2, client-3, client-4, 1·1, 1·4, 2·2, 3·1, at-1·1, by-1-2-4, entry, from-replica, from-client, stale, one, three, four, seven, not-genuine, service, lathe, scrapped, service-digest, lathe-digest, cards, right-digests, different-cards}
 use Rattle.witness.proofs.Computing.{messages, steps, digests}
 use Rattle.witness.proofs.FirstWrite.{proof, prepared, write, written, shows, write-under-way, write-done}
 use Rattle.witness.proofs.Replay.{plays, freshStore, played}
@@ -113,7 +118,7 @@ story =
     ∷ to-replica replica-2 (from-client client-2 (asks-card client-2)) one ↝ send (shows 1 client-2 replica-2)
     ∷ to-client client-2 (from-replica replica-1 (shows 1 client-2)) four ↝ waits
     ∷ to-client client-2 (from-replica replica-2 (shows 1 client-2)) four ↝ waits
-    ∷ to-client client-2 (from-replica replica-4 (shows 1 client-2)) four ↝ done at-1·1 service
+    ∷ to-client client-2 (from-replica replica-4 (shows 1 client-2)) four ↝ done at-1·1 service by-1-2-4
     -- 22 and 23: client 4 asks replica 3 for 1.4 with one digest, and then with another.
     ∷ to-replica replica-3 (from-client client-4 (asks-1·4 service-digest)) one ↝ send (PREPARED replica-3 1·4 service-digest)
     ∷ to-replica replica-3 (from-client client-4 (asks-1·4 lathe-digest)) one ↛ 15
@@ -133,7 +138,7 @@ story =
     ∷ to-client client-2 (from-replica replica-4 stamp-2) four ↝ send prepare-2
     -- 36 and 37: replica 3, which held 0.0, takes what client 3 writes back: the read is done, while the write goes on.
     ∷ to-replica replica-3 (from-client client-3 write-back) four ↝ send (written replica-3)
-    ∷ to-client client-3 (from-replica replica-3 written) one ↝ done at-1·1 service
+    ∷ to-client client-3 (from-replica replica-3 written) one ↝ done at-1·1 service by-1-2-4
     -- 38 to 42: the PREPAREDs of 2.2.
     ∷ to-replica replica-1 (from-client client-2 prepare-2) four ↝ send (prepared-2 replica-1)
     ∷ to-replica replica-2 (from-client client-2 prepare-2) four ↝ send (prepared-2 replica-2)
@@ -145,7 +150,7 @@ story =
     ∷ to-replica replica-2 (from-client client-2 write-2) four ↝ send (written-2 replica-2)
     ∷ to-client client-2 (from-replica replica-1 written-2) one ↝ waits
     ∷ to-client client-2 (from-replica replica-2 written-2) one ↝ waits
-    ∷ to-client client-2 (from-replica replica-4 written-2) one ↝ done at-2·2 lathe
+    ∷ to-client client-2 (from-replica replica-4 written-2) one ↝ done at-2·2 lathe by-1-2-4
     -- 48 to 54: client 1 begins its second write, and is busy then. It asks for 3.1.
     ∷ begins-write client-1 service ↝ send asks-stamp-3
     ∷ begins-read client-1 ↛ 17
@@ -166,7 +171,7 @@ story =
     ∷ to-replica replica-2 (from-client client-1 write-3) four ↝ send (written-3 replica-2)
     ∷ to-client client-1 (from-replica replica-1 written-3) one ↝ waits
     ∷ to-client client-1 (from-replica replica-2 written-3) one ↝ waits
-    ∷ to-client client-1 (from-replica replica-4 written-3) one ↝ done at-3·1 service
+    ∷ to-client client-1 (from-replica replica-4 written-3) one ↝ done at-3·1 service by-1-2-4
     -- 66: client 4 shows the proof of 1.1 with another card.
     ∷ to-replica replica-3 (from-client client-4 other-card) four ↛ 14
     ∷ []
@@ -207,11 +212,11 @@ claims = demand-3 run premises
 
 pub first-write : Finished run
 unfolding story code messages
-first-write = finished-told run story as-told client-1 0 15 _ _ _ at-1·1 service refl (lit< tt) refl refl refl true (service, refl) refl
+first-write = finished-told run story as-told client-1 0 15 _ _ _ at-1·1 service by-1-2-4 refl (lit< tt) refl refl refl true (service, refl) refl
 
 pub read : Finished run
 unfolding story code messages
-read = finished-told run story as-told client-2 16 21 _ _ _ at-1·1 service refl (lit< tt) refl refl refl false refl refl
+read = finished-told run story as-told client-2 16 21 _ _ _ at-1·1 service by-1-2-4 refl (lit< tt) refl refl refl false refl refl
 
 -- Client 2 sends nothing after its READ.
 pub in-one-phase : (t : ℕ) → 16 < t → t < 21 → At run t (client client-2) → answerAt run t ≡ accepted waits
@@ -220,15 +225,38 @@ in-one-phase = only-counted run story as-told client-2 16 21 refl
 
 pub read-with-write-back : Finished run
 unfolding story code messages
-read-with-write-back = finished-told run story as-told client-3 24 37 _ _ _ at-1·1 service refl (lit< tt) refl refl refl false refl refl
+read-with-write-back = finished-told run story as-told client-3 24 37 _ _ _ at-1·1 service by-1-2-4 refl (lit< tt) refl refl refl false refl refl
 
 pub second-write : Finished run
 unfolding story code messages
-second-write = finished-told run story as-told client-2 30 47 _ _ _ at-2·2 lathe refl (lit< tt) refl refl refl true (lathe, refl) refl
+second-write = finished-told run story as-told client-2 30 47 _ _ _ at-2·2 lathe by-1-2-4 refl (lit< tt) refl refl refl true (lathe, refl) refl
 
 pub third-write : Finished run
 unfolding story code messages
-third-write = finished-told run story as-told client-1 48 65 _ _ _ at-3·1 service refl (lit< tt) refl refl refl true (service, refl) refl
+third-write = finished-told run story as-told client-1 48 65 _ _ _ at-3·1 service by-1-2-4 refl (lit< tt) refl refl refl true (service, refl) refl
+
+-- ---- Who vouched for the cards
+
+pub vouched : Vouching run
+vouched = vouching run premises
+
+-- All show replicas 1, 2 and 4, whose PREPAREDs made the proofs: the faulty replica's bit among them.
+pub signers : (first-write .signers ≡ by-1-2-4) × (read .signers ≡ by-1-2-4) × (read-with-write-back .signers ≡ by-1-2-4) × (second-write .signers ≡ by-1-2-4) × (third-write .signers ≡ by-1-2-4)
+unfolding finished-told first-write read read-with-write-back second-write third-write
+signers = (refl, refl, refl, refl, refl)
+
+-- They are not the replicas that showed a read its card: to this one replica 4 showed 0.0, and replica 3, which took the
+-- write-back and made it done, is not among them.
+pub signers-are-not-those-who-showed :
+    (has (read-with-write-back .signers) replica-4 ≡ true) × (event run 29 ≡ some (to-client client-3 (from-replica replica-4 (stale 1 client-3)) one))
+    × (has (read-with-write-back .signers) replica-3 ≡ false) × (event run 37 ≡ some (to-client client-3 (from-replica replica-3 written) one))
+unfolding run story finished-told read-with-write-back has within
+signers-are-not-those-who-showed = (refl, refl, refl, refl)
+
+-- What the theorem says of that read: replica 2, which is correct, said PREPARED for its card.
+pub replica-2-vouched : Said run (replica replica-2) (PREPARED replica-2 1·1 (sha256 service)) 38
+unfolding run finished-told read-with-write-back has within
+replica-2-vouched = ⊎-elim (λ nobody. let z = nobody .0 in absurd (omega arith)) (λ set. set .1 replica-2 refl refl) (vouched .operations read-with-write-back)
 
 -- A read and a write overlap: each began before the other finished.
 pub overlap : (read-with-write-back .begun < second-write .finished) × (second-write .begun < read-with-write-back .finished)
@@ -268,7 +296,7 @@ replica-4-is-faulty correct = false≢true correct
 
 -- No event made its signatures.
 pub replica-4-sent-nothing : (bytes : List ℕ) (t : ℕ) → Sent run (replica replica-4) bytes t → ⊥
-replica-4-sent-nothing bytes t sent = replica-4-is-faulty (subst (Correct run) (sent .by .2) (run .at-correct (sent .time) (sent .by .0) (sent .by .1)))
+replica-4-sent-nothing bytes t sent = let at = sent .said .by in replica-4-is-faulty (subst (Correct run) (at .2) (run .at-correct (sent .said .time) (at .0) (at .1)))
 
 -- Its PREPARED, with verdict 1, makes the quorum: the WRITE's proof has its signature.
 pub its-prepared-counts : (event run 10 ≡ some (to-client client-1 (from-replica replica-4 prepared) (1 ∷ []))) × Sends run 10 (WRITE client-1 service proof)
@@ -276,9 +304,9 @@ unfolding run story
 its-prepared-counts = (refl, sends-told run story as-told 10 _ write refl)
 
 -- So does its WRITTEN.
-pub its-written-counts : (event run 15 ≡ some (to-client client-1 (from-replica replica-4 written) (1 ∷ []))) × (answerAt run 15 ≡ accepted (done at-1·1 service))
+pub its-written-counts : (event run 15 ≡ some (to-client client-1 (from-replica replica-4 written) (1 ∷ []))) × (answerAt run 15 ≡ accepted (done at-1·1 service by-1-2-4))
 unfolding run story
-its-written-counts = (refl, done-told run story as-told 15 _ at-1·1 service refl)
+its-written-counts = (refl, done-told run story as-told 15 _ at-1·1 service by-1-2-4 refl)
 
 -- Its CARD of 0.0 forces the write-back.
 pub its-stale-card-forces-write-back : (event run 29 ≡ some (to-client client-3 (from-replica replica-4 (stale 1 client-3)) (1 ∷ []))) × Sends run 29 (WRITE client-3 service proof)

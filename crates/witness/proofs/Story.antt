@@ -19,8 +19,10 @@ use Rattle.base.specs.Range.{within}
 use Rattle.base.specs.Same.{same}
 use Rattle.base.specs.declared.party.ClientId.{ClientId}
 use Rattle.base.specs.declared.party.ReplicaId.{ReplicaId}
+use Rattle.base.specs.declared.replica_set.ReplicaSet.{ReplicaSet}
 use Rattle.base.specs.declared.timestamp.Timestamp.{Timestamp}
 use Rattle.protocol.specs.Client.{Answer, send, waits, done, ended}
+use Rattle.run.proofs.SentMessages.{said-later}
 use Rattle.run.specs.Claims.{GoesOn, Begins, Finished, Viewed, Genuine}
 use Rattle.run.specs.Premises.{TrueVerdicts, TrueFor, TrueAt, eventCard, Accepted, CardOfRun, FewFaulty, Premises}
 use Rattle.wire.specs.Acceptance.{Sender, replica, client}
@@ -208,7 +210,7 @@ same-party-self (client a) = eq-eqb (a .0) (a .0) refl
 abbrev sends : List ℕ → Bool → Outcome Answer → Bool
 sends bytes true (accepted (send message)) = same (body message) bytes
 sends bytes true (accepted waits) = false
-sends bytes true (accepted (done timestamp card)) = false
+sends bytes true (accepted (done timestamp card signers)) = false
 sends bytes true (accepted ended) = false
 sends bytes true (refused number) = false
 sends bytes false answer = false
@@ -217,7 +219,7 @@ message-sent : (bytes : List ℕ) (by : Bool) (answer : Outcome Answer) → send
     → (by ≡ true) × ((message : Message) × (answer ≡ accepted (send message)) × (body message ≡ bytes))
 message-sent bytes true (accepted (send message)) h = (refl, (message, refl, same-equal (body message) bytes h))
 message-sent bytes true (accepted waits) h = no-test h
-message-sent bytes true (accepted (done timestamp card)) h = no-test h
+message-sent bytes true (accepted (done timestamp card signers)) h = no-test h
 message-sent bytes true (accepted ended) h = no-test h
 message-sent bytes true (refused number) h = no-test h
 message-sent bytes false answer h = no-test h
@@ -296,8 +298,7 @@ module _ (R : Run) (lines : List Line) (told : Told R lines) where
       ∙ each-at (λ s l. code (answerTo R s (some (l .event))) ≡ code (l .answer)) t lines line (told .answers) at
 
   later : {party : Sender} {bytes : List ℕ} {t : ℕ} → Sent R party bytes t → Sent R party bytes (suc t)
-  later s =
-      record { time = s .time; earlier = omega (arith, s .earlier); by = s .by; message = s .message; answered = s .answered; same-bytes = s .same-bytes }
+  later {party} {bytes} {t} s = record { message = s .message; said = said-later R party (s .message) t (suc t) (omega arith) (s .said); same-bytes = s .same-bytes }
 
   sent : (party : Sender) (bytes : List ℕ) (t : ℕ) → sentBefore lines party bytes t ≡ true → Sent R party bytes t
   unfolding sentBefore
@@ -310,11 +311,8 @@ module _ (R : Run) (lines : List Line) (told : Told R lines) where
           let m = message-sent bytes (sameParty (partyOf (line .event)) party) (line .answer) test in
           let s = is-sent (answerAt R t) (m .1 .0) (answer-told t line at ∙ ap code (m .1 .1)) in
           record {
-            time = t;
-            earlier = omega arith;
-            by = (line .event, event-told t line at, same-party (partyOf (line .event)) party (m .0));
             message = s .0;
-            answered = s .1;
+            said = record { time = t; earlier = omega arith; by = (line .event, event-told t line at, same-party (partyOf (line .event)) party (m .0)); answered = s .1 };
             same-bytes = s .2 ∙ m .1 .2;
           }
 
@@ -398,7 +396,7 @@ module _ (R : Run) (lines : List Line) (told : Told R lines) where
   unfolding code
   none-between id begun finished all t after before at =
       let goes-on = between goesOn (client id) begun finished all t after before at in
-      record { not-done = λ timestamp card is. no-test (sym (ap goesOn (ap code is)) ∙ goes-on); not-ended = λ is. no-test (sym (ap goesOn (ap code is)) ∙ goes-on) }
+      record { not-done = λ timestamp card signers is. no-test (sym (ap goesOn (ap code is)) ∙ goes-on); not-ended = λ is. no-test (sym (ap goesOn (ap code is)) ∙ goes-on) }
 
   pub only-counted : (id : ClientId) (begun finished : ℕ) → AllBetween lines isCounted (client id) begun finished → (t : ℕ) → begun < t → t < finished → At R t (client id) → answerAt R t ≡ accepted waits
   only-counted id begun finished all t after before at = is-counted (answerAt R t) (between isCounted (client id) begun finished all t after before at)
@@ -408,16 +406,17 @@ module _ (R : Run) (lines : List Line) (told : Told R lines) where
   pub sends-told : (t : ℕ) (e : Event) (message : Message) → getElem? lines t ≡ some (e ↝ send message) → Sends R t message
   sends-told t e message at = is-sent (answerAt R t) message (answer-told t (e ↝ send message) at)
 
-  pub done-told : (t : ℕ) (e : Event) (timestamp : Timestamp) (card : List ℕ) → getElem? lines t ≡ some (e ↝ done timestamp card) → answerAt R t ≡ accepted (done timestamp card)
-  done-told t e timestamp card at = is-done (answerAt R t) timestamp card (answer-told t (e ↝ done timestamp card) at)
+  pub done-told : (t : ℕ) (e : Event) (timestamp : Timestamp) (card : List ℕ) (signers : ReplicaSet) → getElem? lines t ≡ some (e ↝ done timestamp card signers)
+      → answerAt R t ≡ accepted (done timestamp card signers)
+  done-told t e timestamp card signers at = is-done timestamp card signers (answerAt R t) (answer-told t (e ↝ done timestamp card signers) at)
 
   pub refused-told : (t : ℕ) (e : Event) (number : ℕ) → getElem? lines t ≡ some (e ↛ number) → answerAt R t ≡ refused number
   refused-told t e number at = is-refused (answerAt R t) number (answer-told t (e ↛ number) at)
 
   -- A client's operation that begins and is done, with neither done nor ended between: a writer's, and a view.
-  module _ (id : ClientId) (begun finished : ℕ) (first last : Event) (answer : Answer) (timestamp : Timestamp) (card : List ℕ)
+  module _ (id : ClientId) (begun finished : ℕ) (first last : Event) (answer : Answer) (timestamp : Timestamp) (card : List ℕ) (signers : ReplicaSet)
       (begun-at : getElem? lines begun ≡ some (first ↝ answer)) (after : begun < finished)
-      (done-at : getElem? lines finished ≡ some (last ↝ done timestamp card)) (by : partyOf last ≡ client id) (all : AllBetween lines goesOn (client id) begun finished) where
+      (done-at : getElem? lines finished ≡ some (last ↝ done timestamp card signers)) (by : partyOf last ≡ client id) (all : AllBetween lines goesOn (client id) begun finished) where
     pub begins-told : (w : Bool) → Begins R w id (some first) → Begins R w id (event R begun)
     begins-told w begins = subst (Begins R w id) (sym (event-told begun (first ↝ answer) begun-at)) begins
 
@@ -425,7 +424,7 @@ module _ (R : Run) (lines : List Line) (told : Told R lines) where
     not-refused-told = is-accepted (answerAt R begun) answer (answer-told begun (first ↝ answer) begun-at)
 
     pub done-by : At R finished (client id)
-    done-by = (last, event-told finished (last ↝ done timestamp card) done-at, by)
+    done-by = (last, event-told finished (last ↝ done timestamp card signers) done-at, by)
 
     unfoldable pub finished-told : (w : Bool) → Begins R w id (some first) → isWriter id ≡ true → Finished R
     finished-told w begins by-writer =
@@ -437,11 +436,12 @@ module _ (R : Run) (lines : List Line) (told : Told R lines) where
           finished = finished;
           timestamp = timestamp;
           card = card;
+          signers = signers;
           begins = begins-told w begins;
           not-refused = not-refused-told;
           after = after;
           at-client = done-by;
-          is-done = done-told finished last timestamp card done-at;
+          is-done = done-told finished last timestamp card signers done-at;
           none-between = none-between id begun finished all;
         }
 
@@ -454,11 +454,12 @@ module _ (R : Run) (lines : List Line) (told : Told R lines) where
           finished = finished;
           timestamp = timestamp;
           card = card;
+          signers = signers;
           begins = begins-told false begins;
           not-refused = not-refused-told;
           after = after;
           at-client = done-by;
-          is-done = done-told finished last timestamp card done-at;
+          is-done = done-told finished last timestamp card signers done-at;
           none-between = λ t l l′ at. none-between id begun finished all t l l′ at .not-done;
         }
 

@@ -9,6 +9,7 @@ use lib.Dec.{lit<, lit≤}
 use Rattle.base.specs.Counting.{count}
 use Rattle.base.specs.Party.{replicaCount}
 use Rattle.base.specs.Range.{within}
+use Rattle.base.specs.ReplicaSet.{empty}
 use Rattle.base.specs.Timestamp.{start}
 use Rattle.base.specs.declared.party.ReplicaId.{ReplicaId}
 use Rattle.protocol.specs.Client.{send, waits, done}
@@ -21,7 +22,7 @@ use Rattle.wire.specs.Message.{Message, READ, CARD}
 use Rattle.wire.specs.Proof.{PreparedProof}
 use Rattle.wire.specs.Sha256.{sha256}
 use Rattle.witness.proofs.Answers.{code}
-use Rattle.witness.proofs.Cast.{replica-1, replica-2, replica-3, client-1, client-2, 1·1, at-1·1, entry, from-replica, stale, one, four, service, service-digest, cards, right-digests, different-cards}
+use Rattle.witness.proofs.Cast.{replica-1, replica-2, replica-3, client-1, client-2, 1·1, at-1·1, by-1-2-3, entry, from-replica, stale, one, four, service, service-digest, cards, right-digests, different-cards}
 use Rattle.witness.proofs.Computing.{messages, steps, digests}
 use Rattle.witness.proofs.Replay.{plays, freshStore, played}
 use Rattle.witness.proofs.Story.{Line, _↝_, each, wellTold, told, Told, hasBytes, NoOtherCards, different-digests, finished-told}
@@ -46,11 +47,11 @@ story =
     begins-read client-1 ↝ send (READ client-1 1)
     ∷ to-client client-1 (from-replica replica-1 later) four ↝ waits
     ∷ to-client client-1 (from-replica replica-2 later) four ↝ waits
-    ∷ to-client client-1 (from-replica replica-3 later) four ↝ done at-1·1 service
+    ∷ to-client client-1 (from-replica replica-3 later) four ↝ done at-1·1 service by-1-2-3
     ∷ begins-read client-2 ↝ send (READ client-2 1)
     ∷ to-client client-2 (from-replica replica-1 (stale 1 client-2)) one ↝ waits
     ∷ to-client client-2 (from-replica replica-2 (stale 1 client-2)) one ↝ waits
-    ∷ to-client client-2 (from-replica replica-3 (stale 1 client-2)) one ↝ done start startCard
+    ∷ to-client client-2 (from-replica replica-3 (stale 1 client-2)) one ↝ done start startCard empty
     ∷ []
 
 well-told : each (wellTold 4 2) 0 story ≡ true
@@ -74,11 +75,11 @@ no-other-cards = refl
 
 finished-later : Finished run
 unfolding story code messages
-finished-later = finished-told run story as-told client-1 0 3 _ _ _ at-1·1 service refl (lit< tt) refl refl refl false refl refl
+finished-later = finished-told run story as-told client-1 0 3 _ _ _ at-1·1 service by-1-2-3 refl (lit< tt) refl refl refl false refl refl
 
 finished-stale : Finished run
 unfolding story code messages
-finished-stale = finished-told run story as-told client-2 4 7 _ _ _ start startCard refl (lit< tt) refl refl refl false refl refl
+finished-stale = finished-told run story as-told client-2 4 7 _ _ _ start startCard empty refl (lit< tt) refl refl refl false refl refl
 
 pub verdicts-needed : VerdictsNeeded
 unfolding run count within finished-told finished-later finished-stale
