@@ -174,8 +174,8 @@ fn read(message: &[u8]) -> Result<Request<'_>, u8> {
     Ok(request)
 }
 
-/// Tests 7 to 11.
-fn check(request: &Request, f: u8, verdicts: &[u8]) -> Result<(), u8> {
+/// Tests 7 to 11. Gives the signers of the prepared proof.
+fn check(request: &Request, f: u8, verdicts: &[u8]) -> Result<u16, u8> {
     let proofs = || request.prepared.iter().chain(&request.written);
     let signatures = 1 + proofs().map(|p| p.entries.len() / ENTRY).sum::<usize>();
     // the bits that some verdict has, and those that all have
@@ -190,9 +190,11 @@ fn check(request: &Request, f: u8, verdicts: &[u8]) -> Result<(), u8> {
     if verdicts[0] == 0 {
         return Err(8);
     }
-    if !proofs().all(|p| is_quorum(p.entries, f)) {
+    let prepared = request.prepared.map_or(Some(0), |p| signers(p.entries, f));
+    let written = request.written.map_or(Some(0), |p| signers(p.entries, f));
+    let (Some(signers), Some(_)) = (prepared, written) else {
         return Err(9);
-    }
+    };
     if all == 0 {
         return Err(10);
     }
@@ -200,19 +202,22 @@ fn check(request: &Request, f: u8, verdicts: &[u8]) -> Result<(), u8> {
     if !issued || !proofs().all(|p| p.timestamp.is_issued()) {
         return Err(11);
     }
-    Ok(())
+    Ok(signers)
 }
 
-/// A quorum of replicas that rise; of those only the last can be too large.
-fn is_quorum(entries: &[u8], f: u8) -> bool {
-    let mut last = 0;
-    entries.len() == ENTRY * usize::from(2 * f + 1)
+/// The signers of a quorum, replica r as bit r - 1: they rise, and of those that do only the last can be too large.
+fn signers(entries: &[u8], f: u8) -> Option<u16> {
+    // replica r as bit r, modulo 32
+    let (mut last, mut signers) = (0, 0u32);
+    let good = entries.len() == ENTRY * usize::from(2 * f + 1)
         && entries.chunks_exact(ENTRY).all(|entry| {
             let rises = last < entry[0];
             last = entry[0];
+            signers |= 1u32.wrapping_shl(last.into());
             rises
         })
-        && last <= 3 * f + 1
+        && last <= 3 * f + 1;
+    good.then_some((signers >> 1) as u16)
 }
 
 /// Whether the bytes are a card that keeps its table. Written out, since a loop over a table takes 12 ns more.
@@ -278,6 +283,7 @@ pub struct Replica {
     card_length: u8,
     card: [u8; 17],
     digest: [u8; 32],
+    signers: u16,
     entry_count: u8,
     entries: [u8; ENTRY * MOST_ENTRIES],
 }
@@ -295,9 +301,14 @@ impl Replica {
             card_length: 2,
             card: [0; 17],
             digest: [0; 32],
+            signers: 0,
             entry_count: 0,
             entries: [0; ENTRY * MOST_ENTRIES],
         })
+    }
+
+    pub fn signers(&self) -> u16 {
+        self.signers
     }
 
     pub fn step(&mut self, message: &[u8], verdicts: &[u8], out: &mut [u8]) -> Answer {
@@ -305,11 +316,11 @@ impl Replica {
             return Err(1);
         }
         let request = read(message)?;
-        check(&request, self.f, verdicts)?;
+        let signers = check(&request, self.f, verdicts)?;
         match request.kind {
             1 => self.read_stamp(&request, out),
             2 => self.prepare(&request, out),
-            3 => self.write(&request, out),
+            3 => self.write(&request, signers, out),
             _ => self.read(&request, out),
         }
     }
@@ -368,7 +379,7 @@ impl Replica {
         reply.sealed()
     }
 
-    fn write(&mut self, request: &Request, out: &mut [u8]) -> Answer {
+    fn write(&mut self, request: &Request, signers: u16, out: &mut [u8]) -> Answer {
         let proof = request.prepared.ok_or(5)?;
         let card = request.card;
         if !keeps_table(card) || sha256(card) != *proof.digest {
@@ -380,6 +391,7 @@ impl Replica {
             self.card = [0; 17];
             self.card[..card.len()].copy_from_slice(card);
             self.digest = *proof.digest;
+            self.signers = signers;
             self.entry_count = (proof.entries.len() / ENTRY) as u8;
             self.entries[..proof.entries.len()].copy_from_slice(proof.entries);
         }

@@ -64,7 +64,13 @@ fn any_request(numbers: &mut Numbers) -> Request {
             &[&next, &digest, &shown, &last],
             2 * QUORUM,
         ),
-        _ => write(count, client, &card),
+        _ => {
+            let mut write = write(count, client, &card);
+            // of the proof's first entry; the second one is replica 7's
+            let first_signer = 4 + 1 + card.len() + 5 + 32 + 1;
+            write.message[first_signer] = 1 + numbers.below(6) as u8;
+            write
+        }
     };
     match numbers.below(9) {
         0 => {
@@ -81,7 +87,7 @@ fn any_request(numbers: &mut Numbers) -> Request {
     any
 }
 
-/// Both are handed the same requests, and must answer and write the same. How many were sent, then refused 1 to 19.
+/// Both are handed the same requests, and must answer, write and keep the same. How many were sent, then refused 1 to 19.
 fn compare() -> [u32; 20] {
     let mut numbers = Numbers(0x9e37_79b9_7f4a_7c15);
     let mut answers = [0u32; 20];
@@ -95,6 +101,11 @@ fn compare() -> [u32; 20] {
             let expected = plain.hand(&request, &mut other[..length]);
             assert_eq!(answer, expected, "{request:02x?}");
             assert_eq!(one, other, "{request:02x?}");
+            assert_eq!(
+                proved.held_signers(),
+                plain.held_signers(),
+                "{request:02x?}"
+            );
             answers[answer.err().map_or(0, usize::from)] += 1;
         }
     }

@@ -3,6 +3,7 @@
 use crate::plain_sha256::sha256;
 use crate::{plain_replica, replica};
 use std::hint::black_box;
+use std::ops::RangeInclusive;
 
 const F: u8 = 5;
 pub const QUORUM: u8 = 2 * F + 1;
@@ -18,6 +19,8 @@ pub const CARD: [u8; 17] = [
 pub trait Served {
     fn made() -> Self;
     fn hand(&mut self, request: &Request, out: &mut [u8]) -> Result<usize, u8>;
+    /// Of the held proof, replica r as bit r - 1.
+    fn held_signers(&self) -> u16;
 }
 
 impl Served for replica::Replica {
@@ -32,6 +35,10 @@ impl Served for replica::Replica {
             replica::Answer::Refused(number) => Err(number),
         }
     }
+
+    fn held_signers(&self) -> u16 {
+        self.signers()
+    }
 }
 
 impl Served for plain_replica::Replica {
@@ -42,6 +49,10 @@ impl Served for plain_replica::Replica {
     #[inline(always)]
     fn hand(&mut self, request: &Request, out: &mut [u8]) -> Result<usize, u8> {
         self.step(&request.message, &request.verdicts, out)
+    }
+
+    fn held_signers(&self) -> u16 {
+        self.signers()
     }
 }
 
@@ -70,10 +81,14 @@ pub fn timestamp(count: u32, client: u8) -> Vec<u8> {
     [&count.to_be_bytes()[..], &[client]].concat()
 }
 
-/// A quorum of entries, of the last replicas, behind their number.
+/// The replicas that sign: the last ones, as a set.
+const SIGNERS: RangeInclusive<u8> = F + 1..=3 * F + 1;
+const SIGNER_SET: u16 = u16::MAX << F;
+
+/// A quorum of entries behind their number.
 fn entries() -> Vec<u8> {
     let mut bytes = vec![QUORUM];
-    for id in F + 1..=3 * F + 1 {
+    for id in SIGNERS {
         bytes.push(id);
         bytes.extend([id ^ 0x5a; 64]);
     }
@@ -181,6 +196,7 @@ impl<'a, R: Served> Taking<'a, R> {
         for request in &step.before {
             replica.hand(request, &mut out).unwrap();
         }
+        assert_eq!(replica.held_signers(), SIGNER_SET);
         Taking {
             step,
             replica,

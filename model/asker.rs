@@ -1,5 +1,6 @@
 //! What clients and viewing clients share: number and nonces, the tests of a reply, and replies that show what a replica holds.
 use super::message::*;
+use std::collections::BTreeSet;
 use std::ops::RangeInclusive;
 
 /// What a replica showed in a TIMESTAMP or a CARD.
@@ -23,6 +24,18 @@ impl Shown {
         self.proof
             .as_ref()
             .map_or(Timestamp::START, |proof| proof.timestamp)
+    }
+
+    /// What an operation shows whose best reply this is.
+    pub fn done(&self) -> Done {
+        Done {
+            timestamp: self.timestamp(),
+            card: self.card.clone(),
+            signers: self
+                .proof
+                .as_ref()
+                .map_or_else(BTreeSet::new, PreparedProof::signers),
+        }
     }
 }
 

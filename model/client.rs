@@ -19,16 +19,14 @@ enum Phase {
         replies: BTreeMap<u8, Signature>,
     },
     Write {
-        card: Vec<u8>,
-        timestamp: Timestamp,
+        done: Done,
         replies: BTreeMap<u8, Signature>,
     },
     Read {
         replies: Vec<Shown>,
     },
     WriteBack {
-        card: Vec<u8>,
-        timestamp: Timestamp,
+        done: Done,
         counted: BTreeSet<u8>,
     },
 }
@@ -110,19 +108,15 @@ impl Client {
                     && reply.digest == Some(sha256(card))
                     && !replies.contains_key(&sender)
             }
-            Phase::Write {
-                timestamp, replies, ..
-            } => {
+            Phase::Write { done, replies } => {
                 reply.kind == WRITTEN
-                    && reply.timestamp == Some(*timestamp)
+                    && reply.timestamp == Some(done.timestamp)
                     && !replies.contains_key(&sender)
             }
             Phase::Read { replies } => self.asker.awaits(CARD, replies, reply),
-            Phase::WriteBack {
-                timestamp, counted, ..
-            } => {
+            Phase::WriteBack { done, counted } => {
                 reply.kind == WRITTEN
-                    && reply.timestamp == Some(*timestamp)
+                    && reply.timestamp == Some(done.timestamp)
                     && !counted.contains(&sender)
             }
         }
@@ -167,29 +161,27 @@ impl Client {
                     digest: sha256(&card),
                     entries: entries(replies),
                 };
-                let answer = self.send_write(&card, proof);
-                self.phase = Phase::Write {
-                    card,
+                let done = Done {
                     timestamp,
+                    card,
+                    signers: proof.signers(),
+                };
+                let answer = self.send_write(&done.card, proof);
+                self.phase = Phase::Write {
+                    done,
                     replies: BTreeMap::new(),
                 };
                 answer
             }
-            Phase::Write {
-                card,
-                timestamp,
-                replies,
-            } => {
+            Phase::Write { done, replies } => {
                 self.written = Some(WrittenProof {
-                    timestamp,
+                    timestamp: done.timestamp,
                     entries: entries(replies),
                 });
-                Answer::Done(timestamp, card)
+                Answer::Done(done)
             }
             Phase::Read { replies } => self.finish_read(replies),
-            Phase::WriteBack {
-                card, timestamp, ..
-            } => Answer::Done(timestamp, card),
+            Phase::WriteBack { done, .. } => Answer::Done(done),
         }
     }
 
@@ -229,19 +221,16 @@ impl Client {
             .expect("a quorum of replies");
         let showed = replies.iter().filter(|reply| reply.timestamp() == largest);
         let counted: BTreeSet<u8> = showed.map(|reply| reply.replica).collect();
-        let Shown { card, proof, .. } = latest(replies);
-        match proof {
+        let best = latest(replies);
+        let done = best.done();
+        match best.proof {
             Some(proof) if counted.len() < quorum(self.asker.f) => {
-                let answer = self.send_write(&card, proof);
-                self.phase = Phase::WriteBack {
-                    card,
-                    timestamp: largest,
-                    counted,
-                };
+                let answer = self.send_write(&done.card, proof);
+                self.phase = Phase::WriteBack { done, counted };
                 answer
             }
             // Without a proof all showed 0.0.
-            _ => Answer::Done(largest, card),
+            _ => Answer::Done(done),
         }
     }
 }

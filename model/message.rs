@@ -1,6 +1,7 @@
 //! Messages, their parts, and the tests 1 to 11, 14 and 19, which need no record.
 use super::card::{keeps_table, STARTING_CARD};
 use super::sha256::sha256;
+use std::collections::BTreeSet;
 use std::ops::RangeInclusive;
 
 pub type Digest = [u8; 32];
@@ -48,6 +49,11 @@ pub fn quorum(f: u8) -> usize {
     2 * usize::from(f) + 1
 }
 
+/// A set of replicas as document 02 shows it: 16 bits, replica 1 lowest.
+pub fn bits_of(replicas: &BTreeSet<u8>) -> u16 {
+    replicas.iter().map(|replica| 1 << (replica - 1)).sum()
+}
+
 /// A stamp of document 01. The derived order compares counts first, then clients.
 #[derive(Clone, Copy, PartialEq, Eq, PartialOrd, Ord, Debug)]
 pub struct Timestamp {
@@ -84,6 +90,13 @@ pub struct PreparedProof {
     pub entries: Vec<Entry>,
 }
 
+impl PreparedProof {
+    /// The replicas that vouch for it.
+    pub fn signers(&self) -> BTreeSet<u8> {
+        self.entries.iter().map(|entry| entry.replica).collect()
+    }
+}
+
 #[derive(Clone, PartialEq, Debug)]
 pub struct WrittenProof {
     pub timestamp: Timestamp,
@@ -105,12 +118,21 @@ pub struct Message {
     pub signature: Signature,
 }
 
+/// What an operation shows when it is done.
+#[derive(Clone, Debug, PartialEq)]
+pub struct Done {
+    pub timestamp: Timestamp,
+    pub card: Vec<u8>,
+    /// Of the card's prepared proof; none at 0.0.
+    pub signers: BTreeSet<u8>,
+}
+
 /// What a party answers to a call that is not refused.
 #[derive(Debug)]
 pub enum Answer {
     Sent(Vec<u8>),
     Counted,
-    Done(Timestamp, Vec<u8>),
+    Done(Done),
     Ended,
 }
 

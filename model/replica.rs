@@ -1,7 +1,7 @@
 //! The model of a replica (a holder of document 01).
 use super::card::STARTING_CARD;
 use super::message::*;
-use std::collections::BTreeMap;
+use std::collections::{BTreeMap, BTreeSet};
 
 /// What a replica prepared last for a client (a line of document 01).
 #[derive(Clone, PartialEq)]
@@ -45,6 +45,13 @@ impl Replica {
         self.held
             .as_ref()
             .map_or(Timestamp::START, |held| held.proof.timestamp)
+    }
+
+    /// The replicas that vouch for the held card; none at 0.0.
+    pub fn signers(&self) -> BTreeSet<u8> {
+        self.held
+            .as_ref()
+            .map_or_else(BTreeSet::new, |held| held.proof.signers())
     }
 
     pub fn receive(

@@ -1,6 +1,6 @@
 //! Plays a script by the model: what the proved program has to print, line by line.
 use super::client::Client;
-use super::message::{Answer, Message, Refusal, Timestamp};
+use super::message::{bits_of, Answer, Done, Message, Refusal, Timestamp};
 use super::replica::Replica;
 use super::viewer::Viewer;
 use std::collections::BTreeMap;
@@ -12,13 +12,13 @@ pub const KEPT_MESSAGES: usize = 200;
 pub const FULL_OUTPUT: usize = 1600;
 
 /// What a script line prints.
-#[derive(Debug, PartialEq)]
+#[derive(Clone, Debug, PartialEq)]
 pub enum Output {
     New,
     Ready,
     Sent(usize, Vec<u8>),
     Counted,
-    Done(Timestamp, Vec<u8>),
+    Done(Done),
     Ended,
     Refused(Refusal),
     Kept,
@@ -34,9 +34,7 @@ impl fmt::Display for Output {
             Output::Ready => write!(to, "ready"),
             Output::Sent(number, message) => write!(to, "sent {number} {}", hex(message)),
             Output::Counted => write!(to, "counted"),
-            Output::Done(Timestamp { count, client }, card) => {
-                write!(to, "done {count}.{client} {}", hex(card))
-            }
+            Output::Done(done) => write!(to, "done {done}"),
             Output::Ended => write!(to, "ended"),
             Output::Refused(refusal) => write!(to, "refused {refusal}"),
             Output::Kept => write!(to, "kept"),
@@ -44,6 +42,15 @@ impl fmt::Display for Output {
             Output::Comment(line) => write!(to, "{line}"),
             Output::Unread => write!(to, "unread"),
         }
+    }
+}
+
+/// Also as the run player prints it.
+impl fmt::Display for Done {
+    fn fmt(&self, to: &mut fmt::Formatter) -> fmt::Result {
+        let Timestamp { count, client } = self.timestamp;
+        let signers = bits_of(&self.signers);
+        write!(to, "{count}.{client} {} {signers:04X}", hex(&self.card))
     }
 }
 
@@ -232,10 +239,14 @@ impl Player {
                 Output::Sent(self.sent.len(), message)
             }
             Ok(Answer::Counted) => Output::Counted,
-            Ok(Answer::Done(timestamp, card)) => Output::Done(timestamp, card),
+            Ok(Answer::Done(done)) => Output::Done(done),
             Ok(Answer::Ended) => Output::Ended,
             Err(refusal) => Output::Refused(refusal),
         }
+    }
+
+    pub fn replica(&self, id: u8) -> Option<&Replica> {
+        self.replicas.present.get(&id)
     }
 
     /// What the replicas hold.

@@ -37,8 +37,8 @@ impl Viewer {
         if replies.len() < quorum(self.asker.f) {
             return Ok(Answer::Counted);
         }
-        let shown = latest(std::mem::take(replies));
+        let best = latest(std::mem::take(replies));
         self.replies = None;
-        Ok(Answer::Done(shown.timestamp(), shown.card))
+        Ok(Answer::Done(best.done()))
     }
 }

@@ -35,6 +35,11 @@ impl Replica {
         })
     }
 
+    /// The replicas whose signatures the held prepared proof has: replica r is bit r - 1. No bit at timestamp 0.0.
+    pub fn signers(&self) -> u16 {
+        self.record.register.held.signers.0
+    }
+
     /// The replica is handed a message with a verdict for each signature; the reply goes to `out`.
     pub fn step(&mut self, message: &[u8], verdicts: &[u8], out: &mut [u8]) -> Answer {
         // SAFETY: the function has no precondition: it takes records and bytes of any value and slices of any length.
@@ -80,11 +85,16 @@ struct Slots {
 
 #[repr(C)]
 #[derive(Debug, PartialEq, Eq)]
+struct ReplicaSet(u16);
+
+#[repr(C)]
+#[derive(Debug, PartialEq, Eq)]
 struct Held {
     timestamp: Timestamp,
     card_length: u8,
     card: [u8; 17],
     digest: [u8; 32],
+    signers: ReplicaSet,
     entry_count: u8,
     entries: [u8; 715],
 }
@@ -124,8 +134,9 @@ const _: () = {
     assert!(offset_of!(Held, card_length) == 8);
     assert!(offset_of!(Held, card) == 9);
     assert!(offset_of!(Held, digest) == 26);
-    assert!(offset_of!(Held, entry_count) == 58);
-    assert!(offset_of!(Held, entries) == 59);
+    assert!(offset_of!(Held, signers) == 58);
+    assert!(offset_of!(Held, entry_count) == 60);
+    assert!(offset_of!(Held, entries) == 61);
     assert!(size_of::<Held>() == 776);
     assert!(offset_of!(Register, held) == 2_312);
     assert!(size_of::<Register>() == 3_088);

@@ -161,12 +161,7 @@ fn compare_script(program: &str, seed: u64, script: Script, tally: &mut Tally) -
         failure.print(seed);
         return Ok(false);
     }
-    for (line, output) in script.lines.iter().zip(&script.expected) {
-        tally.count(line, output);
-    }
-    for view in &script.views {
-        tally.count_view(view);
-    }
+    tally.count_script(&script);
     Ok(true)
 }
 

@@ -10,9 +10,15 @@ use std::collections::{BTreeMap, BTreeSet};
 /// Below the 1,048,576 bytes that the proved program reads, with room for the longest line.
 const SCRIPT_BYTES: usize = 990_000;
 
-/// A view that is done: what it shows, and what the replicas hold by then.
-pub struct Viewed {
-    pub shown: Timestamp,
+/// An operation that is done.
+pub struct Finished {
+    pub is_view: bool,
+    pub done: Done,
+    /// The replies that it counted: those to its last message, and with a write-back the CARDs of that timestamp.
+    pub counted: Vec<Message>,
+    /// Whether its client has taken or built a prepared proof, in this operation or an earlier one.
+    pub had_proof: bool,
+    /// What the replicas hold by then.
     pub held: Vec<Timestamp>,
 }
 
@@ -20,7 +26,9 @@ pub struct Viewed {
 pub struct Script {
     pub lines: Vec<String>,
     pub expected: Vec<Output>,
-    pub views: Vec<Viewed>,
+    pub finished: Vec<Finished>,
+    /// WRITEs of the timestamp that their replica holds, signed by others than the held proof.
+    pub rivals: usize,
     bytes: usize,
     player: Player,
 }
@@ -137,6 +145,9 @@ struct ClientView {
     digest: Digest,
     /// All forged replies of the operation show this timestamp, so that reads without a write-back happen too.
     shows: Option<Timestamp>,
+    /// As in `Finished`.
+    counted: Vec<Message>,
+    had_proof: bool,
 }
 
 impl ClientView {
@@ -152,11 +163,23 @@ impl ClientView {
             },
             digest: [0; 32],
             shows: None,
+            counted: Vec::new(),
+            had_proof: false,
         }
+    }
+
+    fn note_taken(&mut self, reply: Message) {
+        self.had_proof |= reply.prepared.is_some();
+        self.counted.push(reply);
     }
 
     fn note_sent(&mut self, sent: Message) {
         self.busy = true;
+        self.had_proof |= sent.prepared.is_some();
+        let writes_back = self.awaited == CARD && sent.kind == WRITE;
+        let written_back = sent.prepared_timestamp();
+        self.counted
+            .retain(|reply| writes_back && reply.prepared_timestamp() == written_back);
         self.awaited = sent.kind + 4;
         self.nonce = sent.nonce.unwrap_or(self.nonce);
         self.timestamp = sent.timestamp.unwrap_or(self.timestamp);
@@ -281,6 +304,13 @@ impl<'a> Run<'a> {
         let nonce = self.first_nonce();
         self.script
             .add(format!("{} {} {id} {nonce}", noun(id), self.f));
+        self.note_fresh(id);
+    }
+
+    fn note_fresh(&mut self, id: u8) {
+        if let Some(client) = self.client(id) {
+            *client = ClientView::new(id);
+        }
     }
 
     fn first_nonce(&mut self) -> u64 {
@@ -341,10 +371,10 @@ impl<'a> Run<'a> {
         let id = self.clients[at].id;
         let lent = self.lent(40);
         if is_viewer(id) {
-            return self.play_line(Party::Client(id), format!("{lent}view {id}"), None);
+            return self.play_line(Party::Client(id), format!("{lent}view {id}"), &[]);
         }
         if self.random.percent(40) {
-            return self.play_line(Party::Client(id), format!("{lent}read {id}"), None);
+            return self.play_line(Party::Client(id), format!("{lent}read {id}"), &[]);
         }
         let card = match self.random.below(10) {
             0 if with_defects => bad_card(self.random),
@@ -354,7 +384,7 @@ impl<'a> Run<'a> {
         self.play_line(
             Party::Client(id),
             format!("{lent}write {id} {}", hex(&card)),
-            None,
+            &[],
         );
     }
 
@@ -372,19 +402,19 @@ impl<'a> Run<'a> {
         format!("lent {room} ")
     }
 
-    /// Plays a call and takes note of its answer. `asking` is the client that a replica answers.
-    fn play_line(&mut self, party: Party, line: String, asking: Option<u8>) {
-        match (self.script.add(line), party) {
+    /// Plays a call and takes note of its answer. `handed` is the message that is handed over, empty where none is.
+    fn play_line(&mut self, party: Party, line: String, handed: &[u8]) {
+        let answer = self.script.add(line).clone();
+        if !matches!(answer, Output::Refused(_) | Output::Unread) {
+            self.note_taken(party, handed);
+        }
+        match (answer, party) {
             (Output::Sent(number, message), _) => {
-                let number = *number;
-                let mut message = Message::decode(message).expect("a party sends whole messages");
+                let mut message = Message::decode(&message).expect("a party sends whole messages");
                 sign(&mut message);
-                self.post(party, number, message, asking);
+                self.post(party, number, message, handed.get(3).copied());
             }
-            (Output::Done(shown, _), Party::Client(id)) => {
-                let shown = *shown;
-                self.note_done(id, shown);
-            }
+            (Output::Done(done), Party::Client(id)) => self.note_done(id, done),
             (Output::Ended, Party::Client(id)) => self.note_end(id),
             (Output::Refused(17), Party::Client(id)) => self.renew(id),
             _ => (),
@@ -432,10 +462,43 @@ impl<'a> Run<'a> {
         }
     }
 
-    fn note_done(&mut self, id: u8, shown: Timestamp) {
-        if is_viewer(id) {
-            let held = self.script.player.held();
-            self.script.views.push(Viewed { shown, held });
+    /// A message was handed over and not refused.
+    fn note_taken(&mut self, party: Party, handed: &[u8]) {
+        let Ok(message) = Message::decode(handed) else {
+            return;
+        };
+        match party {
+            Party::Replica(id) => self.note_rival(id, &message),
+            Party::Client(id) => {
+                if let Some(client) = self.client(id) {
+                    client.note_taken(message);
+                }
+            }
+        }
+    }
+
+    fn note_rival(&mut self, id: u8, request: &Message) {
+        let (Some(replica), Some(proof)) = (self.script.player.replica(id), &request.prepared)
+        else {
+            return;
+        };
+        let is_rival = request.kind == WRITE
+            && proof.timestamp == replica.timestamp()
+            && proof.signers() != replica.signers();
+        self.script.rivals += usize::from(is_rival);
+    }
+
+    fn note_done(&mut self, id: u8, done: Done) {
+        let held = self.script.player.held();
+        if let Some(client) = self.client(id) {
+            let finished = Finished {
+                is_view: is_viewer(id),
+                done,
+                counted: client.counted.clone(),
+                had_proof: client.had_proof,
+                held,
+            };
+            self.script.finished.push(finished);
         }
         self.note_end(id);
     }
@@ -452,8 +515,11 @@ impl<'a> Run<'a> {
         }
         self.written.extend(sent.written.clone());
         let begins = sent.nonce.is_some();
-        let shows = self.some_timestamp();
-        let shows = Some(shows).filter(|_| self.random.percent(50));
+        let shows = match self.random.below(10) {
+            0..=3 => Some(self.some_timestamp()),
+            4..=5 => Some(Timestamp::START),
+            _ => None,
+        };
         if let Some(client) = self.client(id) {
             client.shows = if begins { shows } else { client.shows };
             client.note_sent(sent);
@@ -463,7 +529,6 @@ impl<'a> Run<'a> {
     /// Hands over a message; `number` names one that was sent, with zeros for its signature.
     fn hand(&mut self, party: Party, delivery: Delivery, number: Option<usize>) {
         let Delivery { message, verdicts } = delivery;
-        let asking = message.get(3).copied();
         let lent = self.lent(14);
         let genuine = verdicts == all_genuine(&message) && self.random.percent(70);
         let verdicts = if genuine {
@@ -471,12 +536,12 @@ impl<'a> Run<'a> {
         } else {
             hex(&verdicts)
         };
-        let message = number.map_or(hex(&message), |number| format!("@{number}"));
+        let word = number.map_or(hex(&message), |number| format!("@{number}"));
         let line = match party {
-            Party::Replica(id) => format!("{lent}to-replica {id} {message} {verdicts}"),
-            Party::Client(id) => format!("{lent}to-{} {id} {message} {verdicts}", noun(id)),
+            Party::Replica(id) => format!("{lent}to-replica {id} {word} {verdicts}"),
+            Party::Client(id) => format!("{lent}to-{} {id} {word} {verdicts}", noun(id)),
         };
-        self.play_line(party, line, asking);
+        self.play_line(party, line, &message);
     }
 
     /// With defects as often as the style has them.
@@ -615,11 +680,11 @@ impl<'a> Run<'a> {
     }
 
     fn shown(&mut self, shows: Option<Timestamp>) -> (Option<PreparedProof>, Vec<u8>) {
-        let as_others = shows.is_some() && self.random.percent(97);
-        if !as_others && self.random.percent(20) {
+        let shows = shows.filter(|_| self.random.percent(97));
+        if shows == Some(Timestamp::START) || shows.is_none() && self.random.percent(20) {
             return (None, STARTING_CARD.to_vec());
         }
-        let (proof, card) = self.some_proof(shows.filter(|_| as_others));
+        let (proof, card) = self.some_proof(shows);
         (Some(proof), card)
     }
 
@@ -745,7 +810,7 @@ impl<'a> Run<'a> {
             let nonce = self.random.pick(&[0, 0, 1, u64::MAX]);
             let noun = self.random.pick(&["client", "viewer"]);
             if *self.script.add(format!("{noun} {f} {id} {nonce}")) == Output::Ready {
-                self.note_end(id);
+                self.note_fresh(id);
             }
         }
     }

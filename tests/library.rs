@@ -14,6 +14,7 @@ mod tally;
 mod wrapper;
 
 use generate::Script;
+use model::message::bits_of;
 use model::random;
 use model::script::{self, unhex, Output, Player};
 use std::collections::BTreeMap;
@@ -103,8 +104,9 @@ impl Library {
         Output::Ready
     }
 
-    /// Whether the library does what the model does with a line about a replica, whose messages are spelled out.
-    fn agrees(&mut self, line: &str, expected: &Output) -> Option<bool> {
+    /// Whether the library does what the model does with a line about a replica, whose messages are spelled out. The model
+    /// has played it.
+    fn agrees(&mut self, line: &str, expected: &Output, model: &Player) -> Option<bool> {
         let (call, room) = script::lent(line)?;
         let words: Vec<&str> = call.split(' ').collect();
         match *words {
@@ -131,12 +133,15 @@ impl Library {
                     verdicts,
                     room,
                 };
-                let given = self.servers.get_mut(&id.parse().ok()?)?.hand_over(request);
-                return Some(match (given, expected) {
+                let id = id.parse().ok()?;
+                let server = self.servers.get_mut(&id)?;
+                let answers_same = match (server.hand_over(request), expected) {
                     (Some(Ok(message)), Output::Sent(_, expected)) => message == *expected,
                     (Some(Err(refusal)), Output::Refused(expected)) => refusal == *expected,
                     _ => false,
-                });
+                };
+                let signers = bits_of(&model.replica(id)?.signers());
+                return Some(answers_same && server.replica.signers() == signers);
             }
             _ => {}
         }
@@ -154,13 +159,14 @@ fn compare(script: &Script, tally: &mut Tally) -> Result<(), String> {
         if *expected == Output::Unread {
             continue;
         }
-        if library.agrees(&spelled, expected) != Some(true) {
-            return Err(format!("{spelled}\nmust give {expected}"));
+        if library.agrees(&spelled, expected, &model) != Some(true) {
+            return Err(format!("{spelled}\nmust give {expected}, and leave the signers in the record that the model has"));
         }
         if line.contains(CALL) {
             tally.count(line, expected);
         }
     }
+    tally.count_rivals(script);
     Ok(())
 }
 

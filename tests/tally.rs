@@ -1,6 +1,6 @@
 //! How often each call had each answer, and whether that is often enough.
-use crate::generate::Viewed;
-use crate::model::message::{Message, Timestamp, KIND_NAMES, LONGEST_MESSAGE};
+use crate::generate::{Finished, Script};
+use crate::model::message::{Done, Message, Timestamp, CARD, KIND_NAMES, LONGEST_MESSAGE};
 use crate::model::script::{lent, unhex, Output};
 use std::cmp::Ordering;
 use std::collections::{BTreeMap, BTreeSet};
@@ -15,6 +15,12 @@ const BOTH_LONG: [&str; 2] = ["both, 2", "both, 9"];
 /// Views that are done while some replica holds a smaller timestamp than they show, the same, or a larger one.
 const HELD: [&str; 3] = ["held less", "held same", "held more"];
 const DONE: &str = "done";
+
+/// Operations that are done: with other signers than the replicas that were counted, or that showed the card; with CARDs of the
+/// timestamp that others signed than the first one; with a signer above 8; at 0.0, after a proof.
+const SIGNERS: [&str; 4] = ["unheard", "tie", "above 8", "back at 0.0"];
+/// WRITEs of the held timestamp that others signed than the held proof.
+const RIVAL: &str = "rival";
 
 /// What a line is: the set-up, keeping and restoring of a party, or a call.
 struct Column {
@@ -77,6 +83,7 @@ const COLUMNS: [Column; 9] = [
             LONG[1],
             BOTH_LONG[0],
             BOTH_LONG[1],
+            RIVAL,
         ],
         refusals: &[1, 2, 3, 4, 5, 6, 7, 8, 9, 10, 11, 12, 13, 14, 15, 19],
     },
@@ -84,7 +91,8 @@ const COLUMNS: [Column; 9] = [
         name: "to-client",
         is_call: true,
         rows: &[
-            "PREPARE", "WRITE", "counted", DONE, "ended", LENT[0], LENT[1], LONG[0], LONG[1],
+            "PREPARE", "WRITE", "counted", DONE, SIGNERS[0], SIGNERS[1], SIGNERS[2], SIGNERS[3],
+            "ended", LENT[0], LENT[1], LONG[0], LONG[1],
         ],
         refusals: &[1, 2, 3, 4, 5, 6, 7, 8, 9, 10, 11, 14, 18],
     },
@@ -92,7 +100,8 @@ const COLUMNS: [Column; 9] = [
         name: "to-viewer",
         is_call: true,
         rows: &[
-            "counted", DONE, HELD[0], HELD[1], HELD[2], LENT[0], LENT[1], LONG[0], LONG[1],
+            "counted", DONE, HELD[0], HELD[1], HELD[2], SIGNERS[0], SIGNERS[1], SIGNERS[2],
+            SIGNERS[3], LENT[0], LENT[1], LONG[0], LONG[1],
         ],
         refusals: &[1, 2, 3, 4, 5, 6, 7, 8, 9, 10, 11, 14, 18],
     },
@@ -117,12 +126,14 @@ fn rows() -> Vec<String> {
         names(&KIND_NAMES),
         names(&["counted", DONE]),
         names(&HELD),
+        names(&SIGNERS),
         names(&["ended"]),
         (1..=19).map(refusal_row).collect(),
         names(&LENT),
         names(&[LONGEST]),
         names(&LONG),
         names(&BOTH_LONG),
+        names(&[RIVAL]),
     ]
     .concat()
 }
@@ -130,6 +141,24 @@ fn rows() -> Vec<String> {
 /// The message that a call hands over in hex.
 fn handed(call: &str) -> Option<Vec<u8>> {
     unhex(call.split(' ').nth(2)?)
+}
+
+/// Which of the rows of `SIGNERS` an operation has.
+fn signers_rows(finished: &Finished) -> [bool; SIGNERS.len()] {
+    let Done {
+        timestamp, signers, ..
+    } = &finished.done;
+    let shows = |reply: &&Message| reply.kind == CARD && reply.prepared_timestamp() == *timestamp;
+    let showed = || finished.counted.iter().filter(shows);
+    let counted_ids: BTreeSet<u8> = finished.counted.iter().map(|reply| reply.sender).collect();
+    let showed_ids: BTreeSet<u8> = showed().map(|reply| reply.sender).collect();
+    let mut proofs = showed().filter_map(|reply| reply.prepared.as_ref());
+    [
+        !signers.is_empty() && *signers != counted_ids && *signers != showed_ids,
+        proofs.any(|proof| proof.signers() != *signers),
+        signers.iter().any(|&replica| replica > 8),
+        signers.is_empty() && finished.had_proof,
+    ]
 }
 
 impl Column {
@@ -163,6 +192,16 @@ pub struct Tally {
 }
 
 impl Tally {
+    pub fn count_script(&mut self, script: &Script) {
+        for (line, output) in script.lines.iter().zip(&script.expected) {
+            self.count(line, output);
+        }
+        for finished in &script.finished {
+            self.count_finished(finished);
+        }
+        self.count_rivals(script);
+    }
+
     pub fn count(&mut self, line: &str, output: &Output) {
         let row = match output {
             Output::Refused(refusal) => refusal_row(*refusal),
@@ -182,9 +221,28 @@ impl Tally {
         }
     }
 
-    pub fn count_view(&mut self, view: &Viewed) {
-        let column = Column::named("to-viewer").expect("a column's name");
-        let row = |held: &Timestamp| match held.cmp(&view.shown) {
+    pub fn count_rivals(&mut self, script: &Script) {
+        let column = Column::named("to-replica").expect("a column's name");
+        self.note_times(column, RIVAL, script.rivals);
+    }
+
+    fn count_finished(&mut self, finished: &Finished) {
+        let name = if finished.is_view {
+            "to-viewer"
+        } else {
+            "to-client"
+        };
+        let column = Column::named(name).expect("a column's name");
+        if finished.is_view {
+            self.note_held(column, finished);
+        }
+        for (row, occurred) in SIGNERS.into_iter().zip(signers_rows(finished)) {
+            self.note_times(column, row, occurred.into());
+        }
+    }
+
+    fn note_held(&mut self, column: &Column, view: &Finished) {
+        let row = |held: &Timestamp| match held.cmp(&view.done.timestamp) {
             Ordering::Less => HELD[0],
             Ordering::Equal => HELD[1],
             Ordering::Greater => HELD[2],
@@ -196,8 +254,12 @@ impl Tally {
     }
 
     fn note(&mut self, column: &Column, row: &str) {
+        self.note_times(column, row, 1);
+    }
+
+    fn note_times(&mut self, column: &Column, row: &str, times: usize) {
         let key = (column.name, row.to_string());
-        *self.occurred.entry(key).or_default() += 1;
+        *self.occurred.entry(key).or_default() += times;
     }
 
     fn note_output(&mut self, column: &Column, room: usize) {

@@ -1,8 +1,7 @@
 //! The model of the run player: four replicas and four clients, f = 1, first nonce 1, all verdicts 1.
 use crate::model::client::Client;
-use crate::model::message::{Answer, Message, Refusal, Timestamp, LONGEST_MESSAGE};
+use crate::model::message::{Answer, Done, Message, Refusal, LONGEST_MESSAGE};
 use crate::model::replica::Replica;
-use crate::program::hex;
 use std::fmt;
 
 pub const HEADER: &str = "holders 4 desks 4";
@@ -14,7 +13,7 @@ pub const MOST_PAIRS: usize = 17;
 pub enum Said {
     Sent(usize),
     Taken,
-    Done(Timestamp, Vec<u8>),
+    Done(Done),
     Ended,
     Refused(Refusal),
     Unread,
@@ -25,9 +24,7 @@ impl fmt::Display for Said {
         match self {
             Said::Sent(number) => write!(to, "sent {number}"),
             Said::Taken => write!(to, "taken"),
-            Said::Done(Timestamp { count, client }, card) => {
-                write!(to, "done {count}.{client} {}", hex(card))
-            }
+            Said::Done(done) => write!(to, "done {done}"),
             Said::Ended => write!(to, "ended"),
             Said::Refused(refusal) => write!(to, "refused {refusal}"),
             Said::Unread => write!(to, "unread"),
@@ -122,7 +119,7 @@ impl Player {
                 Said::Sent(self.sent.len())
             }
             Some(Ok(Answer::Counted)) => Said::Taken,
-            Some(Ok(Answer::Done(timestamp, card))) => Said::Done(timestamp, card),
+            Some(Ok(Answer::Done(done))) => Said::Done(done),
             Some(Ok(Answer::Ended)) => Said::Ended,
             Some(Err(refusal)) => Said::Refused(refusal),
             None => Said::Unread,

@@ -1,23 +1,26 @@
 //! Scripts for the program `player`, steered so that operations finish.
 use crate::cards::{damaged_card, good_card};
+use crate::model::message::{quorum, Done};
 use crate::model::random::Random;
 use crate::odd::{ODD_INPUTS, ODD_LINES};
 use crate::player::{printed, Player, Said, MOST_LINES, PARTIES};
 use crate::program::{hex, Failure, Program};
 use crate::tally::Tally;
-use std::collections::BTreeMap;
+use std::collections::{BTreeMap, BTreeSet};
 
 const SCRIPTS: usize = 2_000;
 
 /// Of each kind of odd input.
 const INPUTS: usize = 30;
 
-pub const FLOORS: [(&str, usize); 35] = [
+pub const FLOORS: [(&str, usize); 37] = [
     ("sent", 40_000),
     ("taken", 20_000),
     ("done: read", 1_500),
     ("done: write", 1_500),
     ("written back", 150),
+    ("signed by others than were heard", 1_000),
+    ("signed by nobody", 500),
     ("refused 5", 500),
     ("refused 14", 300),
     ("refused 15", 10),
@@ -108,6 +111,10 @@ struct Writer {
     begun: [Option<Operation>; PARTIES as usize],
     /// The client of whose operation a message is part.
     clients: BTreeMap<usize, u8>,
+    /// The replica that sent a reply.
+    senders: BTreeMap<usize, u8>,
+    /// The replicas whose replies to its last message each client has taken.
+    heard: [BTreeSet<u8>; PARTIES as usize],
     under_way: Vec<Delivery>,
     arrived: Vec<Delivery>,
 }
@@ -120,6 +127,8 @@ impl Writer {
             active: 1 + random.below(PARTIES.into()) as u8,
             begun: [None; PARTIES as usize],
             clients: BTreeMap::new(),
+            senders: BTreeMap::new(),
+            heard: Default::default(),
             under_way: Vec::new(),
             arrived: Vec::new(),
         }
@@ -127,6 +136,16 @@ impl Writer {
 
     fn begun(&mut self, client: u8) -> &mut Option<Operation> {
         &mut self.begun[usize::from(client - 1)]
+    }
+
+    fn heard(&mut self, client: u8) -> &mut BTreeSet<u8> {
+        &mut self.heard[usize::from(client - 1)]
+    }
+
+    /// A client takes a reply.
+    fn hear(&mut self, client: u8, reply: usize) {
+        let sender = self.senders.get(&reply).copied();
+        self.heard(client).extend(sender);
     }
 
     fn begin(&self, random: &mut Random, client: u8) -> Step {
@@ -206,6 +225,7 @@ impl Writer {
     /// A request goes to all replicas, in any order; some are lost.
     fn request(&mut self, random: &mut Random, client: u8, message: usize) {
         self.lose(random, client);
+        self.heard(client).clear();
         self.clients.insert(message, client);
         let mut ids: Vec<u8> = (1..=PARTIES).collect();
         while !ids.is_empty() {
@@ -251,17 +271,23 @@ impl Writer {
         tally: &mut Tally,
     ) {
         match (to, said) {
-            (Party::Replica(_), Said::Sent(reply)) => self.reply(random, message, reply),
+            (Party::Replica(id), Said::Sent(reply)) => {
+                self.senders.insert(reply, id);
+                self.reply(random, message, reply);
+            }
+            (Party::Client(client), Said::Taken) => self.hear(client, message),
             (Party::Client(client), Said::Sent(request)) => {
                 if matches!(self.begun(client), Some(Operation::Read)) {
                     tally.count("written back");
                 }
                 self.request(random, client, request);
             }
-            (Party::Client(client), Said::Done(..)) => {
+            (Party::Client(client), Said::Done(done)) => {
                 if let Some(operation) = self.begun(client).take() {
                     tally.count(format!("done: {}", operation.name()));
                 }
+                self.hear(client, message);
+                count_signers(&done, self.heard(client), tally);
                 self.lose(random, client);
             }
             (_, Said::Unread) => tally.count("unsent message"),
@@ -276,6 +302,15 @@ impl Writer {
         self.input.push(b'\n');
         let said = self.player.play(&line);
         self.follow(random, step, said, tally);
+    }
+}
+
+/// In a write-back fewer than a quorum are heard.
+fn count_signers(done: &Done, heard: &BTreeSet<u8>, tally: &mut Tally) {
+    if done.signers.is_empty() {
+        tally.count("signed by nobody");
+    } else if heard.len() == quorum(1) && *heard != done.signers {
+        tally.count("signed by others than were heard");
     }
 }
 
