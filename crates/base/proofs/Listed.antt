@@ -1,5 +1,5 @@
 -- The set of listed replicas: who is in it, and how many they are. Assumes nothing.
-use mathlib.Core.Path.{_≡_, refl, _∙_}
+use mathlib.Core.Path.{_≡_, refl, sym, _∙_}
 use mathlib.Core.Bool.{Bool, true, false, _&&_, _||_}
 use mathlib.Core.List.{List, [], _∷_, _++_}
 use mathlib.Core.Logic.{_⊎_, inl, inr}
@@ -14,7 +14,7 @@ use Rattle.base.specs.Counting.{replica, count}
 use Rattle.base.specs.Range.{within}
 use Rattle.base.specs.ReplicaSet.{empty, has, with, withAll, setOf, size}
 use Rattle.base.specs.Rising.{listed, rising}
-use Rattle.base.proofs.Booleans.{or-true}
+use Rattle.base.proofs.Booleans.{and-true-both, or-true}
 use Rattle.base.proofs.Counting.{count-agree}
 use Rattle.base.proofs.Quorum.{rising-first, rising-count}
 use Rattle.base.proofs.Range.{inside, bounds}
@@ -43,6 +43,9 @@ members ids id = go (within 1 16 (id .0)) refl
     go : (b : Bool) → within 1 16 (id .0) ≡ b → has (setOf ids) id ≡ (b && listed ids id)
     go true e = let range = bounds 1 16 (id .0) e in has-all empty ids (id .0) (range .0) (range .1) ∙ rw (has-empty id) (or-nothing (listed ids id))
     go false e = unfold has in rw e
+
+pub member-listed : (ids : List ReplicaId) (id : ReplicaId) → has (setOf ids) id ≡ true → listed ids id ≡ true
+member-listed ids id there = and-true-both (within 1 16 (id .0)) (listed ids id) (sym (members ids id) ∙ there) .1
 
 pub count-members : (n : ℕ) (ids : List ReplicaId) → n ≤ 16 → count n (has (setOf ids)) ≡ count n (listed ids)
 count-members n ids small = count-agree n (has (setOf ids)) (listed ids) (λ i low high. members ids (replica i) ∙ rw (inside 1 16 i low (omega arith)))

@@ -1,6 +1,7 @@
 // Sets of replicas, a bit for each: replica 1 is the lowest.
 use crate::party::ReplicaId;
 ghost use mathlib.Core.Path.{_≡_};
+ghost use Rattle.base.specs.BigEndian.{toBytes};
 ghost use Rattle.base.specs.ReplicaSet.{empty, has, with, isQuorum};
 
 #[repr(C)]
@@ -40,6 +41,14 @@ impl ReplicaSet {
         }
         let one: u16 = 1;
         ReplicaSet(self.0 | (one << (number - 1)))
+    }
+
+    // The 16 bits, the high byte first.
+    pub fn to_bytes(self) -> [u8; 2]
+        ensures { λ r. ⌜ r ≡ toBytes 2 (self .0) ⌝ }
+    {
+        let bits = self.0;
+        [(bits / 256) as u8, (bits % 256) as u8]
     }
 
     // Whether the set has a quorum of the replicas 1 to n.

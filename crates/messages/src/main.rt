@@ -6,6 +6,7 @@ use base::timestamp::Timestamp;
 use libc::STDIN_FILENO;
 use libc::STDOUT_FILENO;
 use text::Digit;
+use wire::acceptance::Accepting;
 use wire::card_part::later_card;
 use wire::message::Fields;
 use wire::message::Party;
@@ -126,8 +127,8 @@ fn print_reading(party: Party, bytes: &[u8]) {
 
 fn print_judgement(party: Party, f: u8, bytes: &[u8], verdicts: &[u8]) {
     match wire::acceptance::accept(party, f, bytes, verdicts) {
-        Reading::Message(_) => text::print(b"accepted"),
-        Reading::Refused(number) => print_refusal(number),
+        Accepting::Message(_, _) => text::print(b"accepted"),
+        Accepting::Refused(number) => print_refusal(number),
     }
     text::print(b"\n");
 }

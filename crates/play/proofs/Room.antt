@@ -7,11 +7,13 @@ use native.Mathlib.Omega.{arith}
 use borrow.Author.Tests.{leb-false}
 use lib.Dec.{eqb, ltb, leb}
 use lib.ListN.{length, take, length-append, length-take}
+use Rattle.base.specs.BigEndian.{toBytes}
+use Rattle.base.specs.declared.replica_set.ReplicaSet.{ReplicaSet}
 use Rattle.text.specs.Decimal.{digitsWithin}
 use Rattle.text.specs.Hex.{hex}
 use Rattle.text.specs.Line.{lines}
 use Rattle.play.specs.Grammar.{command}
-use Rattle.play.specs.Output.{header, stamp, said, line}
+use Rattle.play.specs.Output.{header, stamp, behindCard, said, line}
 use Rattle.play.specs.Player.{Turn, addressee, does, clientTurn, replicaTurn, turn}
 use Rattle.play.specs.Script.{startPlace, step, keptByte, keptOf}
 use Rattle.play.specs.Session.{printedLines, printed}
@@ -65,16 +67,20 @@ unfolding hex
 hex-room [] = omega arith
 hex-room (byte ∷ bytes) = let m = hex-room bytes in omega arith
 
-said-room : (what : Said) (card : List ℕ) → length card ≤ 17 → length (said what card) ≤ 81
+signers-room : (signers : ReplicaSet) → length (behindCard signers) ≤ 5
+unfolding behindCard toBytes
+signers-room signers = let m = hex-room (toBytes 2 (signers .0)) in simp length-append (omega arith)
+
+said-room : (what : Said) (card : List ℕ) → length card ≤ 17 → length (said what card) ≤ 86
 unfolding said stamp
 said-room (Sent m) card h = simp length-append (omega (arith, digits-room 19 m))
 said-room Taken card h = omega arith
-said-room (Done t) card h = simp length-append (omega (arith, digits-room 19 (t .count), digits-room 19 (t .client .0), hex-room card))
+said-room (Done t signers) card h = simp length-append (omega (arith, digits-room 19 (t .count), digits-room 19 (t .client .0), hex-room card, signers-room signers))
 said-room Ended card h = omega arith
 said-room (Refused number) card h = simp length-append (omega (arith, digits-room 19 number))
 said-room Unread card h = omega arith
 
-line-room : (number : ℕ) (what : Said) (card : List ℕ) → length card ≤ 17 → length (line number what card) ≤ 103
+line-room : (number : ℕ) (what : Said) (card : List ℕ) → length card ≤ 17 → length (line number what card) ≤ 108
 unfolding line
 line-room number what card h = simp length-append (omega (arith, digits-room 19 number, said-room what card h))
 
@@ -85,7 +91,7 @@ card-room world store text (ToTheClient id call) = simp length-take (omega arith
 card-room world store text (ToTheReplica id m) = omega arith
 card-room world store text Nobody = omega arith
 
-lines-room : (world : World) (store : List ℕ) (number : ℕ) (texts : List (List ℕ)) → length (printedLines world store number texts) ≤ 103 * length texts
+lines-room : (world : World) (store : List ℕ) (number : ℕ) (texts : List (List ℕ)) → length (printedLines world store number texts) ≤ 108 * length texts
 unfolding printedLines turn
 lines-room world store number [] = omega arith
 lines-room world store number (text ∷ texts) =
@@ -94,8 +100,8 @@ lines-room world store number (text ∷ texts) =
     let rest = lines-room (t .world) (t .store) (number + 1) texts in
     simp length-append (omega arith)
 
--- No script prints more than 10,318 bytes: a header of 18, and 100 lines of at most 103.
-pub printed-room : (script : List ℕ) → length (printed script) ≤ 10_318
+-- No script prints more than 10,818 bytes: a header of 18, and 100 lines of at most 108.
+pub printed-room : (script : List ℕ) → length (printed script) ≤ 10_818
 unfolding printed header
 printed-room script =
     let texts = take 100 (lines script) in

@@ -35,7 +35,7 @@ use Rattle.play.specs.declared.world.World.{World}
 unfoldable pub saidOf : ℕ → ClientAnswer → Said
 saidOf count (Send size) = Sent (count + 1)
 saidOf count Counted = Taken
-saidOf count (Done timestamp) = Finished timestamp
+saidOf count (Done timestamp signers) = Finished timestamp signers
 saidOf count Ended = NoSuccessor
 saidOf count (Refused number) = TurnedDown number
 
@@ -43,7 +43,7 @@ saidOf count (Refused number) = TurnedDown number
 unfoldable pub loggedBy : ClientAnswer → Log → Log
 loggedBy (Send size) log = logged size log
 loggedBy Counted log = log
-loggedBy (Done timestamp) log = log
+loggedBy (Done timestamp signers) log = log
 loggedBy Ended log = log
 loggedBy (Refused number) log = log
 

@@ -1,4 +1,5 @@
 // The lines that the player prints.
+use base::replica_set::ReplicaSet;
 use base::slices::front;
 use base::timestamp::Timestamp;
 use text::put;
@@ -10,14 +11,14 @@ ghost use Prim.Native.Nat.{min};
 ghost use Rattle.protocol.specs.Parts.{cardKept};
 ghost use Rattle.text.specs.Decimal.{decimal};
 ghost use Rattle.text.specs.Put.{Puts};
-ghost use Rattle.play.specs.Output.{stamp, said, line};
+ghost use Rattle.play.specs.Output.{stamp, behindCard, said, line};
 ghost use Rattle.play.specs.Player.{Says};
 
 // What a line says of its call.
 pub enum Said {
     Sent(u32),
     Taken,
-    Done(Timestamp),
+    Done(Timestamp, ReplicaSet),
     Ended,
     Refused(u8),
     Unread,
@@ -49,13 +50,28 @@ fn put_timestamp(out: &mut [u8], at: usize, timestamp: Timestamp) -> usize
     put_number(out, dot, timestamp.client.0 as u64)
 }
 
-fn put_done(out: &mut [u8], at: usize, timestamp: Timestamp, card: &[u8]) -> usize
-    ensures { λ r. ⌜ Puts (now (out .entry)) at (said (Said.Done timestamp) (now (card .entry))) r (now (out .exit)) ⌝ }
+fn put_signers(out: &mut [u8], at: usize, signers: ReplicaSet) -> usize
+    ensures { λ r. ⌜ Puts (now (out .entry)) at (behindCard signers) r (now (out .exit)) ⌝ }
+{
+    let bytes = signers.to_bytes();
+    let space = put(out, at, b" ");
+    put_hex(out, space, &bytes)
+}
+
+fn put_done(
+    out: &mut [u8],
+    at: usize,
+    timestamp: Timestamp,
+    card: &[u8],
+    signers: ReplicaSet,
+) -> usize
+    ensures { λ r. ⌜ Puts (now (out .entry)) at (said (Said.Done timestamp signers) (now (card .entry))) r (now (out .exit)) ⌝ }
 {
     let word = put(out, at, b"done ");
     let when = put_timestamp(out, word, timestamp);
     let space = put(out, when, b" ");
-    put_hex(out, space, card)
+    let shown = put_hex(out, space, card);
+    put_signers(out, shown, signers)
 }
 
 // A word, and a number behind it.
@@ -72,7 +88,7 @@ fn put_said(out: &mut [u8], at: usize, what: Said, card: &[u8]) -> usize
     match what {
         Said::Sent(m) => put_numbered(out, at, b"sent ", m as u64),
         Said::Taken => put(out, at, b"taken"),
-        Said::Done(timestamp) => put_done(out, at, timestamp, card),
+        Said::Done(timestamp, signers) => put_done(out, at, timestamp, card, signers),
         Said::Ended => put(out, at, b"ended"),
         Said::Refused(number) => put_numbered(out, at, b"refused ", number as u64),
         Said::Unread => put(out, at, b"unread"),

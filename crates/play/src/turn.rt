@@ -34,7 +34,7 @@ fn logged(log: Log, answer: ClientAnswer) -> Log
     match answer {
         ClientAnswer::Send(length) => crate::log::with(log, length),
         ClientAnswer::Counted => log,
-        ClientAnswer::Done(_) => log,
+        ClientAnswer::Done(_, _) => log,
         ClientAnswer::Ended => log,
         ClientAnswer::Refused(_) => log,
     }
@@ -46,7 +46,7 @@ fn said(count: u8, answer: ClientAnswer) -> Said
     match answer {
         ClientAnswer::Send(_) => Said::Sent(count as u32 + 1),
         ClientAnswer::Counted => Said::Taken,
-        ClientAnswer::Done(timestamp) => Said::Done(timestamp),
+        ClientAnswer::Done(timestamp, signers) => Said::Done(timestamp, signers),
         ClientAnswer::Ended => Said::Ended,
         ClientAnswer::Refused(number) => Said::Refused(number),
     }

@@ -38,7 +38,7 @@ fn read_script(script: &mut [u8]) -> usize {
 fn main() {
     let mut script = [0u8; 4_000];
     let n = read_script(&mut script);
-    let mut out = [0u8; 10_318];
+    let mut out = [0u8; 10_818];
     let end = play::session::play(front(&script, n), &mut out);
     io::write_all(STDOUT_FILENO, front(&out, end));
 }

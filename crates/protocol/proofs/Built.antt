@@ -17,7 +17,7 @@ use Rattle.base.specs.Rising.{listed, rising}
 use Rattle.base.specs.declared.party.ReplicaId.{ReplicaId}
 use Rattle.base.specs.declared.replica_set.ReplicaSet.{ReplicaSet}
 use Rattle.base.proofs.Booleans.{and-true-both, or-true}
-use Rattle.base.proofs.Listed.{members}
+use Rattle.base.proofs.Listed.{member-listed}
 use Rattle.base.proofs.Quorum.{rising-first}
 use Rattle.base.proofs.Range.{bounds}
 use Rattle.base.proofs.ReplicaSet.{with-new}
@@ -100,6 +100,6 @@ built f counted sender signatures in-range new few full =
     let long : length entries ≡ quorumSize f = gathered-length replicas signatures (replicaCount f) ∙ omega arith in
     rw (take-all 11 entries (omega arith))
     (record {
-      of-counted = λ id there. gathered-counted replicas signatures (replicaCount f) id (and-true-both (within 1 16 (id .0)) (listed (signers entries) id) (rw (members (signers entries) id) at there) .1);
+      of-counted = λ id there. gathered-counted replicas signatures (replicaCount f) id (member-listed (signers entries) id there);
       is-shaped = rw (eq-eqb (length entries) (quorumSize f) long, gathered-rise replicas signatures (replicaCount f)) refl;
     })

@@ -9,26 +9,25 @@ use native.Mathlib.Omega.{arith}
 use native.Mathlib.Nat.{eq-or-lt-of-le, le-of-suc-le-suc}
 use borrow.Author.Tests.{eqb-true, leb-true, leb-false}
 use lib.Dec.{eqb, leb}
-use lib.ListN.{length, drop, length-append, length-map}
+use lib.ListN.{length, drop, length-append}
 use Rattle.base.specs.Counting.{count}
 use Rattle.base.specs.Outcome.{accepted, guard}
 use Rattle.base.specs.Party.{replicaCount, quorumSize, isWriter}
-use Rattle.base.specs.Range.{within}
 use Rattle.base.specs.ReplicaSet.{has, size}
-use Rattle.base.specs.Rising.{listed, rising}
 use Rattle.base.specs.declared.party.ClientId.{ClientId}
 use Rattle.base.specs.declared.party.ReplicaId.{ReplicaId}
 use Rattle.base.specs.declared.replica_set.ReplicaSet.{ReplicaSet}
 use Rattle.base.proofs.Booleans.{and-true-both}
-use Rattle.base.proofs.Listed.{members, count-members, rising-size}
+use Rattle.base.proofs.Listed.{member-listed}
 use Rattle.base.proofs.Outcome.{guard-accepted}
-use Rattle.base.proofs.Quorum.{Common, quorums-meet, rising-count}
+use Rattle.base.proofs.Quorum.{Common, quorums-meet}
 use Rattle.base.proofs.Range.{bounds}
 use Rattle.wire.specs.Checks.{all, oneEach, entriesOf, shaped, genuine, issued, proofOutcome}
 use Rattle.wire.specs.Message.{Message, PREPARED, CARD, Legal, Fits, PreparedFits}
 use Rattle.wire.specs.Proof.{Entry, PreparedProof, signers, signerSet}
 use Rattle.wire.specs.Signatures.{preparedSignatures, signaturesOf}
 use Rattle.wire.proofs.ProofBytes.{prepared-rewritten}
+use Rattle.wire.proofs.SignerSets.{shaped-signers}
 use Rattle.protocol.specs.Client.{send}
 use Rattle.protocol.specs.Replica.{slotCount, slotDigest}
 use Rattle.protocol.specs.declared.replica.Slots.{Slots}
@@ -118,13 +117,9 @@ module _ (R : Run) where
   -- The signers of entries that pass 9, if the correct ones sent it.
   pub shaped-backed : (t s : ℕ) (d : List ℕ) (entries : List Entry) → shaped (R .f) entries ≡ true
       → ((id : ReplicaId) → has (signerSet entries) id ≡ true → R .correct-replica id ≡ true → Said R (replica id) (PREPARED id s d) t) → Backed t s d (signerSet entries)
-  unfolding shaped
   shaped-backed t s d entries shape said-it =
-      let parts = and-true-both (eqb (length entries) (quorumSize (R .f))) (rising 0 (replicaCount (R .f)) (signers entries)) shape in
-      let q : length entries ≡ quorumSize (R .f) = eqb-true (length entries) (quorumSize (R .f)) (parts .0) in
-      let same = length-map entries (λ (entry : Entry). entry .signer) in
-      let among = count-members (replicaCount (R .f)) (signers entries) (omega arith) ∙ rising-count 0 (replicaCount (R .f)) (signers entries) (parts .1) in
-      record { exact = rising-size (replicaCount (R .f)) (signers entries) (omega arith) (parts .1) ∙ same ∙ q; enough = omega arith; signed = said-it }
+      let set = shaped-signers (R .f) entries shape in
+      record { exact = set .exactly; enough = omega (arith, set .among); signed = said-it }
 
   -- A proof of the right shape whose entries are genuine.
   backed-by : (t : ℕ) (proof : PreparedProof) (verdicts : List ℕ) → PreparedFits proof → shaped (R .f) (proof .entries) ≡ true → length (proof .entries) ≤ length verdicts → genuine verdicts ≡ true
@@ -132,9 +127,8 @@ module _ (R : Run) where
   backed-by t proof verdicts fits shape long ones true-ones =
       shaped-backed t (proof .timestamp) (proof .digest) (proof .entries) shape (λ id k c.
       let range = correct-replica-range R id c in
-      let is-listed = and-true-both (within 1 16 (id .0)) (listed (signers (proof .entries)) id) (sym (members (signers (proof .entries)) id) ∙ k) .1 in
       said R (replica id) c (PREPARED id (proof .timestamp) (proof .digest)) (prepared-legal id (proof .timestamp) (proof .digest) (omega arith) (fits .0) (fits .1)) t
-      (entry-sent R t (λ id. PREPARED id (proof .timestamp) (proof .digest)) (proof .entries) verdicts long ones true-ones id is-listed c))
+      (entry-sent R t (λ id. PREPARED id (proof .timestamp) (proof .digest)) (proof .entries) verdicts long ones true-ones id (member-listed (signers (proof .entries)) id k) c))
 
   -- The prepared proof of a CARD that a client takes.
   pub card-backed : Premises R → (id : ClientId) (t : ℕ) (h : Heard R id t) (sender : ReplicaId) (nonce : ℕ) (card : List ℕ) (proof : PreparedProof) (addressed : ClientId)
@@ -158,8 +152,8 @@ module _ (R : Run) where
   genuine-backed : (proof : PreparedProof) → Genuine R proof → Backed (length (R .events)) (proof .timestamp) (proof .digest) (signerSet (proof .entries))
   unfolding proofOutcome
   genuine-backed proof g =
-      let nine = guard-accepted 9 (shaped (R .f) (proof .entries)) (guard 10 (genuine (g .verdicts)) (guard 11 (issued (proof .timestamp)) (accepted tt))) tt (g .passes) in
-      let ten = guard-accepted 10 (genuine (g .verdicts)) (guard 11 (issued (proof .timestamp)) (accepted tt)) tt (nine .1) in
+      let nine = guard-accepted 9 (shaped (R .f) (proof .entries)) (guard 10 (genuine (g .verdicts)) (guard 11 (issued (proof .timestamp)) (accepted (signerSet (proof .entries))))) (signerSet (proof .entries)) (g .passes) in
+      let ten = guard-accepted 10 (genuine (g .verdicts)) (guard 11 (issued (proof .timestamp)) (accepted (signerSet (proof .entries)))) (signerSet (proof .entries)) (nine .1) in
       let each = g .one-each in
       backed-by (length (R .events)) proof (g .verdicts) (prepared-rewritten (g .bytes) proof (g .are-bytes) (g .reads) .1) (nine .0) (omega arith) (ten .0) (g .true-verdicts)
 

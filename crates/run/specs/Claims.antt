@@ -15,7 +15,7 @@ use Rattle.base.specs.declared.replica_set.ReplicaSet.{ReplicaSet}
 use Rattle.base.specs.declared.timestamp.Timestamp.{Timestamp}
 use Rattle.protocol.specs.Client.{done, ended}
 use Rattle.wire.specs.Checks.{proofOutcome}
-use Rattle.wire.specs.Proof.{PreparedProof, readPrepared}
+use Rattle.wire.specs.Proof.{PreparedProof, signerSet, readPrepared}
 use Rattle.wire.specs.Signatures.{preparedSignatures}
 use Rattle.run.specs.Premises.{TrueVerdicts, Accepted}
 use Rattle.wire.specs.Acceptance.{client}
@@ -30,7 +30,7 @@ module _ (R : Run) where
     pub are-bytes : Bytes bytes
     pub reads : readPrepared bytes ≡ accepted proof
     pub one-each : length verdicts ≡ length (proof .entries)
-    pub passes : proofOutcome (R .f) (proof .entries) verdicts (proof .timestamp) ≡ accepted tt
+    pub passes : proofOutcome (R .f) (proof .entries) verdicts (proof .timestamp) ≡ accepted (signerSet (proof .entries))
     pub true-verdicts : TrueVerdicts R (length (R .events)) (preparedSignatures proof) verdicts
 
   -- "no two genuine prepared proofs .. carry one stamp and two digests"

@@ -4,6 +4,7 @@ use crate::tasks::Held;
 use crate::tasks::Task;
 use crate::tasks::hold;
 use crate::words::word;
+use base::replica_set::ReplicaSet;
 use base::slices::behind;
 use base::slices::front;
 use base::timestamp::Timestamp;
@@ -15,7 +16,7 @@ pub enum Outcome {
     // One of the words below.
     Said(u8),
     Sent(usize),
-    Done(Timestamp),
+    Done(Timestamp, ReplicaSet),
     Refused(u8),
 }
 
@@ -92,13 +93,16 @@ fn print_sent(number: usize, message: &[u8]) {
     print_hex(message);
 }
 
-fn print_done(timestamp: Timestamp, card: &[u8]) {
+fn print_done(timestamp: Timestamp, card: &[u8], signers: ReplicaSet) {
     text::print(b"done ");
     print_number(timestamp.count as usize);
     text::print(b".");
     print_number(timestamp.client.0 as usize);
     text::print(b" ");
     print_hex(card);
+    text::print(b" ");
+    let bytes = signers.to_bytes();
+    print_hex(&bytes);
 }
 
 fn print_refused(number: u8) {
@@ -131,8 +135,12 @@ fn print(answer: Answer, line: &[u8], number: usize, out: &[u8]) {
     match outcome {
         Outcome::Said(said) => print_said(said, line),
         Outcome::Sent(n) => print_sent(number, front(out, n)),
-        Outcome::Done(timestamp) => {
-            print_done(timestamp, front(&card, answer.card_length as usize));
+        Outcome::Done(timestamp, signers) => {
+            print_done(
+                timestamp,
+                front(&card, answer.card_length as usize),
+                signers,
+            );
         }
         Outcome::Refused(refusal) => print_refused(refusal),
     }

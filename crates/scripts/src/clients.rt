@@ -71,7 +71,7 @@ fn outcome(answer: ClientAnswer) -> Outcome {
     match answer {
         ClientAnswer::Send(length) => Outcome::Sent(length),
         ClientAnswer::Counted => Outcome::Said(COUNTED),
-        ClientAnswer::Done(timestamp) => Outcome::Done(timestamp),
+        ClientAnswer::Done(timestamp, signers) => Outcome::Done(timestamp, signers),
         ClientAnswer::Ended => Outcome::Said(ENDED),
         ClientAnswer::Refused(number) => Outcome::Refused(number),
     }

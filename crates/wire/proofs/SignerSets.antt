@@ -8,21 +8,23 @@ use borrow.Author.Tests.{eqb-true}
 use lib.Dec.{eqb}
 use lib.ListN.{length, length-map}
 use Rattle.base.specs.Outcome.{accepted, guard}
+use Rattle.base.specs.Counting.{count}
 use Rattle.base.specs.Party.{replicaCount, quorumSize, isReplica}
-use Rattle.base.specs.Range.{within}
 use Rattle.base.specs.ReplicaSet.{has, size}
-use Rattle.base.specs.Rising.{listed, rising}
+use Rattle.base.specs.Rising.{rising}
 use Rattle.base.specs.declared.party.ReplicaId.{ReplicaId}
 use Rattle.base.specs.declared.replica_set.ReplicaSet.{ReplicaSet}
 use Rattle.base.proofs.Booleans.{and-true-both}
-use Rattle.base.proofs.Listed.{members, rising-size, rising-within}
+use Rattle.base.proofs.Listed.{member-listed, count-members, rising-size, rising-within}
 use Rattle.base.proofs.Outcome.{guard-accepted}
+use Rattle.base.proofs.Quorum.{rising-count}
 use Rattle.base.proofs.Range.{inside}
 use Rattle.wire.specs.Checks.{shaped, genuine, issued, proofOutcome}
 use Rattle.wire.specs.Proof.{Entry, signers, signerSet}
 
 pub record Quorate (f : ℕ) (set : ReplicaSet) : Type 0 where
   pub exactly : size set ≡ quorumSize f
+  pub among : count (replicaCount f) (has set) ≡ quorumSize f
   pub replicas : (id : ReplicaId) → has set id ≡ true → isReplica f id ≡ true
 
 -- Entries that pass 9.
@@ -30,11 +32,12 @@ pub shaped-signers : (f : ℕ) (entries : List Entry) → shaped f entries ≡ t
 unfolding shaped
 shaped-signers f entries shape =
     let both = and-true-both (eqb (length entries) (quorumSize f)) (rising 0 (replicaCount f) (signers entries)) shape in
-    let many : length (signers entries) ≡ length entries = length-map entries (λ (entry : Entry). entry .signer) in
+    let many : length (signers entries) ≡ quorumSize f = length-map entries (λ (entry : Entry). entry .signer) ∙ eqb-true (length entries) (quorumSize f) (both .0) in
     record {
-      exactly = rising-size (replicaCount f) (signers entries) (omega arith) (both .1) ∙ many ∙ eqb-true (length entries) (quorumSize f) (both .0);
+      exactly = rising-size (replicaCount f) (signers entries) (omega arith) (both .1) ∙ many;
+      among = count-members (replicaCount f) (signers entries) (omega arith) ∙ rising-count 0 (replicaCount f) (signers entries) (both .1) ∙ many;
       replicas = λ id there.
-          let at = rising-within 0 (replicaCount f) (signers entries) id (both .1) (and-true-both (within 1 16 (id .0)) (listed (signers entries) id) (sym (members (signers entries) id) ∙ there) .1) in
+          let at = rising-within 0 (replicaCount f) (signers entries) id (both .1) (member-listed (signers entries) id there) in
           inside 1 (replicaCount f) (id .0) (omega arith) (at .1);
     }
 

@@ -29,7 +29,7 @@ use Rattle.wire.specs.Acceptance.{Sender, replica, client}
 use Rattle.run.specs.Run.{Event, begins-write, begins-read, to-replica, to-client, partyOf, HasBytes, CorrectIn, Run, event, answerTo, answerAt, At, Sent}
 use Rattle.wire.specs.Decode.{decode}
 use Rattle.wire.specs.Message.{Message, body}
-use Rattle.wire.specs.Proof.{PreparedProof, preparedBytes, readPrepared}
+use Rattle.wire.specs.Proof.{PreparedProof, signerSet, preparedBytes, readPrepared}
 use Rattle.wire.specs.Checks.{proofOutcome}
 use Rattle.wire.specs.Sha256.{sha256}
 use Rattle.wire.specs.Signatures.{Signature, signaturesOf, preparedSignatures}
@@ -465,7 +465,7 @@ module _ (R : Run) (lines : List Line) (told : Told R lines) where
 
   -- A prepared proof that passes 9 to 11 with verdicts that are true at the end of the run.
   pub genuine-told : (proof : PreparedProof) (verdicts : List ℕ) → allBytes (preparedBytes proof) ≡ true → readPrepared (preparedBytes proof) ≡ accepted proof
-      → length verdicts ≡ length (proof .entries) → proofOutcome (R .f) (proof .entries) verdicts (proof .timestamp) ≡ accepted tt
+      → length verdicts ≡ length (proof .entries) → proofOutcome (R .f) (proof .entries) verdicts (proof .timestamp) ≡ accepted (signerSet (proof .entries))
       → trueVerdicts R lines (length (R .events)) (preparedSignatures proof) verdicts ≡ true → Genuine R proof
   genuine-told proof verdicts bytes reads one-each passes true-verdicts =
       record {
