@@ -12,7 +12,7 @@ use Rattle.base.proofs.Outcome.{guard-passes, guard-refuses}
 use Rattle.wire.specs.Card.{isCard}
 use Rattle.wire.specs.Message.{longest, READ-STAMP, READ}
 use Rattle.wire.specs.Writing.{unsigned}
-use Rattle.protocol.specs.Client.{send, Turn, turn, ClientCall, clientAnswers, Said, clientOutcome, stepOutcome, mayBegin, beginning, beginWrite, beginRead, clientStep, beginWriteCall, beginReadCall, clientCall}
+use Rattle.protocol.specs.Client.{send, Turn, turn, ClientCall, clientAnswers, Meaning, clientOutcome, stepOutcome, mayBegin, beginning, beginWrite, beginRead, clientStep, beginWriteCall, beginReadCall, clientCall}
 use Rattle.protocol.specs.Parts.{startCard}
 use Rattle.protocol.specs.Replica.{withOutput}
 use Rattle.protocol.specs.Viewer.{viewerStep, viewerCall}
@@ -30,7 +30,7 @@ use Rattle.client.proofs.Answering.{plain-call}
 use Rattle.base.proofs.Filling.{filled-zeros}
 use Rattle.client.proofs.Shorts.{Short, refuses, sends, waiting, finishes, ends, short-write, short-read, short-step}
 
-abbrev saysOf : ClientCall → Outcome Said
+abbrev saysOf : ClientCall → Outcome Meaning
 saysOf made = clientOutcome (made .answer) (made .«card_length») (made .card) (made .output)
 
 call-says : (client : Client) (old : List ℕ) (step : Outcome Turn) → Short step → saysOf (clientAnswers client old step) ≡ stepOutcome step

@@ -481,13 +481,13 @@ clientCall client bytes verdicts old = clientAnswers client old (withOutput old 
 
 -- What an answer of the code stands for, with the card beside it and the output: "a message to send", "counted", "done,
 -- with stamp and card" and the card's signers, "ended", or the refusal by its number.
-pub data Said : Type 0 where
-  message : List ℕ → Said
-  nothing : Said
-  finished : Timestamp → List ℕ → ReplicaSet → Said
-  noSuccessor : Said
+pub data Meaning : Type 0 where
+  message : List ℕ → Meaning
+  nothing : Meaning
+  finished : Timestamp → List ℕ → ReplicaSet → Meaning
+  noSuccessor : Meaning
 
-abbrev pub clientOutcome : ClientAnswer → ℕ → List ℕ → List ℕ → Outcome Said
+abbrev pub clientOutcome : ClientAnswer → ℕ → List ℕ → List ℕ → Outcome Meaning
 clientOutcome (Send n) size card output = accepted (message (take n output))
 clientOutcome Counted size card output = accepted nothing
 clientOutcome (Done timestamp signers) size card output = accepted (finished timestamp (take size card) signers)
@@ -495,12 +495,12 @@ clientOutcome Ended size card output = accepted noSuccessor
 clientOutcome (Refused number) size card output = refused number
 
 -- The same of a step.
-abbrev pub said : Answer → Said
-said (send m) = message (unsigned m)
-said waits = nothing
-said (done timestamp card signers) = finished timestamp card signers
-said ended = noSuccessor
+abbrev pub meaning : Answer → Meaning
+meaning (send m) = message (unsigned m)
+meaning waits = nothing
+meaning (done timestamp card signers) = finished timestamp card signers
+meaning ended = noSuccessor
 
-abbrev pub stepOutcome : Outcome Turn → Outcome Said
-stepOutcome (accepted turn) = accepted (said (turn .answer))
+abbrev pub stepOutcome : Outcome Turn → Outcome Meaning
+stepOutcome (accepted turn) = accepted (meaning (turn .answer))
 stepOutcome (refused number) = refused number
