@@ -21,6 +21,9 @@ returns-2 c =
     let fails = sym (c .before .before .is-awaited .ensures) ∙ not-true _ (c .before .if1 .taken) in
     rw (card-refused (afterCards (a .role)) (a .client) (a .sender) (a .nonce) (a .card .now) (preparedPart (a .proof .now)) (a .addressed) (a .client .phase) (c .before .before .before .before .before .phase .given .0 .0) (c .before .before .before .before .before .phase .given .0 .1 .0) (c .before .before .before .before .before .phase .given .0 .1 .1 .0) (c .before .before .before .before .before .phase .given .0 .1 .1 .1 .0) (c .before .before .before .before .before .phase .given .1) fails) (plain-call (c .refused2 .result) (a .out .now) (a .client) (Refused 18) (c .refused2 .ensures))
 
+keep-better-card-requires : tie.Need-keep-better-card-requires
+keep-better-card-requires c κs = search needs
+
 count-card-requires : tie.Need-count-card-requires
 count-card-requires c κs = c .before .before .before .before .before .before .before .before .before .before .before .before .before .before .pre .0
 
@@ -42,7 +45,7 @@ on-card-spec =
     returns-2
     (λ c κs. search needs)
     (λ c κs. search needs)
-    (λ c κs. search needs)
+    keep-better-card-requires
     (λ c κs. search needs)
     count-card-requires
     (λ c. search needs)
