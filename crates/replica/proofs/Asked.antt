@@ -13,6 +13,7 @@ use Rattle.base.specs.Outcome.{Outcome, accepted, refused}
 use Rattle.base.specs.Range.{within}
 use Rattle.base.specs.Timestamp.{number, ofNumber}
 use Rattle.base.specs.declared.party.ClientId.{ClientId}
+use Rattle.base.specs.declared.replica_set.ReplicaSet.{ReplicaSet}
 use Rattle.base.specs.declared.timestamp.Timestamp.{Timestamp}
 use Rattle.base.proofs.Booleans.{and-true-both}
 use Rattle.base.proofs.Range.{bounds}
@@ -63,7 +64,7 @@ module _ (replica : Replica) (bytes verdicts : List ℕ) where
   unfolding replicaStep
   follows m h = rw (h .admits)
 
-  module _ (fields : Fields) (e : acceptance AtReplica (replica .f) bytes verdicts ≡ accepted fields) where
+  module _ (fields : Fields) {signers : ReplicaSet} (e : acceptance AtReplica (replica .f) bytes verdicts ≡ accepted (fields, signers)) where
     pub step-read-stamp : fields .kind ≡ 1 → replicaStep replica bytes verdicts ≡ onReadStamp replica (record { 0 = fields .sender }) (fields .nonce)
     unfolding onRequest
     step-read-stamp k = follows _ (handed-read-stamp (replica .f) bytes verdicts fields e k)
@@ -104,10 +105,10 @@ module _ (replica : Replica) (bytes verdicts : List ℕ) where
 
 -- A call whose step is this outcome, whichever verdicts let its message through.
 pub answers : (replica : Replica) (bytes : List ℕ) (fields : Fields) (old : List ℕ) (stepped : Stepped) (new : List ℕ) (outcome : Outcome Reply)
-    → ((verdicts : List ℕ) → acceptance AtReplica (replica .f) bytes verdicts ≡ accepted fields → replicaStep replica bytes verdicts ≡ outcome)
+    → ((verdicts : List ℕ) (signers : ReplicaSet) → acceptance AtReplica (replica .f) bytes verdicts ≡ accepted (fields, signers) → replicaStep replica bytes verdicts ≡ outcome)
     → Leaves replica (replicaAnswers replica old outcome) stepped new → Answers replica bytes fields old stepped new
 answers replica bytes fields old stepped new outcome same l =
-    record { leaves = λ verdicts e. subst (λ (o : Outcome Reply). Leaves replica (replicaAnswers replica old o) stepped new) (sym (same verdicts e)) l }
+    record { leaves = λ verdicts signers e. subst (λ (o : Outcome Reply). Leaves replica (replicaAnswers replica old o) stepped new) (sym (same verdicts signers e)) l }
 
 module _ (replica : Replica) (bytes verdicts old : List ℕ) (stepped : Stepped) where
   answered : (outcome : Outcome Reply) → answerOutcome (replicaAnswers replica old outcome .answer) ≡ sentLength outcome

@@ -6,6 +6,7 @@ use Prim.Native.Nat.{ℕ}
 use lib.ListN.{replicate}
 use Rattle.base.specs.Outcome.{accepted}
 use Rattle.base.specs.Timestamp.{start}
+use Rattle.base.specs.declared.replica_set.ReplicaSet.{ReplicaSet}
 use Rattle.wire.specs.Acceptance.{acceptance}
 use Rattle.wire.specs.declared.message.Fields.{Fields}
 use Rattle.wire.specs.declared.message.Party.the-variants.{Replica as AtReplica}
@@ -31,12 +32,12 @@ pub record Leaves (replica : Replica) (call : ReplicaCall) (stepped : Stepped) (
   pub output : new ≡ call .output
   pub changes : Changes replica stepped
 
--- A message that tests 2 to 11 let through, with some verdicts.
-pub record Passes (replica : Replica) (bytes : List ℕ) (fields : Fields) : Type 0 where
+-- A message that tests 2 to 11 let through, with some verdicts; these signed its prepared proof.
+pub record Passes (replica : Replica) (bytes : List ℕ) (fields : Fields) (signers : ReplicaSet) : Type 0 where
   pub verdicts : List ℕ
-  pub passes : acceptance AtReplica (replica .f) bytes verdicts ≡ accepted fields
+  pub passes : acceptance AtReplica (replica .f) bytes verdicts ≡ accepted (fields, signers)
 
 -- What a call on such a message leaves, whichever verdicts let it through.
 pub record Answers (replica : Replica) (bytes : List ℕ) (fields : Fields) (old : List ℕ) (stepped : Stepped) (new : List ℕ) : Type 0 where
-  pub leaves : (verdicts : List ℕ) → acceptance AtReplica (replica .f) bytes verdicts ≡ accepted fields
+  pub leaves : (verdicts : List ℕ) (signers : ReplicaSet) → acceptance AtReplica (replica .f) bytes verdicts ≡ accepted (fields, signers)
       → Leaves replica (replicaAnswers replica old (replicaStep replica bytes verdicts)) stepped new

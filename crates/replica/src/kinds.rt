@@ -14,6 +14,7 @@ use base::refusal::BAD_CARD;
 use base::refusal::NOT_OWN;
 use base::refusal::NOT_SUCCESSOR;
 use base::refusal::NOT_TAKEN;
+use base::replica_set::ReplicaSet;
 use base::timestamp::Successor;
 use base::timestamp::Timestamp;
 use protocol::replica::Held;
@@ -31,7 +32,7 @@ ghost use lib.ListN.{length};
 ghost use Rattle.base.specs.Timestamp.{number, ofNumber, successor};
 ghost use Rattle.wire.specs.Message.{longest};
 ghost use Rattle.wire.specs.Parts.{Whole};
-ghost use Rattle.wire.specs.Proof.{preparedFrom};
+ghost use Rattle.wire.specs.Proof.{preparedFrom, signerSet};
 ghost use Rattle.wire.specs.Writing.{encodedOutcome};
 ghost use Rattle.protocol.specs.Replica.{answerOutcome, isTimestamp, withSlots, withHeld, onReadStamp, onWrite, onRead, replicaAnswers};
 ghost use Rattle.replica.specs.Kinds.{ownOrMissing, standsFor, prepareWith};
@@ -235,8 +236,14 @@ fn stands_for(card: &[u8], digest: &[u8]) -> bool
 }
 
 // WRITE
-pub(super) fn write(replica: Replica, card: &[u8], proof: &[u8], out: &mut [u8]) -> Stepped
-    requires { ⌜ Whole (now proof) × (longest ≤ length (now out)) ⌝ }
+pub(super) fn write(
+    replica: Replica,
+    card: &[u8],
+    proof: &[u8],
+    signers: ReplicaSet,
+    out: &mut [u8],
+) -> Stepped
+    requires { ⌜ Whole (now proof) × (signers ≡ signerSet (preparedFrom (now proof) .entries)) × (longest ≤ length (now out)) ⌝ }
     ensures { λ r. ⌜ Leaves replica (replicaAnswers replica (now (out .entry)) (onWrite replica (now (card .entry)) (preparedFrom (now (proof .entry))))) r (now (out .exit)) ⌝ }
 {
     if !stands_for(card, parts::digest(proof)) {
@@ -249,7 +256,7 @@ pub(super) fn write(replica: Replica, card: &[u8], proof: &[u8], out: &mut [u8])
     if !current.is_before(timestamp) {
         return keep(replica, answer);
     }
-    let next = holding(card, proof);
+    let next = holding(card, proof, signers);
     Stepped {
         answer: answer,
         holds: true,

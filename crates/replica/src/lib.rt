@@ -9,6 +9,7 @@ use base::party::ReplicaId;
 use base::party::Setup;
 use base::party::replica_setup;
 use base::refusal::OUTPUT_TOO_SHORT;
+use base::replica_set::ReplicaSet;
 use base::timestamp::Timestamp;
 use protocol::replica::Held;
 use protocol::replica::Register;
@@ -17,13 +18,13 @@ use protocol::replica::ReplicaAnswer;
 use protocol::replica::SLOT_DIGESTS;
 use protocol::replica::SLOTS;
 use protocol::replica::Slots;
+use wire::acceptance::Accepting;
 use wire::acceptance::accept;
 use wire::layout::CARD_ROOM;
 use wire::layout::DIGEST;
 use wire::layout::ENTRIES_ROOM;
 use wire::layout::LONGEST_MESSAGE;
 use wire::message::Party;
-use wire::message::Reading;
 ghost use mathlib.Core.Path.{_≡_};
 ghost use Rattle.base.specs.Party.{replicaSetup, setupOutcome};
 ghost use Rattle.protocol.specs.Replica.{freshRegister, freshReplica, madeReplica};
@@ -62,6 +63,7 @@ fn fresh_held() -> Held
         card_length: 2,
         card: [0; CARD_ROOM],
         digest: [0; DIGEST],
+        signers: ReplicaSet::empty(),
         entry_count: 0,
         entries: [0; ENTRIES_ROOM],
     }
@@ -115,8 +117,10 @@ pub fn step(replica: Replica, message: &[u8], verdicts: &[u8], out: &mut [u8]) -
         return kinds::refuse(replica, OUTPUT_TOO_SHORT);
     }
     match accept(Party::Replica, replica.f, message, verdicts) {
-        Reading::Message(fields) => requests::on_message(replica, message, fields, out),
-        Reading::Refused(number) => kinds::refuse(replica, number),
+        Accepting::Message(fields, signers) => {
+            requests::on_message(replica, message, fields, signers, out)
+        }
+        Accepting::Refused(number) => kinds::refuse(replica, number),
     }
 }
 

@@ -3,6 +3,7 @@ use crate::Prepared;
 use base::bytes::put;
 use base::bytes::same;
 use base::party::ClientId;
+use base::replica_set::ReplicaSet;
 use base::timestamp::Timestamp;
 use protocol::replica::Held;
 use protocol::replica::SLOT_DIGESTS;
@@ -22,7 +23,7 @@ ghost use Rattle.base.specs.Same.{same};
 ghost use Rattle.base.specs.Timestamp.{number};
 ghost use Rattle.protocol.specs.Replica.{holding};
 ghost use Rattle.wire.specs.Parts.{Whole};
-ghost use Rattle.wire.specs.Proof.{preparedFrom};
+ghost use Rattle.wire.specs.Proof.{preparedFrom, signerSet};
 ghost use Rattle.replica.specs.Kinds.{isSlot, takesSlot};
 ghost use Rattle.replica.specs.Stepping.{putting};
 
@@ -130,9 +131,9 @@ pub(super) fn put_slot(slots: Slots, prepared: Prepared) -> Slots
     next
 }
 
-// A card and its prepared proof, as they are held.
-pub(super) fn holding(card: &[u8], proof: &[u8]) -> Held
-    requires { ⌜ Whole (now proof) × (length (now card) ≤ 17) ⌝ }
+// A card and its prepared proof, as they are held, with those who signed it.
+pub(super) fn holding(card: &[u8], proof: &[u8], signers: ReplicaSet) -> Held
+    requires { ⌜ Whole (now proof) × (signers ≡ signerSet (preparedFrom (now proof) .entries)) × (length (now card) ≤ 17) ⌝ }
     ensures { λ r. ⌜ r ≡ holding (now (card .entry)) (preparedFrom (now (proof .entry))) ⌝ }
 {
     Held {
@@ -140,6 +141,7 @@ pub(super) fn holding(card: &[u8], proof: &[u8]) -> Held
         card_length: card.len() as u8,
         card: card_array(card),
         digest: digest_array(parts::digest(proof)),
+        signers: signers,
         entry_count: parts::entry_count(proof),
         entries: entries_array(parts::entries(proof)),
     }

@@ -2,6 +2,7 @@
 use crate::Stepped;
 use crate::kinds;
 use base::party::ClientId;
+use base::replica_set::ReplicaSet;
 use protocol::replica::Replica;
 use wire::arrays::digest_array;
 use wire::message::Fields;
@@ -13,7 +14,7 @@ ghost use Rattle.wire.specs.Message.{longest};
 ghost use Rattle.replica.specs.Leaving.{Passes, Answers};
 
 fn on_prepare(replica: Replica, message: &[u8], fields: Fields, out: &mut [u8]) -> Stepped
-    requires { ⌜ Passes replica (now message) fields × (fields .kind ≡ 2) × (longest ≤ length (now out)) ⌝ }
+    requires { ⌜ ((signers : ReplicaSet) × Passes replica (now message) fields signers) × (fields .kind ≡ 2) × (longest ≤ length (now out)) ⌝ }
     ensures { λ r. ⌜ Answers replica (now (message .entry)) fields (now (out .entry)) r (now (out .exit)) ⌝ }
 {
     let client = ClientId(fields.sender);
@@ -28,8 +29,14 @@ fn on_prepare(replica: Replica, message: &[u8], fields: Fields, out: &mut [u8]) 
     kinds::prepare(replica, client, timestamp, &digest, shown, last, out)
 }
 
-fn on_write(replica: Replica, message: &[u8], fields: Fields, out: &mut [u8]) -> Stepped
-    requires { ⌜ Passes replica (now message) fields × (fields .kind ≡ 3) × (longest ≤ length (now out)) ⌝ }
+fn on_write(
+    replica: Replica,
+    message: &[u8],
+    fields: Fields,
+    signers: ReplicaSet,
+    out: &mut [u8],
+) -> Stepped
+    requires { ⌜ Passes replica (now message) fields signers × (fields .kind ≡ 3) × (longest ≤ length (now out)) ⌝ }
     ensures { λ r. ⌜ Answers replica (now (message .entry)) fields (now (out .entry)) r (now (out .exit)) ⌝ }
 {
     let card_at = fields.card;
@@ -38,6 +45,7 @@ fn on_write(replica: Replica, message: &[u8], fields: Fields, out: &mut [u8]) ->
         replica,
         parts::card(message, card_at),
         parts::part(message, proof_at),
+        signers,
         out,
     )
 }
@@ -47,16 +55,17 @@ pub(super) fn on_message(
     replica: Replica,
     message: &[u8],
     fields: Fields,
+    signers: ReplicaSet,
     out: &mut [u8],
 ) -> Stepped
-    requires { ⌜ Passes replica (now message) fields × (longest ≤ length (now out)) ⌝ }
+    requires { ⌜ Passes replica (now message) fields signers × (longest ≤ length (now out)) ⌝ }
     ensures { λ r. ⌜ Answers replica (now (message .entry)) fields (now (out .entry)) r (now (out .exit)) ⌝ }
 {
     let kind = fields.kind;
     match kind {
         1 => kinds::read_stamp(replica, ClientId(fields.sender), fields.nonce, out),
         2 => on_prepare(replica, message, fields, out),
-        3 => on_write(replica, message, fields, out),
+        3 => on_write(replica, message, fields, signers, out),
         _ => kinds::read(replica, ClientId(fields.sender), fields.nonce, out),
     }
 }

@@ -6,7 +6,7 @@ use Rattle.replica.proofs.fresh_held.Tie as tie
 
 returns : tie.Need-returns
 unfolding freshRegister
-returns c = rw (c .start .ensures)
+returns c = rw (c .before .start .ensures, c .empty .ensures)
 
 pub fresh-held-spec : {M : Type 1} → statement M
-fresh-held-spec = tie.close (tie.spec (λ c κs. search needs) returns)
+fresh-held-spec = tie.close (tie.spec (λ c κs. search needs) (λ c κs. search needs) returns)

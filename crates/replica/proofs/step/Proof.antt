@@ -11,7 +11,7 @@ use Rattle.replica.proofs.step.Statement.{statement}
 use Rattle.replica.proofs.step.Tie as tie
 
 passed : (c : tie.After-fields)
-    → acceptance AtReplica (c .before .before .before .before .before .before .before .args .replica .f) (c .before .before .before .before .before .before .before .args .message .now) (c .before .before .before .before .before .before .before .args .verdicts .now) ≡ accepted (c .fields .given .0 .0)
+    → acceptance AtReplica (c .before .before .before .before .before .before .before .args .replica .f) (c .before .before .before .before .before .before .before .args .message .now) (c .before .before .before .before .before .before .before .args .verdicts .now) ≡ accepted (c .fields .given .0 .0, c .fields .given .0 .1 .0)
 passed c = rw (c .fields .given .1) at (sym (c .before .before .accept .ensures))
 
 turned-down : (c : tie.After-number)
@@ -33,7 +33,7 @@ returns-2 c =
     let x = c .before .before .before .before .before .before .before .before .before .before .before .before .args in
     let m = c .before .before in
     steps-long (x .replica) (x .message .now) (x .verdicts .now) (x .out .now) _ _ (omega (arith, m .before .before .before .before .before .before .if1 .left))
-    (m .on-message .ensures .leaves (x .verdicts .now) (passed (m .before .before .before)))
+    (m .on-message .ensures .leaves (x .verdicts .now) _ (passed (m .before .before .before)))
 
 returns-3 : tie.Need-returns-3
 returns-3 c =

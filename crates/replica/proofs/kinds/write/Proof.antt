@@ -57,14 +57,14 @@ returns-2 c =
     let s = x .before .before .before .before .before .before .before in
     let a = s .args in
     let later = ap (ltb (heldTimestamp (a .replica .register .held))) (stamp x) ∙ sym (c .before .before .is-before .ensures .by-number) ∙ not-true _ (c .before .if2 .taken) in
-    sends-keeping (a .replica) (a .out .now) _ _ _ _ _ _ _ (replies x) (s .pre .1) (w .write-written .ensures) (c .before .before .before .before .answer-of .ensures)
+    sends-keeping (a .replica) (a .out .now) _ _ _ _ _ _ _ (replies x) (s .pre .2) (w .write-written .ensures) (c .before .before .before .before .answer-of .ensures)
     (sym (not-later (a .replica) (a .card .now) (preparedFrom (a .proof .now)) later)) (c .keep .ensures)
 
 holding-requires : tie.Need-holding-requires
 holding-requires c κs =
     let x = c .before .before .before .before .before .before .before .before in
     let s = x .before .before .before .before .before .before .before in
-    (s .pre .0, standing-short (s .args .card .now) (preparedFrom (s .args .proof .now) .digest) (right x))
+    (s .pre .0, s .pre .1, standing-short (s .args .card .now) (preparedFrom (s .args .proof .now) .digest) (right x))
 
 returns-3 : tie.Need-returns-3
 returns-3 c =
@@ -73,7 +73,7 @@ returns-3 c =
     let s = x .before .before .before .before .before .before .before in
     let a = s .args in
     let later = ap (ltb (heldTimestamp (a .replica .register .held))) (stamp x) ∙ sym (c .before .before .before .before .is-before .ensures .by-number) ∙ not-false _ (c .before .before .before .if2 .left) in
-    sends (a .replica) (a .out .now) _ _ _ _ _ _ (replies x) (s .pre .1) (w .write-written .ensures) (c .before .before .before .before .before .before .answer-of .ensures)
+    sends (a .replica) (a .out .now) _ _ _ _ _ _ (replies x) (s .pre .2) (w .write-written .ensures) (c .before .before .before .before .before .before .answer-of .ensures)
     (c .before .with-held .ensures ∙ ap (withHeld (a .replica)) (c .before .before .holding .ensures ∙ sym (is-later (a .replica) (a .card .now) (preparedFrom (a .proof .now)) later)))
     (record { only = c .before .with-held .ensures; first = rw (c .nothing-prepared .ensures) (omega arith); last = rw (c .nothing-prepared .ensures) (omega arith) })
 

@@ -15,7 +15,7 @@ start c = c .before .before .before .before .before .before .before .before .bef
 prepare-requires : tie.Need-prepare-requires
 prepare-requires c κs =
     let s = start c in
-    (prepare-sender (s .args .replica) (s .args .message .now) (s .pre .0 .verdicts) (s .args .fields) (s .pre .0 .passes) (s .pre .1), s .pre .2)
+    (prepare-sender (s .args .replica) (s .args .message .now) (s .pre .0 .1 .verdicts) (s .args .fields) (s .pre .0 .1 .passes) (s .pre .1), s .pre .2)
 
 returns : tie.Need-returns
 returns c =
@@ -27,11 +27,11 @@ returns c =
     let x = s .args in
     let bytes = x .message .now in
     let digest : copied .digest-array .result ≡ partAt bytes (x .fields .digest) =
-    copied .digest-array .ensures ∙ ap (filled 32) (copied .before .part .ensures) ∙ filled-whole 32 _ (prepare-digest (x .replica .f) bytes (s .pre .0 .verdicts) (x .fields) (s .pre .0 .passes) (s .pre .1)) in
+    copied .digest-array .ensures ∙ ap (filled 32) (copied .before .part .ensures) ∙ filled-whole 32 _ (prepare-digest (x .replica .f) bytes (s .pre .0 .1 .verdicts) (x .fields) (s .pre .0 .1 .passes) (s .pre .1)) in
     let first : shown .timestamp2 .result ≡ timestampPart (partAt bytes (x .fields .prepared)) = shown .timestamp2 .ensures ∙ ap timestampPart (shown .before .part2 .ensures) in
     let second : last .timestamp3 .result ≡ timestampPart (partAt bytes (x .fields .written)) = last .timestamp3 .ensures ∙ ap timestampPart (last .before .part3 .ensures) in
     answers (x .replica) bytes (x .fields) (x .out .now) _ _ _
-    (λ verdicts e. prepare-as (x .replica) bytes verdicts (x .fields) e (s .pre .1) _ _ _ digest first second)
+    (λ verdicts signers e. prepare-as (x .replica) bytes verdicts (x .fields) e (s .pre .1) _ _ _ digest first second)
     (p .prepare .ensures)
 
 pub on-prepare-spec : {M : Type 1} → statement M

@@ -4,7 +4,7 @@ use mathlib.Core.List.{List}
 use Prim.Native.Nat.{ℕ}
 use borrow.Author.Needs.{needs}
 use Rattle.wire.specs.Proof.{preparedFrom}
-use Rattle.wire.proofs.Handed.{write-proof}
+use Rattle.wire.proofs.Handed.{write-proof, write-signers}
 use Rattle.protocol.specs.Replica.{onWrite}
 use Rattle.replica.proofs.Asked.{step-write, answers}
 use Rattle.replica.proofs.requests.on_write.Statement.{statement}
@@ -16,7 +16,9 @@ start c = c .before .before .before .before .before .before .before
 write-requires : tie.Need-write-requires
 write-requires c κs =
     let s = start c in
-    rw (c .before .part .ensures) (write-proof (s .args .replica .f) (s .args .message .now) (s .pre .0 .verdicts) (s .args .fields) (s .pre .0 .passes) (s .pre .1), s .pre .2)
+    let x = s .args in
+    let passes = s .pre .0 .passes in
+    rw (c .before .part .ensures) (write-proof (x .replica .f) (x .message .now) (s .pre .0 .verdicts) (x .fields) passes (s .pre .1), write-signers (x .replica .f) (x .message .now) (s .pre .0 .verdicts) (x .fields) passes (s .pre .1), s .pre .2)
 
 returns : tie.Need-returns
 returns c =
@@ -26,7 +28,7 @@ returns c =
     let card = w .before .before .before .card in
     let proof = w .before .before .part in
     answers (x .replica) (x .message .now) (x .fields) (x .out .now) _ _ (onWrite (x .replica) (card .result .now) (preparedFrom (proof .result .now)))
-    (λ verdicts e. step-write (x .replica) (x .message .now) verdicts (x .fields) e (s .pre .1) ∙ ap₂ (λ (c p : List ℕ). onWrite (x .replica) c (preparedFrom p)) (sym (card .ensures)) (sym (proof .ensures)))
+    (λ verdicts signers e. step-write (x .replica) (x .message .now) verdicts (x .fields) e (s .pre .1) ∙ ap₂ (λ (c p : List ℕ). onWrite (x .replica) c (preparedFrom p)) (sym (card .ensures)) (sym (proof .ensures)))
     (w .write .ensures)
 
 pub on-write-spec : {M : Type 1} → statement M
