@@ -8,9 +8,10 @@ use Rattle.play.proofs.output.put_done.Tie as tie
 returns : tie.Need-returns
 unfolding said
 returns c =
-    let space = c .before .before .before .before .before .before in
+    let shown = c .before .before .before .before .before .before in
+    let space = shown .before .before .before .before in
     let when = space .before .before .before .before .before in
-    then (then (then (when .before .before .before .before .put .ensures) (when .put-timestamp .ensures)) (space .put2 .ensures)) (c .before .before .put-hex .ensures)
+    then (then (then (then (when .before .before .before .before .put .ensures) (when .put-timestamp .ensures)) (space .put2 .ensures)) (shown .put-hex .ensures)) (c .before .before .put-signers .ensures)
 
 pub put-done-spec : {M : Type 1} → statement M
-put-done-spec = tie.close (tie.spec (λ c. search needs) (λ c κs. search needs) (λ c κs. search needs) (λ c. search needs) (λ c κs. search needs) (λ c κs. search needs) (λ c. search needs) returns)
+put-done-spec = tie.close (tie.spec (λ c. search needs) (λ c κs. search needs) (λ c κs. search needs) (λ c. search needs) (λ c κs. search needs) (λ c κs. search needs) (λ c κs. search needs) (λ c. search needs) returns)
