@@ -11,12 +11,11 @@ use lib.ListN.{length, take, length-append}
 use lib.Seq.{take-all}
 use Rattle.base.specs.Counting.{replica, one, count}
 use Rattle.base.specs.Party.{isReplica, replicaCount, quorumSize}
-use Rattle.base.specs.Range.{within}
 use Rattle.base.specs.ReplicaSet.{has, with, isQuorum}
 use Rattle.base.specs.Rising.{listed, rising}
 use Rattle.base.specs.declared.party.ReplicaId.{ReplicaId}
 use Rattle.base.specs.declared.replica_set.ReplicaSet.{ReplicaSet}
-use Rattle.base.proofs.Booleans.{and-true-both, or-true}
+use Rattle.base.proofs.Booleans.{or-true}
 use Rattle.base.proofs.Listed.{member-listed}
 use Rattle.base.proofs.Quorum.{rising-first}
 use Rattle.base.proofs.Range.{bounds}
