@@ -1,6 +1,6 @@
 -- The set of listed replicas: who is in it, and how many they are. Assumes nothing.
-use mathlib.Core.Path.{_≡_, refl, sym, _∙_}
-use mathlib.Core.Bool.{Bool, true, false, _&&_, _||_}
+use mathlib.Core.Path.{_≡_, refl, sym, ap, _∙_}
+use mathlib.Core.Bool.{Bool, true, false, _&&_, _||_, or-false, or-comm, or-assoc}
 use mathlib.Core.List.{List, [], _∷_, _++_}
 use mathlib.Core.Logic.{_⊎_, inl, inr}
 use Prim.Native.Nat.{ℕ, _≤_, _<_}
@@ -27,21 +27,14 @@ has-all set [] i low high = refl
 has-all set (x ∷ ids) i low high = has-all (with set x) ids i low high ∙ rw (has-with set x i low high) (swap (listed ids (replica i)) (eqb i (x .0)) (has set (replica i)))
   where
     swap : (a b c : Bool) → (a || (b || c)) ≡ ((b || a) || c)
-    swap true true c = refl
-    swap true false c = refl
-    swap false true c = refl
-    swap false false c = refl
+    swap a b c = sym (or-assoc a b c) ∙ ap (λ (both : Bool). both || c) (or-comm a b)
 
 -- The members of the set of a list are the listed ones among 1 to 16.
 pub members : (ids : List ReplicaId) (id : ReplicaId) → has (setOf ids) id ≡ (within 1 16 (id .0) && listed ids id)
 members ids id = go (within 1 16 (id .0)) refl
   where
-    or-nothing : (a : Bool) → (a || false) ≡ a
-    or-nothing true = refl
-    or-nothing false = refl
-
     go : (b : Bool) → within 1 16 (id .0) ≡ b → has (setOf ids) id ≡ (b && listed ids id)
-    go true e = let range = bounds 1 16 (id .0) e in has-all empty ids (id .0) (range .0) (range .1) ∙ rw (has-empty id) (or-nothing (listed ids id))
+    go true e = let range = bounds 1 16 (id .0) e in has-all empty ids (id .0) (range .0) (range .1) ∙ rw (has-empty id) (or-false (listed ids id))
     go false e = unfold has in rw e
 
 pub member-listed : (ids : List ReplicaId) (id : ReplicaId) → has (setOf ids) id ≡ true → listed ids id ≡ true

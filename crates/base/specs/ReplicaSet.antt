@@ -1,11 +1,12 @@
 -- Sets of replicas as masks of 16 bits: replica i is bit i - 1.
-use mathlib.Core.Bool.{Bool, _&&_, cond}
+use mathlib.Core.Path.{_≡_}
+use mathlib.Core.Bool.{Bool, true, _&&_, cond}
 use mathlib.Core.List.{List, [], _∷_}
 use Prim.Native.Nat.{ℕ, _-_, _/_, _%_, _^_}
 use lib.Bits.{bitOr}
 use lib.Dec.{leb, eqb}
 use Rattle.base.specs.Counting.{count}
-use Rattle.base.specs.Party.{replicaCount, quorumSize}
+use Rattle.base.specs.Party.{replicaCount, quorumSize, isReplica}
 use Rattle.base.specs.Range.{within}
 use Rattle.base.specs.declared.party.ReplicaId.{ReplicaId}
 use Rattle.base.specs.declared.replica_set.ReplicaSet.{ReplicaSet}
@@ -32,6 +33,11 @@ setOf ids = withAll empty ids
 
 abbrev pub size : ReplicaSet → ℕ
 size set = count 16 (has set)
+
+-- Document 02, #102: a set of holders, "exactly q of them", and so none that is no holder.
+pub record Quorate (f : ℕ) (set : ReplicaSet) : Type 0 where
+  pub exactly : size set ≡ quorumSize f
+  pub replicas : (id : ReplicaId) → has set id ≡ true → isReplica f id ≡ true
 
 -- Document 01: "A quorum is q = 2f + 1 different holders", of the holders 1 to n.
 abbrev pub isQuorum : ℕ → ReplicaSet → Bool

@@ -13,7 +13,7 @@ use lib.ListN.{length, drop, length-append}
 use Rattle.base.specs.Counting.{count}
 use Rattle.base.specs.Outcome.{accepted, guard}
 use Rattle.base.specs.Party.{replicaCount, quorumSize, isWriter}
-use Rattle.base.specs.ReplicaSet.{has, size}
+use Rattle.base.specs.ReplicaSet.{has, Quorate}
 use Rattle.base.specs.declared.party.ClientId.{ClientId}
 use Rattle.base.specs.declared.party.ReplicaId.{ReplicaId}
 use Rattle.base.specs.declared.replica_set.ReplicaSet.{ReplicaSet}
@@ -27,7 +27,7 @@ use Rattle.wire.specs.Message.{Message, PREPARED, CARD, Legal, Fits, PreparedFi
 use Rattle.wire.specs.Proof.{Entry, PreparedProof, signers, signerSet}
 use Rattle.wire.specs.Signatures.{preparedSignatures, signaturesOf}
 use Rattle.wire.proofs.ProofBytes.{prepared-rewritten}
-use Rattle.wire.proofs.SignerSets.{shaped-signers}
+use Rattle.wire.proofs.SignerSets.{shaped-signers, shaped-count}
 use Rattle.protocol.specs.Client.{send}
 use Rattle.protocol.specs.Replica.{slotCount, slotDigest}
 use Rattle.protocol.specs.declared.replica.Slots.{Slots}
@@ -107,7 +107,7 @@ module _ (R : Run) where
 
   -- The set is of exactly q replicas, all among 1 to n, whose correct members sent PREPARED with this timestamp and digest before event t.
   pub record Backed (t s : ℕ) (d : List ℕ) (who : ReplicaSet) : Type 0 where
-    pub exact : size who ≡ quorumSize (R .f)
+    pub exact : Quorate (R .f) who
     pub enough : quorumSize (R .f) ≤ count (replicaCount (R .f)) (has who)
     pub signed : (id : ReplicaId) → has who id ≡ true → R .correct-replica id ≡ true → Said R (replica id) (PREPARED id s d) t
 
@@ -118,8 +118,7 @@ module _ (R : Run) where
   pub shaped-backed : (t s : ℕ) (d : List ℕ) (entries : List Entry) → shaped (R .f) entries ≡ true
       → ((id : ReplicaId) → has (signerSet entries) id ≡ true → R .correct-replica id ≡ true → Said R (replica id) (PREPARED id s d) t) → Backed t s d (signerSet entries)
   shaped-backed t s d entries shape said-it =
-      let set = shaped-signers (R .f) entries shape in
-      record { exact = set .exactly; enough = omega (arith, set .among); signed = said-it }
+      record { exact = shaped-signers (R .f) entries shape; enough = omega (arith, shaped-count (R .f) entries shape); signed = said-it }
 
   -- A proof of the right shape whose entries are genuine.
   backed-by : (t : ℕ) (proof : PreparedProof) (verdicts : List ℕ) → PreparedFits proof → shaped (R .f) (proof .entries) ≡ true → length (proof .entries) ≤ length verdicts → genuine verdicts ≡ true

@@ -4,8 +4,7 @@ use mathlib.Core.Logic.{_⊎_}
 use mathlib.Core.Bool.{true}
 use mathlib.Core.List.{List}
 use Prim.Native.Nat.{ℕ, suc}
-use Rattle.base.specs.Party.{quorumSize}
-use Rattle.base.specs.ReplicaSet.{empty, has, size}
+use Rattle.base.specs.ReplicaSet.{empty, has, Quorate}
 use Rattle.base.specs.Timestamp.{number}
 use Rattle.base.specs.declared.party.ReplicaId.{ReplicaId}
 use Rattle.base.specs.declared.replica_set.ReplicaSet.{ReplicaSet}
@@ -23,7 +22,7 @@ module _ (R : Run) where
   abbrev pub VouchedFor : Timestamp → List ℕ → ReplicaSet → ℕ → Type 0
   VouchedFor timestamp card signers t =
       ((number timestamp ≡ 0) × (signers ≡ empty))
-      ⊎ ((size signers ≡ quorumSize (R .f))
+      ⊎ (Quorate (R .f) signers
       × ((id : ReplicaId) → has signers id ≡ true → R .correct-replica id ≡ true → Said R (replica id) (PREPARED id (number timestamp) (sha256 card)) t))
 
   -- "done shows its card's": every finished operation's, and every view's.

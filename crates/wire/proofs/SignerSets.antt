@@ -9,10 +9,9 @@ use lib.Dec.{eqb}
 use lib.ListN.{length, length-map}
 use Rattle.base.specs.Outcome.{accepted, guard}
 use Rattle.base.specs.Counting.{count}
-use Rattle.base.specs.Party.{replicaCount, quorumSize, isReplica}
-use Rattle.base.specs.ReplicaSet.{has, size}
+use Rattle.base.specs.Party.{replicaCount, quorumSize}
+use Rattle.base.specs.ReplicaSet.{has, Quorate}
 use Rattle.base.specs.Rising.{rising}
-use Rattle.base.specs.declared.party.ReplicaId.{ReplicaId}
 use Rattle.base.specs.declared.replica_set.ReplicaSet.{ReplicaSet}
 use Rattle.base.proofs.Booleans.{and-true-both}
 use Rattle.base.proofs.Listed.{member-listed, count-members, rising-size, rising-within}
@@ -22,24 +21,29 @@ use Rattle.base.proofs.Range.{inside}
 use Rattle.wire.specs.Checks.{shaped, genuine, issued, proofOutcome}
 use Rattle.wire.specs.Proof.{Entry, signers, signerSet}
 
-pub record Quorate (f : ℕ) (set : ReplicaSet) : Type 0 where
-  pub exactly : size set ≡ quorumSize f
-  pub among : count (replicaCount f) (has set) ≡ quorumSize f
-  pub replicas : (id : ReplicaId) → has set id ≡ true → isReplica f id ≡ true
-
 -- Entries that pass 9.
-pub shaped-signers : (f : ℕ) (entries : List Entry) → shaped f entries ≡ true → Quorate f (signerSet entries)
-unfolding shaped
-shaped-signers f entries shape =
-    let both = and-true-both (eqb (length entries) (quorumSize f)) (rising 0 (replicaCount f) (signers entries)) shape in
-    let many : length (signers entries) ≡ quorumSize f = length-map entries (λ (entry : Entry). entry .signer) ∙ eqb-true (length entries) (quorumSize f) (both .0) in
-    record {
-      exactly = rising-size (replicaCount f) (signers entries) (omega arith) (both .1) ∙ many;
-      among = count-members (replicaCount f) (signers entries) (omega arith) ∙ rising-count 0 (replicaCount f) (signers entries) (both .1) ∙ many;
-      replicas = λ id there.
-          let at = rising-within 0 (replicaCount f) (signers entries) id (both .1) (member-listed (signers entries) id there) in
-          inside 1 (replicaCount f) (id .0) (omega arith) (at .1);
-    }
+module _ (f : ℕ) (entries : List Entry) (shape : shaped f entries ≡ true) where
+  rise : rising 0 (replicaCount f) (signers entries) ≡ true
+  unfolding shaped
+  rise = and-true-both (eqb (length entries) (quorumSize f)) (rising 0 (replicaCount f) (signers entries)) shape .1
+
+  many : length (signers entries) ≡ quorumSize f
+  unfolding shaped
+  many =
+      length-map entries (λ (entry : Entry). entry .signer)
+      ∙ eqb-true (length entries) (quorumSize f) (and-true-both (eqb (length entries) (quorumSize f)) (rising 0 (replicaCount f) (signers entries)) shape .0)
+
+  pub shaped-signers : Quorate f (signerSet entries)
+  shaped-signers = record {
+    exactly = rising-size (replicaCount f) (signers entries) (omega arith) rise ∙ many;
+    replicas = λ id there.
+        let at = rising-within 0 (replicaCount f) (signers entries) id rise (member-listed (signers entries) id there) in
+        inside 1 (replicaCount f) (id .0) (omega arith) (at .1);
+  }
+
+  -- Counted among 1 to n they are as many.
+  pub shaped-count : count (replicaCount f) (has (signerSet entries)) ≡ quorumSize f
+  shaped-count = count-members (replicaCount f) (signers entries) (omega arith) ∙ rising-count 0 (replicaCount f) (signers entries) rise ∙ many
 
 -- "Let the proof check .. yield for a good proof the set of holders whose entries it found genuine, exactly q of them"
 pub good-signers : (f : ℕ) (entries : List Entry) (verdicts : List ℕ) (timestamp : ℕ) (set : ReplicaSet) → proofOutcome f entries verdicts timestamp ≡ accepted set
