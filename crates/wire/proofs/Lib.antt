@@ -8,6 +8,7 @@ pub mod Framed
 pub mod Handed
 pub mod Kept
 pub mod KindTests
+pub mod LastRegister
 pub mod OneForm
 pub mod Parsed
 pub mod Passed

@@ -14,17 +14,17 @@ use Rattle.base.specs.BigEndian.{fromBytes, toBytes, Bytes}
 use Rattle.base.specs.BitMap.{bit, mapOf}
 use Rattle.base.specs.Outcome.{accepted}
 use Rattle.base.specs.declared.party.RegisterId.{RegisterId}
-use Rattle.wire.specs.Decode.{messageIn, forRegister, decode, kindIn, cardIn, registerIn}
+use Rattle.wire.specs.Decode.{forRegister, decode, kindIn, cardIn, registerIn}
 use Rattle.wire.specs.Layout.{Rule, fixed, extent, rules, mapIn, place, field, signature}
 use Rattle.wire.specs.Message.{Message, preparedField, writtenField, fields, joined, body, encode, IsDigest, IsSignature, PreparedFits, WrittenFits, IfThere, CardFits, Fits, Legal, size}
 use Rattle.wire.specs.Proof.{preparedFrom, writtenFrom}
 use Rattle.wire.specs.declared.message.Party.{Party}
 use Rattle.wire.proofs.Framed.{Framed, Headed, place-next, field-absent, field-whole, bytes-field, map-small, first-bits}
-use Rattle.wire.proofs.Parsed.{preparedAt, writtenAt, prepared-whole, written-whole, messageOf, Tested, tested-accepted, message-tested, decode-splits}
+use Rattle.wire.proofs.Parsed.{preparedAt, writtenAt, prepared-whole, written-whole, messageOf, Tested, message-tested, decode-splits, decode-tested}
 use Rattle.base.proofs.BigEndian.{bytes-take, bytes-drop}
 use Rattle.wire.proofs.Widths.{rewritten, below}
 use Rattle.wire.proofs.ProofBytes.{prepared-back, prepared-fits, written-back, written-fits}
-use Rattle.wire.proofs.Rows.{Taken, read-stamp, prepare, write, read, stamp, prepared, written, card, bits}
+use Rattle.wire.proofs.Rows.{Taken, read-stamp, prepare, write, read, stamp, prepared, written, card, has-register, bits}
 use Rattle.wire.proofs.Size.{encode-size}
 
 -- A field by its bit; so many fields of some bytes, from a bit on.
@@ -240,21 +240,9 @@ module _ (bytes : List ℕ) (f : Framed bytes) (small : Bytes bytes) where
   message-fields kind party k (card e) =
       rw (kind-back kind k, sender-back, nonce-back (cc), card-back (cc), prepared-part, addressed-back (cc), register-back (cc)) (by-bits _ e)
 
--- Every kind has bit 9.
-has-register : {map kind : ℕ} {party : Party} → Taken map kind party → bit map 9 ≡ true
-has-register (read-stamp e) = cc
-has-register (prepare e) = cc
-has-register (write e) = cc
-has-register (read e) = cc
-has-register (stamp e) = cc
-has-register (prepared e) = cc
-has-register (written e) = cc
-has-register (card e) = cc
-
 module _ (party : Party) (bytes : List ℕ) (x : RegisterId) (m : Message) (e : decode party bytes ≡ accepted (forRegister x m)) where
   decode-passed : Tested party bytes
-  unfolding messageIn
-  decode-passed = tested-accepted party bytes (λ row. row .message bytes) m (decode-splits party bytes x m e .1)
+  decode-passed = decode-tested party bytes x m e
 
   found : messageOf (decode-passed .passed .taken) bytes ≡ m
   found = cc (message-tested party bytes decode-passed, decode-splits party bytes x m e .1)

@@ -256,3 +256,8 @@ module _ (party : Party) (bytes : List ℕ) where
       go (accepted m′) d e =
           let both : forRegister (registerIn bytes) m′ ≡ forRegister x m = cc in
           (ap (λ (pair : RegisterId × Message). pair .0) both, d ∙ ap (λ (pair : RegisterId × Message). accepted (pair .1)) both)
+
+  -- It passed 2 to 5.
+  pub decode-tested : (x : RegisterId) (m : Message) → decode party bytes ≡ accepted (forRegister x m) → Tested party bytes
+  unfolding messageIn
+  decode-tested x m e = tested-accepted party bytes (λ row. row .message bytes) m (decode-splits x m e .1)

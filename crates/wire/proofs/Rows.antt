@@ -95,6 +95,17 @@ pub data Taken (map : ℕ) : ℕ → Party → Type 0 where
   written : bits map ≡ true ∷ true ∷ false ∷ true ∷ false ∷ false ∷ false ∷ false ∷ false ∷ true ∷ [] → Taken map 7 Client
   card : bits map ≡ true ∷ true ∷ true ∷ false ∷ false ∷ true ∷ bit map 6 ∷ false ∷ true ∷ true ∷ [] → Taken map 8 Client
 
+-- Each has the register's bit.
+pub has-register : {map kind : ℕ} {party : Party} → Taken map kind party → bit map 9 ≡ true
+has-register (read-stamp e) = cc
+has-register (prepare e) = cc
+has-register (write e) = cc
+has-register (read e) = cc
+has-register (stamp e) = cc
+has-register (prepared e) = cc
+has-register (written e) = cc
+has-register (card e) = cc
+
 prepare-bits : (map : ℕ) → without (6 ∷ 7 ∷ []) map ≡ 539 → bits map ≡ true ∷ true ∷ false ∷ true ∷ true ∷ false ∷ bit map 6 ∷ bit map 7 ∷ false ∷ true ∷ []
 prepare-bits map e =
     may-be (λ (n : ℕ). without (6 ∷ []) map ≡ n → P map) 7 (without (6 ∷ []) map) 539 e (λ e6. may-be P 6 map 539 e6 refl refl) (λ e6. may-be P 6 map 667 e6 refl refl) refl

@@ -3,13 +3,14 @@ use mathlib.Core.Path.{_≡_}
 use mathlib.Core.Bool.{cond}
 use mathlib.Core.List.{List, [], _∷_}
 use mathlib.Core.Option.{Option, none, some}
-use Prim.Native.Nat.{ℕ, _≤_}
+use Prim.Native.Nat.{ℕ, _-_, _≤_}
 use lib.Dec.{ltb}
 use lib.ListN.{length, getD, take, drop}
 use Rattle.base.specs.BigEndian.{fromBytes}
 use Rattle.base.specs.Bytes.{between}
 use Rattle.base.specs.ReplicaSet.{empty}
 use Rattle.base.specs.Timestamp.{ofNumber, start}
+use Rattle.base.specs.declared.party.RegisterId.{RegisterId}
 use Rattle.base.specs.declared.replica_set.ReplicaSet.{ReplicaSet}
 use Rattle.base.specs.declared.timestamp.Timestamp.{Timestamp}
 use Rattle.wire.specs.Layout.{extent, preparedRule}
@@ -19,6 +20,11 @@ use Rattle.wire.specs.declared.message.Span.{Span}
 -- The bytes at a place.
 abbrev pub partAt : List ℕ → Span → List ℕ
 partAt bytes at = between bytes (at .start) (at .end)
+
+-- Document 02, #103: the set stands "after bit 8", so last before the signature: the register that a message is for, found without a walk
+-- over its fields; 0 where there are too few bytes.
+unfoldable pub lastRegister : List ℕ → RegisterId
+lastRegister bytes = record { 0 = cond (ltb (length bytes) 65) 0 (getD bytes (length bytes - 65) 0) }
 
 -- A card stands behind its length byte.
 abbrev pub cardAt : List ℕ → Span → List ℕ

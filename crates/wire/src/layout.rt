@@ -6,6 +6,9 @@ pub const MAPS: u16 = 1_024;
 
 pub const SIGNATURE: usize = 64;
 
+// A message's last field, and what stands behind it.
+pub const REGISTER_AND_SIGNATURE: usize = 1 + SIGNATURE;
+
 pub const TIMESTAMP: usize = 5;
 
 pub const DIGEST: usize = 32;

@@ -1,14 +1,29 @@
-// The parts of a message that was read, and of its prepared proof: parts of the caller's slice, empty where there is none.
+// The parts of a message that was read, and of its prepared proof: parts of the caller's slice, empty where there is none. And the
+// register of bytes that may be no message.
 use crate::layout::DIGEST;
 use crate::layout::PREPARED_HEAD;
+use crate::layout::REGISTER_AND_SIGNATURE;
 use crate::layout::TIMESTAMP;
 use crate::layout::WRITTEN_HEAD;
 use crate::message::Span;
+use base::party::RegisterId;
 use base::slices::behind;
 use base::slices::between;
 use base::timestamp::Timestamp;
 ghost use mathlib.Core.Path.{_≡_};
-ghost use Rattle.wire.specs.Parts.{partAt, cardAt, timestampPart, digestPart, countPart, writtenCount, entriesPart};
+ghost use Rattle.wire.specs.Parts.{lastRegister, partAt, cardAt, timestampPart, digestPart, countPart, writtenCount, entriesPart};
+
+// The register that a message is for, by its last byte before the signature; 0 where there are too few bytes. Whether the bytes are
+// a message for a register, tests 2 to 6 and 20 say.
+pub fn last_register(bytes: &[u8]) -> RegisterId
+    ensures { λ r. ⌜ r ≡ lastRegister (now (bytes .entry)) ⌝ }
+{
+    if bytes.len() < REGISTER_AND_SIGNATURE {
+        return RegisterId(0);
+    }
+    let at = bytes.len() - REGISTER_AND_SIGNATURE;
+    RegisterId(bytes[at])
+}
 
 // The bytes at a place: a digest, a proof, the signature.
 pub fn part(bytes: &[u8], at: Span) -> &[u8]
