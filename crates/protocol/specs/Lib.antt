@@ -1,6 +1,1 @@
-pub mod Client
-pub mod Examples
-pub mod OperationMessages
-pub mod Parts
-pub mod Replica
-pub mod Viewer
+pub mod Bank
