@@ -144,7 +144,7 @@ module _ (before : Client) (verdicts : List ℕ) (message : Message) (passed : P
         (prepare-legal client (after .kept .fits) (bestOf best proof) best-fit next next-fit)
         (stamps-enough sender nonce proof best counted next (ifIssued (number (bestOf best proof)) (bestProof client (bestOf best proof))) (lastWritten client)
         is-message at new quorum (rw (← after .kept .same-id) e) (after .card-is) (ap sha256 (after .card-is)) refl
-        (issued-timestamp (number (bestOf best proof)) (bestProof client (bestOf best proof)) refl)
+        (issued-timestamp (number (bestOf best proof)) (bestProof client (bestOf best proof)) refl) (after .last-is)
         (record { answer-is = cc; phase-is = refl })))
 
     after-stamp : Accepts (ClientFacts before verdicts message) (afterStamp nonce (bestOf best proof) (with counted sender) client)

@@ -11,3 +11,4 @@ pub mod Examples
 pub mod Fit
 pub mod OperationMessages
 pub mod ReplicaFacts
+pub mod Towards
