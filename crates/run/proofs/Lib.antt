@@ -1,11 +1,14 @@
 pub mod Atomicity
 pub mod Bodies
+pub mod Called
 pub mod Demand3
 pub mod Held
 pub mod Nonces
 pub mod Operations
 pub mod Order
+pub mod Prefix
 pub mod ReadsFrom
+pub mod SameReplies
 pub mod SentMessages
 pub mod Slots
 pub mod Stages

@@ -107,11 +107,11 @@ module _ (R : Run) where
   pub correct-replica-range : (id : ReplicaId) → R .correct-replica id ≡ true → (1 ≤ id .0) × (id .0 ≤ replicaCount (R .f))
   correct-replica-range id c = bounds 1 (replicaCount (R .f)) (id .0) (R .replicas-in-range id c)
 
-  record GoodBank (id : ReplicaId) (before : Bank) : Type 0 where
-    f-is : before .f ≡ R .f
-    id-is : before .id ≡ id
-    long : length (before .registers) ≡ 16
-    fit : (at : ℕ) → at < 16 → ReplicaFits (partAt at before)
+  pub record GoodBank (id : ReplicaId) (before : Bank) : Type 0 where
+    pub f-is : before .f ≡ R .f
+    pub id-is : before .id ≡ id
+    pub long : length (before .registers) ≡ 16
+    pub fit : (at : ℕ) → at < 16 → ReplicaFits (partAt at before)
 
   -- A replica takes a message: its register steps, and is put back.
   record BankStep (id : ReplicaId) (t : ℕ) : Type 0 where
@@ -181,9 +181,6 @@ module _ (R : Run) where
   step-fit : (id : ReplicaId) (t : ℕ) → GoodBank id (bankAt R id t) → (s : BankStep id t) → (at : ℕ) → at < 16 → ReplicaFits (partAt at (withPartAt (placeIn (s .bytes)) (s .reply .next) (bankAt R id t)))
   step-fit id t good s at inside = go (eqb at (placeIn (s .bytes))) refl
     where
-      before : Bank
-      before = bankAt R id t
-
       stepped : ReplicaFits (partAt (placeIn (s .bytes)) (withPartAt (placeIn (s .bytes)) (s .reply .next) (bankAt R id t)))
       stepped =
           let fits = s .facts .fits in
@@ -204,7 +201,7 @@ module _ (R : Run) where
       let fits : ReplicaFits (freshReplica (R .f) id) = record { id-fits = omega arith; slots-fit = fresh-slots-fit; held-fits = fresh-held-fits } in
       record { f-is = refl; id-is = refl; long = length-replicate 16 freshRegister; fit = λ at inside. subst ReplicaFits (sym (fresh-part (R .f) id at inside)) fits }
 
-  good-bank : (id : ReplicaId) → R .correct-replica id ≡ true → (t : ℕ) → GoodBank id (bankAt R id t)
+  pub good-bank : (id : ReplicaId) → R .correct-replica id ≡ true → (t : ℕ) → GoodBank id (bankAt R id t)
   unfolding bankAt
   good-bank id c zero = fresh-bank id c
   good-bank id c (suc t) = go (good-bank id c t) (bank-turn-of id t (good-bank id c t) (event R t) refl)
@@ -360,7 +357,7 @@ module _ (R : Run) where
   by-outcome id t (accepted turn) left next = next turn refl (record { next-is = left .next-is; answer-is = left .answer-is })
 
   -- What a client takes, at either engine: the message, and the step's facts.
-  abbrev Takes : Client → List ℕ → List ℕ → Turn → Type 0
+  abbrev pub Takes : Client → List ℕ → List ℕ → Turn → Type 0
   Takes before bytes verdicts turn = (message : Message) × (decode AtClient bytes ≡ accepted (forRegister (before .register) message)) × ClientFacts before verdicts message turn
 
   writer-takes : (before : Client) (bytes verdicts : List ℕ) (turn : Turn) → ClientFits before → PhaseFits (before .phase) → Bytes bytes → clientStep before bytes verdicts ≡ accepted turn
@@ -382,7 +379,7 @@ module _ (R : Run) where
         viewer-facts before verdicts message turn fits phase-fits no-writer (decoded-fits AtClient bytes (before .register) message (a .decodes) small) (a .ranged) (a .passed) taken,
       )
 
-  hears-takes : (id : ClientId) (before : Client) (bytes verdicts : List ℕ) (turn : Turn) → GoodClient id before → Bytes bytes → clientHears id before bytes verdicts ≡ accepted turn
+  pub hears-takes : (id : ClientId) (before : Client) (bytes verdicts : List ℕ) (turn : Turn) → GoodClient id before → Bytes bytes → clientHears id before bytes verdicts ≡ accepted turn
       → Takes before bytes verdicts turn
   hears-takes id before bytes verdicts turn good small e = go (isWriter id) refl e
     where

@@ -52,6 +52,8 @@ handedFor R id x = handedIn id x (R .events)
 abbrev pub answersFor : Run → ReplicaId → RegisterId → List (Outcome Answer)
 answersFor R id x = answersIn id x R 0 (R .events)
 
--- For every number x; where it is no register's, all are refusals. Replicas are set up with f and their number alone.
+-- Set up alike: with the same f and the same number. For every x; where it is no register's number, all answers are refusals.
 abbrev pub SameReplies : Run → Run → Type 0
-SameReplies R R′ = R .f ≡ R′ .f → (id : ReplicaId) (x : RegisterId) → handedFor R id x ≡ handedFor R′ id x → answersFor R id x ≡ answersFor R′ id x
+SameReplies R R′ =
+    R .f ≡ R′ .f → (id : ReplicaId) → R .correct-replica id ≡ true → R′ .correct-replica id ≡ true → (x : RegisterId)
+    → handedFor R id x ≡ handedFor R′ id x → answersFor R id x ≡ answersFor R′ id x
