@@ -17,7 +17,6 @@ use Rattle.base.specs.declared.party.ClientId.{ClientId}
 use Rattle.base.specs.declared.party.ReplicaId.{ReplicaId}
 use Rattle.protocol.specs.Client.{Answer, Turn, freshClient, beginWrite, beginRead}
 use Rattle.protocol.specs.Bank.{freshBank, placeIn, bankStep}
-use Rattle.protocol.specs.Replica.{Reply}
 use Rattle.protocol.specs.declared.client.Client.{Client}
 use Rattle.protocol.specs.declared.replica.Bank.{Bank}
 use Rattle.run.specs.Run.{Event, begins-write, begins-read, to-replica, to-client, registerOf, nextBank, nextClient, clientHears, afterAtReplica, afterAtClient, replicaAnswer, clientAnswer, Run, event, bankAt, clientAt, answerTo}
