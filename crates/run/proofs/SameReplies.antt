@@ -158,16 +158,17 @@ module _ (R : Run) (id : ReplicaId) (c : R .correct-replica id ≡ true) (x : Re
         next own = next-bank t (to-replica p bytes verdicts) q ∙ rw own
 
         go : (own for-it : Bool) → eqb (p .0) (id .0) ≡ own → isFor x bytes ≡ for-it
-            → cond (own && for-it) (answerTo R t (some (to-replica p bytes verdicts)) ∷ answersIn id x R (suc t) events) (answersIn id x R (suc t) events)
-            ≡ repliesOf part (cond (own && for-it) (record { bytes = bytes; verdicts = verdicts } ∷ handedIn id x events) (handedIn id x events))
-        go false for-it e f = passing (to-replica p bytes verdicts) q (rw e)
-        go true false e f = rest part (still-stands t part (λ registered. ap (partAt (registerPlace x)) (next e) ∙ other-kept (bankAt R id t) bytes verdicts x registered f) stands)
+            → answersIn id x R t (to-replica p bytes verdicts ∷ events) ≡ repliesOf part (handedIn id x (to-replica p bytes verdicts ∷ events))
+        go false for-it e f = simp e (passing (to-replica p bytes verdicts) q (rw e))
+        go true false e f =
+            simp (e, f) (rest part (still-stands t part (λ registered. ap (partAt (registerPlace x)) (next e) ∙ other-kept (bankAt R id t) bytes verdicts x registered f) stands))
         go true true e f =
             let both = and-true-both (passes (framed bytes (accepted tt))) (eqb (registerIn bytes .0) (x .0)) f in
             let is : registerIn bytes ≡ x = ap {B = RegisterId} (λ (n : ℕ). record { 0 = n }) (eqb-true (registerIn bytes .0) (x .0) (both .1)) in
-            ap₂ (λ (answer : Outcome Answer) (answers : List (Outcome Answer)). answer ∷ answers)
+            simp (e, f)
+            (ap₂ (λ (answer : Outcome Answer) (answers : List (Outcome Answer)). answer ∷ answers)
             (answered t p bytes verdicts e ∙ ap replicaAnswer (same-step t part stands bytes verdicts is))
-            (rest (nextPart part (replicaStep part bytes verdicts)) (next-stands t part stands bytes verdicts is (next e)))
+            (rest (nextPart part (replicaStep part bytes verdicts)) (next-stands t part stands bytes verdicts is (next e))))
 
     one : (e : Event) → event R t ≡ some e → answersIn id x R t (e ∷ events) ≡ repliesOf part (handedIn id x (e ∷ events))
     one (begins-write p y card) q = passing (begins-write p y card) q refl
