@@ -105,7 +105,6 @@ module _ (party : Party) (f : ℕ) (bytes verdicts : List ℕ) where
           (guard 7 (oneEach m verdicts) (guard 8 (ownGenuine verdicts) (proven f m (drop 1 verdicts) (accepted (foundIn bytes (forRegister (registerIn bytes) m))))))))
 
       halves : (m : Message) → (admits f verdicts (forRegister (registerIn bytes) m) >>= found) ≡ tests m
-      unfolding found tests
       halves m =
           rw (
             guard-then 6 (inItsRange f (senderOf m)),
@@ -117,7 +116,6 @@ module _ (party : Party) (f : ℕ) (bytes verdicts : List ℕ) where
           )
 
       go : (o : Outcome Message) → (((o >>= λ m. accepted (forRegister (registerIn bytes) m)) >>= admits f verdicts) >>= λ sent. accepted (foundIn bytes sent)) ≡ (o >>= tests)
-      unfolding found
       go (refused n) = refl
       go (accepted m) = halves m
 

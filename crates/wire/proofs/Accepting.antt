@@ -11,6 +11,7 @@ use lib.ListN.{length, getD, take, drop, length-append, take-append-drop, length
 use lib.Seq.{length-take-le, take-add, take-all, drop-at, drop-drop}
 use Rattle.base.specs.BigEndian.{fromBytes}
 use Rattle.base.specs.BitMap.{bit}
+use Rattle.base.specs.Party.{isRegister}
 use Rattle.base.specs.Outcome.{Outcome, accepted, refused, guard}
 use Rattle.base.specs.ReplicaSet.{empty}
 use Rattle.base.specs.Timestamp.{number, ofNumber, isIssued}
@@ -20,7 +21,7 @@ use Rattle.base.specs.Bytes.{between}
 use Rattle.wire.specs.Acceptance.{senderOf, numbered, inItsRange, maySend}
 use Rattle.wire.specs.Accepting.{opened, entryCount, countIn, signatureCount, proofBetween, Ready}
 use Rattle.wire.specs.Checks.{preparedOf, writtenOf, timestampOf, ifThere, entriesIfThere, entriesOf, oneEach, ownGenuine, issued, all, proven, proofOutcome}
-use Rattle.wire.specs.Decode.{messageIn, kindIn, reading, spanOf, fieldsIn, framed, timestampIn, readingOutcome}
+use Rattle.wire.specs.Decode.{messageIn, registerIn, kindIn, reading, spanOf, fieldsIn, framed, timestampIn, readingOutcome}
 use Rattle.wire.specs.Judging.{entriesIn, proofCheckOutcome, smallest, preparedOutcome, writtenOutcome}
 use Rattle.wire.specs.Layout.{rules, mapIn, place, field}
 use Rattle.wire.specs.Message.{Message, kindOf}
@@ -102,6 +103,7 @@ pub record Placed (bytes : List ℕ) (fields : Fields) : Type 0 where
   pub timestamp : fields .timestamp ≡ ofNumber (timestampIn bytes)
   pub prepared : fields .prepared ≡ spanOf bytes 6
   pub written : fields .written ≡ spanOf bytes 7
+  pub register : fields .register ≡ registerIn bytes
   pub first : Room bytes 38 (place bytes 6) (place bytes 7)
   pub second : Room bytes 6 (place bytes 7) (place bytes 8)
 
@@ -122,6 +124,7 @@ placed bytes fields e =
           timestamp = refl;
           prepared = refl;
           written = refl;
+          register = refl;
           first = unfold rules in room bytes 6 38 (omega arith) (λ l. omega arith) f;
           second = unfold rules in room bytes 7 6 (omega arith) (λ l. omega arith) f;
         }
@@ -249,8 +252,8 @@ judged f party bytes message first second e whole first-size second-size =
 
 -- Tests 2 to 8 by the bytes.
 pub opened-read : (party : Party) (f : ℕ) (bytes verdicts : List ℕ) (fields : Fields) → reading party bytes ≡ accepted fields
-    → opened party f bytes verdicts ≡ guard 6 (inItsRange f (numbered party (fields .sender))) (guard 19 (maySend (fields .kind) (numbered party (fields .sender))) (guard 7 (eqb (length verdicts) (signatureCount bytes) && all (λ v. leb v 1) verdicts) (guard 8 (ownGenuine verdicts) (accepted fields))))
-unfolding opened
+    → opened party f bytes verdicts ≡ guard 6 (inItsRange f (numbered party (fields .sender))) (guard 19 (maySend (fields .kind) (numbered party (fields .sender))) (guard 20 (isRegister (fields .register)) (guard 7 (eqb (length verdicts) (signatureCount bytes) && all (λ v. leb v 1) verdicts) (guard 8 (ownGenuine verdicts) (accepted fields)))))
+unfolding opened fieldsIn
 opened-read party f bytes verdicts fields e =
     let p = parsed party bytes fields e in
     let m = messageOf (p .taken) bytes in

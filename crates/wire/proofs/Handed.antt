@@ -13,7 +13,7 @@ use lib.Seq.{take-all}
 use Rattle.base.specs.BigEndian.{fromBytes}
 use Rattle.base.specs.BitMap.{bit}
 use Rattle.base.specs.Outcome.{accepted}
-use Rattle.base.specs.Party.{quorumSize, replicaCount}
+use Rattle.base.specs.Party.{quorumSize, replicaCount, isRegister}
 use Rattle.base.specs.Rising.{rising}
 use Rattle.base.specs.Timestamp.{number, ofNumber}
 use Rattle.base.specs.declared.replica_set.ReplicaSet.{ReplicaSet}
@@ -32,7 +32,7 @@ use Rattle.wire.specs.declared.message.Party.the-variants.{Replica, Clie
 use Rattle.wire.proofs.Accepting.{seen}
 use Rattle.wire.proofs.Admitted.{admitted-passed, acceptance-accepted}
 use Rattle.wire.proofs.Framed.{field-absent, place-present}
-use Rattle.wire.proofs.Parsed.{Parsed, parsed, preparedAt, writtenAt, prepared-whole, written-whole, taken-kind, replica-kind, client-kind, reads-1, reads-2, reads-3, reads-4, reads-5, reads-6, reads-7, reads-8}
+use Rattle.wire.proofs.Parsed.{Parsed, parsed, preparedAt, writtenAt, prepared-whole, written-whole, taken-kind, decode-splits, replica-kind, client-kind, reads-1, reads-2, reads-3, reads-4, reads-5, reads-6, reads-7, reads-8}
 use Rattle.wire.proofs.Passed.{Passed}
 use Rattle.wire.proofs.ProofBytes.{length-read, entries-read}
 use Rattle.wire.proofs.Rows.{Taken, prepare, write, prepared}

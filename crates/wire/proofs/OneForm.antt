@@ -97,7 +97,7 @@ module _ (bytes : List ℕ) (f : Framed bytes) (small : Bytes bytes) where
       ∙ take-append-drop 2 bytes
 
   -- A field of fixed width: its length; its number written again; its number's bound.
-  module _ (b width : ℕ) (h : b ≤ 8) (rule : getD rules b (fixed 0) ≡ fixed width) (set : bit (mapIn bytes) b ≡ true) where
+  module _ (b width : ℕ) (h : b ≤ 9) (rule : getD rules b (fixed 0) ≡ fixed width) (set : bit (mapIn bytes) b ≡ true) where
     width-of : length (field bytes b) ≡ width
     width-of = sym (subst (λ (r : Rule). Headed r → extent r (field bytes b) ≡ length (field bytes b)) rule (field-whole bytes f b h set) tt)
 
@@ -279,7 +279,7 @@ module _ (party : Party) (bytes : List ℕ) (x : RegisterId) (m : Message) (e : 
     pub encode-decode : encode x m (signature bytes) ≡ bytes
     unfolding encode body
     encode-decode =
-        let same : fields x m ≡ parts bytes 0 10 = rw (← found, ← found-register) (message-fields bytes (decode-passed .framed) small (kindIn bytes) party refl (decode-passed .passed .taken)) in
+        let same : fields x m ≡ parts bytes 0 10 = ap (λ (y : RegisterId). fields y m) (sym found-register) ∙ ap (fields (registerIn bytes)) (sym found) ∙ message-fields bytes (decode-passed .framed) small (kindIn bytes) party refl (decode-passed .passed .taken) in
         append-assoc (toBytes 2 (mapOf (fields x m))) (joined (fields x m)) (signature bytes)
         ∙ ap (λ (fs : List (Option (List ℕ))). toBytes 2 (mapOf fs) ++ (joined fs ++ signature bytes)) same ∙ whole bytes (decode-passed .framed) small
 
