@@ -5,6 +5,7 @@ use mathlib.Core.List.{List, _++_}
 use Prim.Native.Nat.{ℕ, _-_, _*_, _≤_}
 use lib.ListN.{take, drop, set}
 use Rattle.base.specs.declared.party.ReplicaId.{ReplicaId}
+use Rattle.wire.specs.Decode.{registerIn}
 use Rattle.protocol.specs.Replica.{replicaStep, answerOutcome, sentLength, withOutput, withSlots, withHeld, replicaCall}
 use Rattle.protocol.specs.declared.replica.Register.{Register}
 use Rattle.protocol.specs.declared.replica.Replica.{Replica}
@@ -41,6 +42,6 @@ partOf f id register = record { f = f; id = id; register = register }
 -- `outcome` says the answer by document 01's numbers: the length of the message to send, or the refusal.
 pub record Steps (replica : Replica) (bytes verdicts old : List ℕ) (answered : ReplicaAnswer) (left : Replica) (new : List ℕ) : Type 0 where
   pub answer : answered ≡ replicaCall replica bytes verdicts old .answer
-  pub outcome : answerOutcome answered ≡ sentLength (withOutput old (replicaStep replica bytes verdicts))
+  pub outcome : answerOutcome answered ≡ sentLength (registerIn bytes) (withOutput old (replicaStep replica bytes verdicts))
   pub next : left ≡ replicaCall replica bytes verdicts old .replica
   pub output : new ≡ replicaCall replica bytes verdicts old .output
