@@ -2,3 +2,4 @@ pub mod Asked
 pub mod Cells
 pub mod Replies
 pub mod Slots
+pub mod Words

@@ -1,6 +1,7 @@
 // The four requests on plain values, each with its reply in the output, for the register that was asked for.
 use crate::Prepared;
 use crate::Stepped;
+use crate::digests::same_digest;
 use crate::fresh_held;
 use crate::register::holding;
 use crate::register::is_kept;
@@ -8,7 +9,6 @@ use crate::register::later;
 use crate::register::put_slot;
 use crate::register::slot_admits;
 use crate::register::slot_is;
-use base::bytes::same;
 use base::party::ClientId;
 use base::party::RegisterId;
 use base::refusal::BAD_CARD;
@@ -248,7 +248,7 @@ fn stands_for(card: &[u8], digest: &[u8]) -> bool
         return false;
     };
     let found = made.bytes;
-    same(&found, digest)
+    same_digest(&found, digest)
 }
 
 // WRITE
