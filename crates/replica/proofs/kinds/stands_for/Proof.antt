@@ -14,7 +14,7 @@ returns-2 : tie.Need-returns-2
 returns-2 c =
     let a = c .before .before .before .before .before .before .before .before .args in
     let d = c .before .before .before .before .before .digest in
-    c .same .ensures ∙ stands (a .card .now) (a .digest .now) (d .result) (d .ensures) (c .before .before .before .enum-told .given .1)
+    c .same-digest .ensures ∙ stands (a .card .now) (a .digest .now) (d .result) (d .ensures) (c .before .before .before .enum-told .given .1)
 
 pub stands-for-spec : {M : Type 1} → statement M
 stands-for-spec =
@@ -24,6 +24,5 @@ stands-for-spec =
     (λ c. search needs)
     (λ c. search needs)
     returns
-    (λ c. search needs)
     (λ c κs. search needs)
     returns-2)
