@@ -2,6 +2,7 @@
 use crate::Stepped;
 use crate::answers::refused;
 use crate::read::on_card;
+use crate::replies::awaiting;
 use crate::replies::card_stands;
 use crate::role::Role;
 use crate::write::on_prepared;
@@ -41,11 +42,14 @@ fn take_stamp(
     requires { ⌜ (longest ≤ length (now out)) × Passing (client .f) (now message) fields × SignedBy (now message) fields signers × (fields .kind ≡ 5) ⌝ }
     ensures { λ r. ⌜ callOf r (now (out .exit)) ≡ clientAnswers client (now (out .entry)) (afterTests Role.Ordinary client (now (message .entry))) ⌝ }
 {
+    let register = fields.register;
+    let phase = awaiting(client, register);
     let proof_at = fields.prepared;
     let addressed = fields.addressed;
     let sender = ReplicaId(fields.sender);
     on_stamp(
         client,
+        phase,
         sender,
         fields.nonce,
         part(message, proof_at),
@@ -59,12 +63,15 @@ fn take_prepared(client: Client, message: &[u8], fields: Fields, out: &mut [u8])
     requires { ⌜ (longest ≤ length (now out)) × Passing (client .f) (now message) fields × (fields .kind ≡ 6) ⌝ }
     ensures { λ r. ⌜ callOf r (now (out .exit)) ≡ clientAnswers client (now (out .entry)) (afterTests Role.Ordinary client (now (message .entry))) ⌝ }
 {
+    let register = fields.register;
+    let phase = awaiting(client, register);
     let digest_at = fields.digest;
     let signature_at = fields.signature;
     let timestamp = fields.timestamp;
     let sender = ReplicaId(fields.sender);
     on_prepared(
         client,
+        phase,
         sender,
         timestamp,
         part(message, digest_at),
@@ -77,10 +84,18 @@ fn take_written(client: Client, message: &[u8], fields: Fields) -> Stepped
     requires { ⌜ Passing (client .f) (now message) fields × (fields .kind ≡ 7) ⌝ }
     ensures { λ r. ⌜ ((old : List ℕ) → callOf r old ≡ clientAnswers client old (afterTests Role.Ordinary client (now (message .entry)))) ⌝ }
 {
+    let register = fields.register;
+    let phase = awaiting(client, register);
     let signature_at = fields.signature;
     let timestamp = fields.timestamp;
     let sender = ReplicaId(fields.sender);
-    on_written(client, sender, timestamp, part(message, signature_at))
+    on_written(
+        client,
+        phase,
+        sender,
+        timestamp,
+        part(message, signature_at),
+    )
 }
 
 fn take_card(
@@ -101,10 +116,13 @@ fn take_card(
     if !card_stands(card, proof) {
         return refused(BAD_CARD, client);
     }
+    let register = fields.register;
+    let phase = awaiting(client, register);
     let addressed = fields.addressed;
     let sender = ReplicaId(fields.sender);
     on_card(
         client,
+        phase,
         sender,
         fields.nonce,
         card,

@@ -27,7 +27,7 @@ returns-2 c =
     let s = c .before .before .before .before .before .before .before .before .before .before .before .before .before .before .before .before .before .before .before .before in
     let a = s .args in
     let signatures = a .client .signatures in
-    let long = sized signatures 1_024 (s .good .0 .1 .1 .1 .1 .1 .1 .1 .1 .1 .1 .1 .1 .0 .1 .0 .1) in
+    let long = sized signatures 1_024 (s .good .0 .1 .1 .1 .1 .1 .1 .1 .1 .1 .1 .1 .1 .1 .0 .1 .0 .1) in
     let b = c .before .before .before .before .before .before .before .before .before .before .before .before .before .before .before .before .built in
     let made = kept-built (a .client) (a .counted) long (b .result .count) (b .result .signers) (b .result .entries) (b .ensures) in
     let proof : PreparedProof = record { timestamp = number (a .timestamp); digest = a .client .digest; entries = built (a .client) (a .counted) signatures } in
