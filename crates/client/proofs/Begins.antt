@@ -28,7 +28,7 @@ module _ (old : List ℕ) (register : RegisterId) (number : ℕ) (e : number ≡
   pub unbarred : number ≡ 0 → (longest ≤ length old) × (isRegister register ≡ true)
   unbarred none = go (leb longest (length old)) refl (isRegister register) refl (sym e ∙ none)
     where
-      go : (roomy : Bool) → leb longest (length old) ≡ roomy → (named : Bool) → isRegister register ≡ named → cond roomy (cond named 0 20) 1 ≡ 0 → (longest ≤ length old) × (isRegister register ≡ true)
+      go : (roomy : Bool) → leb longest (length old) ≡ roomy → (named : Bool) → isRegister register ≡ named → _≡_ {A = ℕ} (cond roomy (cond named 0 20) 1) 0 → (longest ≤ length old) × (isRegister register ≡ true)
       go true r true n h = (leb-true longest (length old) r, n)
       go true r false n h = absurd (omega arith)
       go false r named n h = absurd (omega arith)

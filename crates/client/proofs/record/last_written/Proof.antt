@@ -1,11 +1,9 @@
 -- `client::record::last_written` meets its contract. Assumes nothing.
-use Rattle.protocol.specs.Client.{noWritten}
 use borrow.Author.Needs.{needs}
 use Rattle.client.proofs.record.last_written.Statement.{statement}
 use Rattle.client.proofs.record.last_written.Tie as tie
 
 returns : tie.Need-returns
-unfolding noWritten
 returns c = rw (c .before .register-place .ensures .0)
 
 pub last-written-spec : {M : Type 1} → statement M

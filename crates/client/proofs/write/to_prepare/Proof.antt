@@ -10,7 +10,7 @@ use Rattle.client.proofs.write.to_prepare.Tie as tie
 
 returns : tie.Need-returns
 returns c =
-    let a = c .before .before .before .before .before .before .before .args in
+    let a = c .before .before .before .before .before .before .before .before .args in
     let none = no-successor (a .best) (a .client .id) (c .before .before .before .before .successor .result) (c .before .before .before .before .successor .ensures) (c .before .before .enum-told .given .1) in
     λ before. rw none (plain-call (c .plain .result) (a .out .now) (withPhase Idle (a .client)) Ended (rw (c .before .with-phase .ensures) at (c .plain .ensures)))
 
@@ -20,7 +20,7 @@ returns-2 c =
     let last = wrote .before .before .before .before .before .before .before .before in
     let digest = last .before .before .before in
     let found = digest .before .before in
-    let s = found .before .before .before .before .before in
+    let s = found .before .before .before .before .before .before in
     let a = s .args in
     let next = found .next .given .0 .0 in
     let is = the-successor (a .best) (a .client .id) (found .before .before .successor .result) (found .before .before .successor .ensures) next (found .next .given .1) in
