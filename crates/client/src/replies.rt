@@ -1,15 +1,13 @@
-// Which replies are awaited; what a STAMP or a CARD changes of the largest timestamp, the replicas that showed it, and what is kept of its reply.
+// What a STAMP or a CARD changes of the largest timestamp, the replicas that showed it, and what is kept of its reply.
 // A proof is the part of the message that carries it, empty if it is missing.
 use crate::record::with_card;
 use crate::record::with_proof;
 use base::bytes::same;
 use base::party::ClientId;
-use base::party::RegisterId;
 use base::party::ReplicaId;
 use base::replica_set::ReplicaSet;
 use base::timestamp::Timestamp;
 use protocol::client::Client;
-use protocol::client::Phase;
 use wire::card::CardCheck;
 use wire::layout::DIGEST;
 use wire::parts;
@@ -20,20 +18,9 @@ ghost use lib.Dec.{eqb};
 ghost use lib.ListN.{length};
 ghost use Rattle.base.specs.Same.{same};
 ghost use Rattle.base.specs.Timestamp.{number};
-ghost use Rattle.protocol.specs.Client.{isBetter, bestOf, keepBetter, keepBetterCard, showedBy, isNew, towards};
+ghost use Rattle.protocol.specs.Client.{isBetter, bestOf, keepBetter, keepBetterCard, showedBy, isNew};
 ghost use Rattle.protocol.specs.Parts.{cardStands, startCard};
 ghost use Rattle.wire.specs.Parts.{preparedPart, preparedSigners, WholeIfThere};
-
-// The phase that a reply for this register meets: for any other than its operation's the client is as an idle one.
-pub(super) fn awaiting(client: Client, register: RegisterId) -> Phase
-    ensures { λ r. ⌜ r ≡ towards register client .phase ⌝ }
-{
-    let own = client.register;
-    if register.0 != own.0 {
-        return Phase::Idle;
-    }
-    client.phase
-}
 
 // Whether no reply of this replica was taken yet.
 fn is_new(counted: ReplicaSet, sender: ReplicaId) -> bool

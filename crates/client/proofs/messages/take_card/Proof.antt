@@ -40,7 +40,7 @@ returns c =
 
 on-card-requires : tie.Need-on-card-requires
 on-card-requires c κs =
-    let e = c .before .before .before .before in
+    let e = c .before .before .before in
     let x = e .before in
     let s = start (x .before) in
     let a = s .args in
@@ -51,7 +51,7 @@ returns-2 : tie.Need-returns-2
 returns-2 c =
     let o = c .before .before in
     let w = o .before .before .before in
-    let e = w .before .before in
+    let e = w .before in
     let x = e .before in
     let p = x .before in
     let s = start p in

@@ -16,7 +16,7 @@ abbrev waits : tie.After-part2 → tie.After-awaiting
 waits c = c .before .before .before .before .before
 
 abbrev start : tie.After-part2 → tie.Start
-start c = waits c .before .before .before .before
+start c = waits c .before .before .before
 
 on-prepared-requires : tie.Need-on-prepared-requires
 on-prepared-requires c κs =

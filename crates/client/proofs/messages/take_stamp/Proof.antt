@@ -12,7 +12,7 @@ use Rattle.client.proofs.messages.take_stamp.Statement.{statement}
 use Rattle.client.proofs.messages.take_stamp.Tie as tie
 
 abbrev start : tie.After-awaiting → tie.Start
-start c = c .before .before .before .before
+start c = c .before .before .before
 
 on-stamp-requires : tie.Need-on-stamp-requires
 on-stamp-requires c κs =

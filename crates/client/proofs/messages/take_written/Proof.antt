@@ -12,7 +12,7 @@ use Rattle.client.proofs.messages.take_written.Statement.{statement}
 use Rattle.client.proofs.messages.take_written.Tie as tie
 
 abbrev start : tie.After-awaiting → tie.Start
-start c = c .before .before .before
+start c = c .before .before
 
 on-written-requires : tie.Need-on-written-requires
 on-written-requires c κs =
