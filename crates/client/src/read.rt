@@ -88,7 +88,7 @@ fn count_card(
     }
 }
 
-// A CARD that passed test 14.
+// A CARD that passed test 14, and the phase that it meets.
 pub(super) fn on_card<'a>(
     client: Client,
     phase: Phase,

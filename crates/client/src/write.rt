@@ -90,6 +90,7 @@ fn after_stamp(
     )
 }
 
+// A STAMP, and the phase that it meets.
 pub(super) fn on_stamp(
     client: Client,
     phase: Phase,
@@ -156,6 +157,7 @@ fn after_prepared(
     sent(encoded, with_phase(with_signers(client, signers), waiting))
 }
 
+// A PREPARED, and the phase that it meets.
 pub(super) fn on_prepared<'a>(
     client: Client,
     phase: Phase,

@@ -17,6 +17,7 @@ ghost use Rattle.base.specs.Timestamp.{number};
 ghost use Rattle.protocol.specs.Client.{clientAnswers, onWritten};
 ghost use Rattle.client.specs.Leaving.{callOf};
 
+// A WRITTEN, and the phase that it meets.
 pub(super) fn on_written(
     client: Client,
     phase: Phase,
