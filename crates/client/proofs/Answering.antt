@@ -34,23 +34,24 @@ module _ (stepped : Stepped) (old : List ℕ) (next : Client) where
   pub done-call : (timestamp : Timestamp) (card : List ℕ) (signers : ReplicaSet) → stepped ≡ doneWith timestamp card signers next → callOf stepped old ≡ call (Done timestamp signers) card next old
   done-call timestamp card signers e = ap (λ (s : Stepped). callOf s old) e
 
--- A message written into an output that is long enough.
+-- A message written into an output that is long enough, for the register of the operation.
 module _ (old new : List ℕ) (message : Message) (enough : longest ≤ length old) where
   roomy : leb longest (length old) ≡ true
   roomy = le-leb longest (length old) enough
 
-  written-length : (encoded : Encoded) → Wrote old (unsigned message) encoded new → encoded ≡ Length (length (unsigned message))
-  written-length encoded w = go encoded (w .answered ∙ guard-passes 1 (leb longest (length old)) (accepted (length (unsigned message))) roomy)
+  written-length : (bytes : List ℕ) (encoded : Encoded) → Wrote old bytes encoded new → encoded ≡ Length (length bytes)
+  written-length bytes encoded w = go encoded (w .answered ∙ guard-passes 1 (leb longest (length old)) (accepted (length bytes)) roomy)
     where
-      go : (e : Encoded) → encodedOutcome e ≡ accepted (length (unsigned message)) → e ≡ Length (length (unsigned message))
+      go : (e : Encoded) → encodedOutcome e ≡ accepted (length bytes) → e ≡ Length (length bytes)
       go (Length n) h = cc
       go (Refused number) h = let z : _≡_ {A = ℕ} 0 1 = cc in absurd (omega arith)
 
-  pub sends : (encoded : Encoded) (stepped : Stepped) (next : Client) → Wrote old (unsigned message) encoded new → stepped ≡ sentAs encoded next
+  pub sends : (encoded : Encoded) (stepped : Stepped) (next : Client) → Wrote old (unsigned (next .register) message) encoded new → stepped ≡ sentAs encoded next
       → callOf stepped new ≡ answered old (send message) next
   sends encoded stepped next w e =
-      let same : new ≡ inFront (unsigned message) old = w .holds ∙ rw roomy in
-      let plainly : stepped ≡ plain (Send (length (unsigned message))) next = e ∙ rw (written-length encoded w) in
+      let bytes = unsigned (next .register) message in
+      let same : new ≡ inFront bytes old = w .holds ∙ rw roomy in
+      let plainly : stepped ≡ plain (Send (length bytes)) next = e ∙ rw (written-length bytes encoded w) in
       rw (same, plainly)
 
 -- The successor, by the code's answer.

@@ -8,6 +8,7 @@ use Rattle.base.specs.Outcome.{Outcome, accepted, refused, guard, _>>=_}
 use Rattle.base.specs.ReplicaSet.{with, isQuorum}
 use Rattle.base.specs.Timestamp.{successor}
 use Rattle.base.specs.declared.party.ClientId.{ClientId}
+use Rattle.base.specs.declared.party.RegisterId.{RegisterId}
 use Rattle.base.specs.declared.party.ReplicaId.{ReplicaId}
 use Rattle.base.specs.declared.replica_set.ReplicaSet.{ReplicaSet}
 use Rattle.base.specs.declared.timestamp.Timestamp.{Timestamp}
@@ -16,7 +17,7 @@ use Rattle.wire.specs.Layout.{signature}
 use Rattle.wire.specs.Message.{Message, READ-STAMP, PREPARE, WRITE, READ, STAMP, PREPARED, WRITTEN, CARD}
 use Rattle.wire.specs.Proof.{PreparedProof}
 use Rattle.wire.specs.declared.message.Party.the-variants.{Client as AtClient}
-use Rattle.protocol.specs.Client.{send, waits, done, ended, Turn, currentCard, bestOf, keepBetter, showedBy, keepBetterCard, beginWrite, beginRead, toPrepare, afterStamp, onStamp, afterPrepared, onPrepared, afterWritten, afterWriteBack, onWritten, afterCard, countCard, onCard, onReply, clientStep}
+use Rattle.protocol.specs.Client.{send, waits, done, ended, Turn, currentCard, bestOf, keepBetter, showedBy, keepBetterCard, beginWrite, beginRead, toPrepare, afterStamp, onStamp, afterPrepared, onPrepared, afterWritten, afterWriteBack, onWritten, afterCard, countCard, onCard, onReply, towards, clientStep}
 use Rattle.protocol.specs.Replica.{withOutput}
 use Rattle.protocol.specs.Viewer.{afterView, onViewerReply, viewerStep}
 use Rattle.protocol.specs.declared.client.Client.{Client}
@@ -124,20 +125,21 @@ module _ (client : Client) where
   short-view (WRITE sender card proof) = refuses
   short-view (READ sender nonce) = refuses
 
-  short-next : (next : Message → Outcome Turn) → ((message : Message) → Short (next message)) → (m : Outcome Message) → Short (m >>= next)
-  short-next next h (accepted message) = h message
-  short-next next h (refused number) = refuses
+short-next : (next : RegisterId × Message → Outcome Turn) → ((sent : RegisterId × Message) → Short (next sent)) → (m : Outcome (RegisterId × Message)) → Short (m >>= next)
+short-next next h (accepted sent) = h sent
+short-next next h (refused number) = refuses
 
-  module _ (old : List ℕ) where
-    pub short-write : (card : List ℕ) → Short (withOutput old (beginWrite client card))
-    unfolding beginWrite
-    short-write card = short-guard 1 _ _ (short-guard 14 _ _ (short-guard 17 _ _ sends))
+module _ (client : Client) (old : List ℕ) where
+  pub short-write : (register : RegisterId) (card : List ℕ) → Short (withOutput old (beginWrite client register card))
+  unfolding beginWrite
+  short-write register card = short-guard 1 _ _ (short-guard 20 _ _ (short-guard 14 _ _ (short-guard 17 _ _ sends)))
 
-    pub short-read : Short (withOutput old (beginRead client))
-    unfolding beginRead
-    short-read = short-guard 1 _ _ (short-guard 17 _ _ sends)
+  pub short-read : (register : RegisterId) → Short (withOutput old (beginRead client register))
+  unfolding beginRead
+  short-read register = short-guard 1 _ _ (short-guard 20 _ _ (short-guard 17 _ _ sends))
 
-    pub short-step : (role : Role) (bytes verdicts : List ℕ) → Short (withOutput old (roleStep role client bytes verdicts))
-    unfolding clientStep viewerStep
-    short-step Ordinary bytes verdicts = short-guard 1 _ _ (short-next _ (short-reply (signature bytes)) (admitted AtClient (client .f) bytes verdicts))
-    short-step Viewing bytes verdicts = short-guard 1 _ _ (short-next _ short-view (admitted AtClient (client .f) bytes verdicts))
+  pub short-step : (role : Role) (bytes verdicts : List ℕ) → Short (withOutput old (roleStep role client bytes verdicts))
+  unfolding clientStep viewerStep
+  short-step Ordinary bytes verdicts =
+      short-guard 1 _ _ (short-next _ (λ sent. short-reply (towards (sent .0) client) (signature bytes) (sent .1)) (admitted AtClient (client .f) bytes verdicts))
+  short-step Viewing bytes verdicts = short-guard 1 _ _ (short-next _ (λ sent. short-view (towards (sent .0) client) (sent .1)) (admitted AtClient (client .f) bytes verdicts))

@@ -1,4 +1,5 @@
 pub mod Arrays
+pub mod Beginning
 pub mod Leaving
 pub mod Messages
 pub mod Roles

@@ -5,21 +5,21 @@ use Prim.Native.Nat.{ℕ}
 use Rattle.base.specs.Outcome.{Outcome, accepted, _>>=_}
 use Rattle.base.specs.declared.replica_set.ReplicaSet.{ReplicaSet}
 use Rattle.wire.specs.Acceptance.{acceptance}
-use Rattle.wire.specs.Decode.{decode}
+use Rattle.wire.specs.Decode.{messageIn, registerIn}
 use Rattle.wire.specs.Layout.{signature}
 use Rattle.wire.specs.Parts.{partAt, preparedPart, preparedSigners}
 use Rattle.wire.specs.declared.message.Fields.{Fields}
 use Rattle.wire.specs.declared.message.Party.the-variants.{Client as AtClient}
-use Rattle.protocol.specs.Client.{Turn, onReply}
+use Rattle.protocol.specs.Client.{Turn, onReply, towards}
 use Rattle.protocol.specs.Viewer.{onViewerReply}
 use Rattle.protocol.specs.declared.client.Client.{Client}
 use Rattle.client.specs.declared.role.Role.{Role}
 use Rattle.client.specs.declared.role.Role.the-variants.{Ordinary, Viewing}
 
--- What follows for the message that the bytes are.
+-- What follows for the message that the bytes are, and its register.
 unfoldable pub afterTests : Role → Client → List ℕ → Outcome Turn
-afterTests Ordinary client bytes = decode AtClient bytes >>= onReply client (signature bytes)
-afterTests Viewing client bytes = decode AtClient bytes >>= onViewerReply client
+afterTests Ordinary client bytes = messageIn AtClient bytes >>= onReply (towards (registerIn bytes) client) (signature bytes)
+afterTests Viewing client bytes = messageIn AtClient bytes >>= onViewerReply (towards (registerIn bytes) client)
 
 -- A message that tests 2 to 11 let through at a client with this f, with some verdicts.
 pub record Passing (f : ℕ) (bytes : List ℕ) (fields : Fields) : Type 0 where

@@ -13,25 +13,26 @@ mod written;
 
 use answers::refused;
 use base::party::ClientId;
+use base::party::REGISTERS;
+use base::party::RegisterId;
 use base::party::Setup;
 use base::refusal::BAD_CARD;
 use base::refusal::BUSY;
-use base::refusal::OUTPUT_TOO_SHORT;
 use base::replica_set::ReplicaSet;
 use base::timestamp::Timestamp;
 use protocol::client::Client;
 use protocol::client::ClientAnswer;
 use protocol::client::Phase;
+use protocol::client::Written;
 use role::Role;
 use wire::card::CardCheck;
 use wire::layout::CARD_ROOM;
 use wire::layout::DIGEST;
 use wire::layout::ENTRIES_ROOM;
-use wire::layout::LONGEST_MESSAGE;
 use wire::layout::SIGNATURES_ROOM;
 ghost use mathlib.Core.Path.{_≡_};
 ghost use Rattle.base.specs.Party.{setupOutcome};
-ghost use Rattle.protocol.specs.Client.{idleClient, freshClient, clientIfSetUp, beginWrite, beginRead, clientStep, beginWriteCall, beginReadCall, clientCall};
+ghost use Rattle.protocol.specs.Client.{noneWritten, idleClient, freshClient, clientIfSetUp, beginWrite, beginRead, clientStep, beginWriteCall, beginReadCall, clientCall};
 ghost use Rattle.protocol.specs.Replica.{withOutput};
 ghost use Rattle.client.specs.Leaving.{NonceIfGood};
 ghost use Rattle.client.specs.Stepping.{Made, Calls};
@@ -50,6 +51,18 @@ pub struct Stepped {
     pub client: Client,
 }
 
+// No written proof of any register.
+fn none_written() -> [Written; REGISTERS]
+    ensures { λ r. ⌜ r ≡ noneWritten ⌝ }
+{
+    let none = Written {
+        timestamp: Timestamp::start(),
+        entry_count: 0,
+        entries: [0; ENTRIES_ROOM],
+    };
+    [none; REGISTERS]
+}
+
 // An idle client that has used the nonce.
 fn idle(f: u8, id: ClientId, last_nonce: u64) -> Client
     ensures { λ r. ⌜ r ≡ idleClient f id «last_nonce» ⌝ }
@@ -57,6 +70,7 @@ fn idle(f: u8, id: ClientId, last_nonce: u64) -> Client
     Client {
         f: f,
         id: id,
+        register: RegisterId(0),
         last_nonce: last_nonce,
         phase: Phase::Idle,
         card_length: 0,
@@ -66,9 +80,7 @@ fn idle(f: u8, id: ClientId, last_nonce: u64) -> Client
         entry_count: 0,
         entries: [0; ENTRIES_ROOM],
         signatures: [0; SIGNATURES_ROOM],
-        written: Timestamp::start(),
-        written_count: 0,
-        written_entries: [0; ENTRIES_ROOM],
+        written: none_written(),
     }
 }
 
@@ -94,12 +106,13 @@ pub fn fresh(f: u8, id: ClientId, first_nonce: u64) -> NewClient
     }
 }
 
-// Begins a write of a card.
-pub fn begin_write(client: Client, card: &[u8], out: &mut [u8]) -> Stepped
-    ensures { λ r. ⌜ Calls (beginWriteCall client (now (card .entry)) (now (out .entry))) (withOutput (now (out .entry)) (beginWrite client (now (card .entry)))) r (now (out .exit)) ⌝ }
+// Begins a write of a card to a register.
+pub fn begin_write(client: Client, register: RegisterId, card: &[u8], out: &mut [u8]) -> Stepped
+    ensures { λ r. ⌜ Calls (beginWriteCall client register (now (card .entry)) (now (out .entry))) (withOutput (now (out .entry)) (beginWrite client register (now (card .entry)))) r (now (out .exit)) ⌝ }
 {
-    if out.len() < LONGEST_MESSAGE {
-        return refused(OUTPUT_TOO_SHORT, client);
+    let barred = begin::barred_by(out.len(), register);
+    if barred != 0 {
+        return refused(barred, client);
     }
     let CardCheck::Good = wire::card::check(card) else {
         return refused(BAD_CARD, client);
@@ -107,20 +120,21 @@ pub fn begin_write(client: Client, card: &[u8], out: &mut [u8]) -> Stepped
     if !begin::may_begin(client) {
         return refused(BUSY, client);
     }
-    begin::ask_stamps(client, card, out)
+    begin::ask_stamps(client, register, card, out)
 }
 
-// Begins a read.
-pub fn begin_read(client: Client, out: &mut [u8]) -> Stepped
-    ensures { λ r. ⌜ Calls (beginReadCall client (now (out .entry))) (withOutput (now (out .entry)) (beginRead client)) r (now (out .exit)) ⌝ }
+// Begins a read of a register.
+pub fn begin_read(client: Client, register: RegisterId, out: &mut [u8]) -> Stepped
+    ensures { λ r. ⌜ Calls (beginReadCall client register (now (out .entry))) (withOutput (now (out .entry)) (beginRead client register)) r (now (out .exit)) ⌝ }
 {
-    if out.len() < LONGEST_MESSAGE {
-        return refused(OUTPUT_TOO_SHORT, client);
+    let barred = begin::barred_by(out.len(), register);
+    if barred != 0 {
+        return refused(barred, client);
     }
     if !begin::may_begin(client) {
         return refused(BUSY, client);
     }
-    begin::ask_cards(client, out)
+    begin::ask_cards(client, register, out)
 }
 
 // What the client makes of a message of any bytes, with verdicts of any number and value.

@@ -13,6 +13,7 @@ use base::refusal::NOT_AWAITED;
 use base::refusal::OUTPUT_TOO_SHORT;
 use base::replica_set::ReplicaSet;
 use protocol::client::Client;
+use protocol::client::Phase;
 use wire::acceptance::Accepting;
 use wire::layout::LONGEST_MESSAGE;
 use wire::message::Fields;
@@ -24,12 +25,24 @@ ghost use mathlib.Core.List.{List};
 ghost use Prim.Native.Nat.{ℕ, _≤_};
 ghost use lib.ListN.{length};
 ghost use Rattle.wire.specs.Message.{longest};
-ghost use Rattle.protocol.specs.Client.{clientAnswers};
+ghost use Rattle.protocol.specs.Client.{clientAnswers, towards};
 ghost use Rattle.protocol.specs.Replica.{withOutput};
 ghost use Rattle.client.specs.Roles.{roleStep, roleCall};
 ghost use Rattle.client.specs.Messages.{Passing, SignedBy, afterTests};
 ghost use Rattle.client.specs.Leaving.{callOf};
 ghost use Rattle.client.specs.Stepping.{Calls};
+
+// The phase that a reply meets: to one for another register than its operation's the client is as an idle one.
+fn awaiting(client: Client, fields: Fields) -> Phase
+    ensures { λ r. ⌜ r ≡ towards (fields .register) client .phase ⌝ }
+{
+    let register = fields.register;
+    let own = client.register;
+    if register.0 != own.0 {
+        return Phase::Idle;
+    }
+    client.phase
+}
 
 fn take_stamp(
     client: Client,
@@ -41,11 +54,13 @@ fn take_stamp(
     requires { ⌜ (longest ≤ length (now out)) × Passing (client .f) (now message) fields × SignedBy (now message) fields signers × (fields .kind ≡ 5) ⌝ }
     ensures { λ r. ⌜ callOf r (now (out .exit)) ≡ clientAnswers client (now (out .entry)) (afterTests Role.Ordinary client (now (message .entry))) ⌝ }
 {
+    let phase = awaiting(client, fields);
     let proof_at = fields.prepared;
     let addressed = fields.addressed;
     let sender = ReplicaId(fields.sender);
     on_stamp(
         client,
+        phase,
         sender,
         fields.nonce,
         part(message, proof_at),
@@ -59,12 +74,14 @@ fn take_prepared(client: Client, message: &[u8], fields: Fields, out: &mut [u8])
     requires { ⌜ (longest ≤ length (now out)) × Passing (client .f) (now message) fields × (fields .kind ≡ 6) ⌝ }
     ensures { λ r. ⌜ callOf r (now (out .exit)) ≡ clientAnswers client (now (out .entry)) (afterTests Role.Ordinary client (now (message .entry))) ⌝ }
 {
+    let phase = awaiting(client, fields);
     let digest_at = fields.digest;
     let signature_at = fields.signature;
     let timestamp = fields.timestamp;
     let sender = ReplicaId(fields.sender);
     on_prepared(
         client,
+        phase,
         sender,
         timestamp,
         part(message, digest_at),
@@ -77,10 +94,17 @@ fn take_written(client: Client, message: &[u8], fields: Fields) -> Stepped
     requires { ⌜ Passing (client .f) (now message) fields × (fields .kind ≡ 7) ⌝ }
     ensures { λ r. ⌜ ((old : List ℕ) → callOf r old ≡ clientAnswers client old (afterTests Role.Ordinary client (now (message .entry)))) ⌝ }
 {
+    let phase = awaiting(client, fields);
     let signature_at = fields.signature;
     let timestamp = fields.timestamp;
     let sender = ReplicaId(fields.sender);
-    on_written(client, sender, timestamp, part(message, signature_at))
+    on_written(
+        client,
+        phase,
+        sender,
+        timestamp,
+        part(message, signature_at),
+    )
 }
 
 fn take_card(
@@ -101,10 +125,12 @@ fn take_card(
     if !card_stands(card, proof) {
         return refused(BAD_CARD, client);
     }
+    let phase = awaiting(client, fields);
     let addressed = fields.addressed;
     let sender = ReplicaId(fields.sender);
     on_card(
         client,
+        phase,
         sender,
         fields.nonce,
         card,

@@ -34,12 +34,14 @@ fn write_back(client: Client, best: Timestamp, showed: ReplicaSet, out: &mut [u8
         (turn (send (WRITE (client .id) (currentCard client) (bestProof client best))) (withPhase (Phase.WriteBack best showed) client))
         r (now (out .exit)) ⌝ }
 {
+    let register = client.register;
     let id = client.id;
     let card = client.card;
     let digest = client.digest;
     let entries = client.entries;
     let encoded = wire::writer::write_write(
         out,
+        register,
         id,
         &card,
         client.card_length,
@@ -86,9 +88,10 @@ fn count_card(
     }
 }
 
-// A CARD that passed test 14.
+// A CARD that passed test 14, and the phase that it meets.
 pub(super) fn on_card<'a>(
     client: Client,
+    phase: Phase,
     sender: ReplicaId,
     nonce: u64,
     card: &'a [u8],
@@ -99,9 +102,8 @@ pub(super) fn on_card<'a>(
     out: &mut [u8],
 ) -> Stepped
     requires { ⌜ (longest ≤ length (now out)) × WholeIfThere (now proof) × (signers ≡ preparedSigners (preparedPart (now proof))) × (length (now card) ≤ 17) ⌝ }
-    ensures { λ r. ⌜ callOf r (now (out .exit)) ≡ clientAnswers client (now (out .entry)) (onCard (afterCards role) client sender nonce (now (card .entry)) (preparedPart (now (proof .entry))) addressed (client .phase)) ⌝ }
+    ensures { λ r. ⌜ callOf r (now (out .exit)) ≡ clientAnswers client (now (out .entry)) (onCard (afterCards role) client sender nonce (now (card .entry)) (preparedPart (now (proof .entry))) addressed phase) ⌝ }
 {
-    let phase = client.phase;
     let Phase::Cards(asked, best, counted, showed) = phase else {
         return refused(NOT_AWAITED, client);
     };

@@ -1,9 +1,12 @@
 // Changes of a client's record.
 use crate::signatures::Built;
+use base::party::RegisterId;
+use base::party::register_place;
 use base::replica_set::ReplicaSet;
 use base::timestamp::Timestamp;
 use protocol::client::Client;
 use protocol::client::Phase;
+use protocol::client::Written;
 use wire::arrays::card_array;
 use wire::arrays::digest_array;
 use wire::arrays::entries_array;
@@ -14,9 +17,10 @@ use wire::parts;
 ghost use mathlib.Core.Path.{_≡_};
 ghost use Prim.Native.Nat.{_≤_};
 ghost use lib.ListN.{length, replicate};
+ghost use Rattle.base.specs.Party.{registerPlace};
 ghost use Rattle.wire.specs.Parts.{Whole};
 ghost use Rattle.wire.specs.Proof.{preparedFrom, signerSet};
-ghost use Rattle.protocol.specs.Client.{withPhase, beginning, withProof, withCard, withDigest, withSignatures, withSigners, withLastWritten, built};
+ghost use Rattle.protocol.specs.Client.{withPhase, beginning, withProof, withCard, withDigest, withSignatures, withSigners, withLastWritten, writtenAt, built};
 ghost use Rattle.client.specs.Arrays.{Keeps};
 
 // The record anew: a field that is an enum is not stored to.
@@ -24,16 +28,17 @@ pub(super) fn with_phase(client: Client, phase: Phase) -> Client
     ensures { λ r. ⌜ r ≡ withPhase phase client ⌝ }
 {
     let id = client.id;
+    let own = client.register;
     let card = client.card;
     let digest = client.digest;
     let signers = client.signers;
     let entries = client.entries;
     let signatures = client.signatures;
     let written = client.written;
-    let written_entries = client.written_entries;
     Client {
         f: client.f,
         id: id,
+        register: own,
         last_nonce: client.last_nonce,
         phase: phase,
         card_length: client.card_length,
@@ -44,22 +49,26 @@ pub(super) fn with_phase(client: Client, phase: Phase) -> Client
         entries: entries,
         signatures: signatures,
         written: written,
-        written_count: client.written_count,
-        written_entries: written_entries,
     }
 }
 
-// A new operation: its nonce, its card, no reply yet.
-pub(super) fn beginning(client: Client, nonce: u64, phase: Phase, card: &[u8]) -> Client
+// A new operation: its register, its nonce, its card, no reply yet.
+pub(super) fn beginning(
+    client: Client,
+    register: RegisterId,
+    nonce: u64,
+    phase: Phase,
+    card: &[u8],
+) -> Client
     requires { ⌜ length (now card) ≤ 17 ⌝ }
-    ensures { λ r. ⌜ r ≡ beginning nonce phase (now (card .entry)) client ⌝ }
+    ensures { λ r. ⌜ r ≡ beginning register nonce phase (now (card .entry)) client ⌝ }
 {
     let id = client.id;
     let written = client.written;
-    let written_entries = client.written_entries;
     Client {
         f: client.f,
         id: id,
+        register: register,
         last_nonce: nonce,
         phase: phase,
         card_length: card.len() as u8,
@@ -70,8 +79,6 @@ pub(super) fn beginning(client: Client, nonce: u64, phase: Phase, card: &[u8]) -
         entries: [0; ENTRIES_ROOM],
         signatures: [0; SIGNATURES_ROOM],
         written: written,
-        written_count: client.written_count,
-        written_entries: written_entries,
     }
 }
 
@@ -139,15 +146,29 @@ pub(super) fn built(client: Client, counted: ReplicaSet) -> Built
     crate::signatures::gather(base::party::replica_count(client.f), counted, &signatures)
 }
 
-// The client's own write is finished: its WRITTENs are the last written proof.
+// The client's own write is finished: its WRITTENs are the last written proof of its register.
 pub(super) fn with_last_written(client: Client, timestamp: Timestamp, counted: ReplicaSet) -> Client
     ensures { λ r. ⌜ r ≡ withLastWritten timestamp (built client counted (client .signatures)) client ⌝ }
 {
     let proof = built(client, counted);
     let entries = proof.entries;
+    let last = Written {
+        timestamp: timestamp,
+        entry_count: proof.count,
+        entries: entries,
+    };
+    let own = client.register;
+    let at = register_place(own);
     let mut next = client;
-    next.written = timestamp;
-    next.written_count = proof.count;
-    next.written_entries = entries;
+    next.written[at] = last;
     next
+}
+
+// The last written proof of the operation's register.
+pub(super) fn last_written(client: Client) -> Written
+    ensures { λ r. ⌜ r ≡ writtenAt (registerPlace (client .register)) client ⌝ }
+{
+    let own = client.register;
+    let from = register_place(own);
+    client.written[from]
 }

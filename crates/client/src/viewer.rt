@@ -3,6 +3,7 @@ use crate::Stepped;
 use crate::messages::hear;
 use crate::role::Role;
 use base::party::ClientId;
+use base::party::RegisterId;
 use base::party::Setup;
 use protocol::client::Client;
 use protocol::client::ClientAnswer;
@@ -60,12 +61,12 @@ pub fn fresh(f: u8, id: ClientId, first_nonce: u64) -> NewViewer
     }
 }
 
-// Begins a view.
-pub fn begin_view(viewer: Viewer, out: &mut [u8]) -> ViewerStepped
-    ensures { λ r. ⌜ Calls (beginReadCall (viewer .client) (now (out .entry))) (withOutput (now (out .entry)) (beginRead (viewer .client))) (ofViewer r) (now (out .exit)) ⌝ }
+// Begins a view of a register.
+pub fn begin_view(viewer: Viewer, register: RegisterId, out: &mut [u8]) -> ViewerStepped
+    ensures { λ r. ⌜ Calls (beginReadCall (viewer .client) register (now (out .entry))) (withOutput (now (out .entry)) (beginRead (viewer .client) register)) (ofViewer r) (now (out .exit)) ⌝ }
 {
     let client = viewer.client;
-    viewed(crate::begin_read(client, out))
+    viewed(crate::begin_read(client, register, out))
 }
 
 // What the viewing client makes of a message of any bytes, with verdicts of any number and value.

@@ -6,6 +6,7 @@ use crate::answers::plain;
 use crate::answers::refused;
 use crate::answers::sent;
 use crate::record::built;
+use crate::record::last_written;
 use crate::record::with_digest;
 use crate::record::with_last_written;
 use crate::record::with_phase;
@@ -41,16 +42,19 @@ fn to_prepare(client: Client, best: Timestamp, out: &mut [u8]) -> Stepped
     ensures { λ r. ⌜ Takes (now (out .entry)) (toPrepare client best (successor best (client .id))) r (now (out .exit)) ⌝ }
 {
     let id = client.id;
+    let register = client.register;
     let Successor::Next(next) = best.successor(id) else {
         return plain(ClientAnswer::Ended, with_phase(client, Phase::Idle));
     };
     let digest = card_digest(client);
     let best_digest = client.digest;
     let best_entries = client.entries;
-    let written = client.written;
-    let written_entries = client.written_entries;
+    let last = last_written(client);
+    let last_timestamp = last.timestamp;
+    let last_entries = last.entries;
     let encoded = wire::writer::write_prepare(
         out,
+        register,
         id,
         next,
         &digest,
@@ -58,9 +62,9 @@ fn to_prepare(client: Client, best: Timestamp, out: &mut [u8]) -> Stepped
         &best_digest,
         client.entry_count,
         &best_entries,
-        written,
-        client.written_count,
-        &written_entries,
+        last_timestamp,
+        last.entry_count,
+        &last_entries,
     );
     let waiting = Phase::Prepareds(next, ReplicaSet::empty());
     sent(encoded, with_phase(with_digest(client, digest), waiting))
@@ -86,8 +90,10 @@ fn after_stamp(
     )
 }
 
+// A STAMP, and the phase that it meets.
 pub(super) fn on_stamp(
     client: Client,
+    phase: Phase,
     sender: ReplicaId,
     nonce: u64,
     proof: &[u8],
@@ -96,9 +102,8 @@ pub(super) fn on_stamp(
     out: &mut [u8],
 ) -> Stepped
     requires { ⌜ (longest ≤ length (now out)) × WholeIfThere (now proof) × (signers ≡ preparedSigners (preparedPart (now proof))) ⌝ }
-    ensures { λ r. ⌜ callOf r (now (out .exit)) ≡ clientAnswers client (now (out .entry)) (onStamp client sender nonce (preparedPart (now (proof .entry))) addressed (client .phase)) ⌝ }
+    ensures { λ r. ⌜ callOf r (now (out .exit)) ≡ clientAnswers client (now (out .entry)) (onStamp client sender nonce (preparedPart (now (proof .entry))) addressed phase) ⌝ }
 {
-    let phase = client.phase;
     let Phase::Stamps(asked, best, counted) = phase else {
         return refused(NOT_AWAITED, client);
     };
@@ -131,6 +136,7 @@ fn after_prepared(
         return plain(ClientAnswer::Counted, with_phase(client, waiting));
     }
     let proof = built(client, counted);
+    let register = client.register;
     let id = client.id;
     let card = client.card;
     let digest = client.digest;
@@ -138,6 +144,7 @@ fn after_prepared(
     let entries = proof.entries;
     let encoded = wire::writer::write_write(
         out,
+        register,
         id,
         &card,
         client.card_length,
@@ -150,8 +157,10 @@ fn after_prepared(
     sent(encoded, with_phase(with_signers(client, signers), waiting))
 }
 
+// A PREPARED, and the phase that it meets.
 pub(super) fn on_prepared<'a>(
     client: Client,
+    phase: Phase,
     sender: ReplicaId,
     timestamp: Timestamp,
     digest: &'a [u8],
@@ -159,9 +168,8 @@ pub(super) fn on_prepared<'a>(
     out: &mut [u8],
 ) -> Stepped
     requires { ⌜ (longest ≤ length (now out)) × (1 ≤ sender .0) × (sender .0 ≤ 16) × (length (now signature) ≡ 64) ⌝ }
-    ensures { λ r. ⌜ callOf r (now (out .exit)) ≡ clientAnswers client (now (out .entry)) (onPrepared client sender (number timestamp) (now (digest .entry)) (now (signature .entry)) (client .phase)) ⌝ }
+    ensures { λ r. ⌜ callOf r (now (out .exit)) ≡ clientAnswers client (now (out .entry)) (onPrepared client sender (number timestamp) (now (digest .entry)) (now (signature .entry)) phase) ⌝ }
 {
-    let phase = client.phase;
     let Phase::Prepareds(asked, counted) = phase else {
         return refused(NOT_AWAITED, client);
     };

@@ -17,16 +17,17 @@ ghost use Rattle.base.specs.Timestamp.{number};
 ghost use Rattle.protocol.specs.Client.{clientAnswers, onWritten};
 ghost use Rattle.client.specs.Leaving.{callOf};
 
+// A WRITTEN, and the phase that it meets.
 pub(super) fn on_written(
     client: Client,
+    phase: Phase,
     sender: ReplicaId,
     timestamp: Timestamp,
     signature: &[u8],
 ) -> Stepped
     requires { ⌜ (1 ≤ sender .0) × (sender .0 ≤ 16) × (length (now signature) ≡ 64) ⌝ }
-    ensures { λ r. ⌜ ((old : List ℕ) → callOf r old ≡ clientAnswers client old (onWritten client sender (number timestamp) (now (signature .entry)) (client .phase))) ⌝ }
+    ensures { λ r. ⌜ ((old : List ℕ) → callOf r old ≡ clientAnswers client old (onWritten client sender (number timestamp) (now (signature .entry)) phase)) ⌝ }
 {
-    let phase = client.phase;
     match phase {
         Phase::Writtens(asked, counted) => {
             if !is_awaited_written(timestamp, asked, counted, sender) {

@@ -65,11 +65,11 @@ pub card-read : (digits old new : List ℕ) (n : ℕ) → HexRead digits old new
 card-read digits old new n h whole =
     rw (h .is) (take-at (hexPairs (length old) digits) (drop n old) n (sym (h .counted)) ∙ ap (λ (k : ℕ). hexPairs k digits) whole)
 
-pub message-copied : (log : Log) (store : List ℕ) (m before : ℕ) (old : List ℕ) (n : ℕ) (new l : List ℕ) → before ≡ m - 1 → length old ≡ 1_579
+pub message-copied : (log : Log) (store : List ℕ) (m before : ℕ) (old : List ℕ) (n : ℕ) (new l : List ℕ) → before ≡ m - 1 → length old ≡ 1_580
     → Puts old 0 (message log store before) n new → l ≡ take n new → l ≡ messageAt log store m
 unfolding messageAt
 message-copied log store m before old n new l b whole c e =
-    e ∙ (put-front (message log store before) old n new c ∙ (ap (λ (k : ℕ). take k (message log store before)) whole ∙ ap (λ (k : ℕ). take 1_579 (message log store k)) b))
+    e ∙ (put-front (message log store before) old n new c ∙ (ap (λ (k : ℕ). take k (message log store before)) whole ∙ ap (λ (k : ℕ). take 1_580 (message log store k)) b))
 
 module _ (log : Log) (store : List ℕ) (at : ℕ) (h : at ≡ start (log .count) (length store)) where
   inside : at ≤ length store

@@ -3,6 +3,7 @@ use mathlib.Core.Path.{_≡_}
 use mathlib.Core.List.{List, _++_}
 use Prim.Native.Nat.{ℕ, _-_}
 use lib.ListN.{length, take, drop, replicate}
+use Rattle.base.specs.declared.party.RegisterId.{RegisterId}
 use Rattle.wire.specs.Message.{longest}
 use Rattle.wire.specs.Signatures.{signaturesTo}
 use Rattle.wire.specs.declared.message.Party.{Party}
@@ -18,6 +19,10 @@ use Rattle.play.specs.Log.{start, message}
 use Rattle.play.specs.declared.calls.Call.{Call}
 use Rattle.play.specs.declared.calls.Call.the-variants.{Write, Read, Deliver}
 use Rattle.play.specs.declared.log.Log.{Log}
+
+-- Document 02, #103: "The player works on set 1."
+abbrev pub theRegister : RegisterId
+theRegister = record { 0 = 1 }
 
 -- "all marks 1"
 unfoldable pub verdicts : Party → List ℕ → List ℕ
@@ -35,8 +40,8 @@ messageAt log store m = take longest (message log store (m - 1))
 
 -- "`w D HEX` begins a write, `r D` a read", and `d D M` delivers message M "to desk D".
 unfoldable pub clientDoes : Client → Log → List ℕ → List ℕ → Call → ClientCall
-clientDoes client log store text Write = beginWriteCall client (hexPairs 17 (drop 4 text)) (free log store)
-clientDoes client log store text Read = beginReadCall client (free log store)
+clientDoes client log store text Write = beginWriteCall client theRegister (hexPairs 17 (drop 4 text)) (free log store)
+clientDoes client log store text Read = beginReadCall client theRegister (free log store)
 clientDoes client log store text (Deliver m) = clientCall client (messageAt log store m) (verdicts AtClient (messageAt log store m)) (free log store)
 
 -- "`h H M` delivers message M to holder H"

@@ -1,4 +1,4 @@
--- The messages that were sent, as the player keeps them: a store of bytes, 1,579 for each message, and how long each is.
+-- The messages that were sent, as the player keeps them: a store of bytes, 1,580 for each message, and how long each is.
 use mathlib.Core.Bool.{cond}
 use mathlib.Core.List.{List}
 use Prim.Native.Nat.{ℕ, _+_, _*_, min}

@@ -1,11 +1,11 @@
--- What the player starts with: four replicas and four clients.
+-- What the player starts with: four replicas with one register each (`Calls.theRegister`), and four clients.
 use mathlib.Core.List.{List, [], _∷_}
 use Prim.Native.Nat.{ℕ, _+_, _%_}
 use lib.ListN.{replicate}
 use Rattle.base.specs.Counting.{replica}
 use Rattle.base.specs.declared.party.ClientId.{ClientId}
 use Rattle.base.specs.declared.party.ReplicaId.{ReplicaId}
-use Rattle.protocol.specs.Replica.{madeReplica}
+use Rattle.protocol.specs.Replica.{freshReplica}
 use Rattle.protocol.specs.Client.{madeClient}
 use Rattle.play.specs.Log.{emptyLog}
 use Rattle.play.specs.declared.world.World.{World}
@@ -17,7 +17,7 @@ client i = record { 0 = i }
 unfoldable pub freshWorld : World
 freshWorld =
     record {
-      replicas = madeReplica 1 (replica 1) ∷ madeReplica 1 (replica 2) ∷ madeReplica 1 (replica 3) ∷ madeReplica 1 (replica 4) ∷ [];
+      replicas = freshReplica 1 (replica 1) ∷ freshReplica 1 (replica 2) ∷ freshReplica 1 (replica 3) ∷ freshReplica 1 (replica 4) ∷ [];
       clients = madeClient 1 (client 1) 1 ∷ madeClient 1 (client 2) 1 ∷ madeClient 1 (client 3) 1 ∷ madeClient 1 (client 4) 1 ∷ [];
       log = emptyLog;
     }
@@ -31,4 +31,4 @@ clientSeat id = (id .0 + 3) % 4
 
 -- The store before the first line: room for 100 messages.
 unfoldable pub emptyStore : List ℕ
-emptyStore = replicate 157_900 0
+emptyStore = replicate 158_000 0

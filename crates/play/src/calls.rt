@@ -1,5 +1,6 @@
 // The calls that a line asks for, each with the store behind the messages sent as its output.
 use crate::log::Log;
+use base::party::RegisterId;
 use base::slices::behind;
 use base::slices::front;
 use client::Stepped;
@@ -14,7 +15,10 @@ ghost use Prim.Native.Nat.{_-_};
 ghost use Rattle.text.specs.Hex.{hexPairs};
 ghost use Rattle.protocol.specs.Client.{beginWriteCall, clientCall};
 ghost use Rattle.protocol.specs.Replica.{replicaCall};
-ghost use Rattle.play.specs.Calls.{verdicts, sentBefore, clientDoes, replicaDoes, ClientLeaves, ReplicaLeaves};
+ghost use Rattle.play.specs.Calls.{theRegister, verdicts, sentBefore, clientDoes, replicaDoes, ClientLeaves, ReplicaLeaves};
+
+// The register that every line is for.
+const REGISTER: RegisterId = RegisterId(1);
 
 // A call of a client, but for its card.
 pub enum Call {
@@ -24,11 +28,11 @@ pub enum Call {
 }
 
 fn begin_write(client: Client, digits: &[u8], out: &mut [u8]) -> Stepped
-    ensures { λ r. ⌜ ClientLeaves (beginWriteCall client (hexPairs 17 (now (digits .entry))) (now (out .entry))) [] r (now (out .exit)) ⌝ }
+    ensures { λ r. ⌜ ClientLeaves (beginWriteCall client theRegister (hexPairs 17 (now (digits .entry))) (now (out .entry))) [] r (now (out .exit)) ⌝ }
 {
     let mut card = [0u8; 17];
     let n = text::read_hex(digits, &mut card);
-    client::begin_write(client, &card[..n], out)
+    client::begin_write(client, REGISTER, &card[..n], out)
 }
 
 fn hand_client(client: Client, message: &[u8], out: &mut [u8]) -> Stepped
@@ -89,7 +93,7 @@ pub(super) fn client_does(
     let at = crate::log::start(log.count as usize, store.len());
     match call {
         Call::Write => begin_write(client, behind(line, 4), &mut store[at..]),
-        Call::Read => client::begin_read(client, &mut store[at..]),
+        Call::Read => client::begin_read(client, REGISTER, &mut store[at..]),
         Call::Deliver(m) => deliver(client, log, m, store),
     }
 }

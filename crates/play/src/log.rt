@@ -1,4 +1,4 @@
-// The messages sent: how many, and how long each is. Their bytes stand in a borrowed store, 1,579 for each.
+// The messages sent: how many, and how long each is. Their bytes stand in a borrowed store, 1,580 for each.
 use base::slices::behind;
 use base::slices::front;
 use wire::layout::LONGEST_MESSAGE;

@@ -55,10 +55,10 @@ fn play_lines(begun: Played, script: &[u8], store: &mut [u8], out: &mut [u8]) ->
 }
 
 // Room for 100 messages, in a function of its own, so that no other's proof has to unfold so long an array.
-fn store() -> [u8; 157_900]
+fn store() -> [u8; 158_000]
     ensures { λ r. ⌜ r ≡ emptyStore ⌝ }
 {
-    [0u8; 157_900]
+    [0u8; 158_000]
 }
 
 // Plays a script, and puts all that is printed into the front of a buffer, as far as it has room; answers how many bytes that

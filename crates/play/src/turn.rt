@@ -96,9 +96,8 @@ fn client_turn(world: World, id: ClientId, call: Call, line: &[u8], store: &mut 
     ensures { λ r. ⌜ Plays (clientTurn world (now (store .entry)) id call (now (line .entry))) r (now (store .exit)) ⌝ }
 {
     let log = world.log;
-    let clients = world.clients;
     let i = client_seat(id);
-    let client = clients[i];
+    let client = world.clients[i];
     let stepped = crate::calls::client_does(client, log, call, line, store);
     let next = stepped.client;
     let answer = stepped.answer;
@@ -122,9 +121,8 @@ fn replica_turn(world: World, id: ReplicaId, m: usize, store: &mut [u8]) -> Turn
     ensures { λ r. ⌜ Plays (replicaTurn world (now (store .entry)) id m) r (now (store .exit)) ⌝ }
 {
     let log = world.log;
-    let replicas = world.replicas;
     let i = replica_seat(id);
-    let replica = replicas[i];
+    let replica = world.replicas[i];
     let stepped = crate::calls::replica_does(replica, log, m, store);
     let next = stepped.replica;
     let given = stepped.answer;

@@ -1,12 +1,13 @@
-// What the player keeps from line to line: the four replicas, the four clients, and the messages sent.
+// What the player keeps from line to line: the four replicas with one register each, the four clients, and the messages sent.
 use crate::log::Log;
 use base::party::ClientId;
 use base::party::ReplicaId;
 use protocol::client::Client;
 use protocol::replica::Replica;
+use replica::fresh_register;
 ghost use mathlib.Core.Path.{_≡_};
 ghost use Prim.Native.Nat.{_<_};
-ghost use Rattle.protocol.specs.Replica.{madeReplica};
+ghost use Rattle.protocol.specs.Replica.{freshReplica};
 ghost use Rattle.protocol.specs.Client.{madeClient};
 ghost use Rattle.play.specs.Worlds.{freshWorld, replicaSeat, clientSeat};
 
@@ -20,10 +21,15 @@ const FAULT_BOUND: u8 = 1;
 
 const FIRST_NONCE: u64 = 1;
 
+// A replica's part of the one register that is played on: no message of a session is for another.
 fn replica(id: ReplicaId) -> Replica
-    ensures { λ r. ⌜ r ≡ madeReplica 1 id ⌝ }
+    ensures { λ r. ⌜ r ≡ freshReplica 1 id ⌝ }
 {
-    replica::fresh(FAULT_BOUND, id).replica
+    Replica {
+        f: FAULT_BOUND,
+        id: id,
+        register: fresh_register(),
+    }
 }
 
 fn client(id: ClientId) -> Client

@@ -21,7 +21,7 @@ returns c =
     let s = c .before .before .before .before .before .before .before .before .before .before .before .before in
     let a = s .args in
     let nonce = a .client .«last_nonce» + 1 in
-    let to = beginning nonce (Cards nonce start empty empty) startCard (a .client) in
+    let to = beginning (a .register) nonce (Cards nonce start empty empty) startCard (a .client) in
     let sent = rw (c .before .beginning .ensures, c .before .before .before .start .ensures, c .before .before .before .before .empty .ensures) at (c .sent .ensures) in
     λ before. sends (a .out .now) (c .before .before .before .before .before .before .before .write-read .last .0) (READ (a .client .id) nonce) (s .pre .0) (c .before .before .before .before .before .before .before .write-read .result) (c .sent .result) to (c .before .before .before .before .before .before .before .write-read .ensures) sent
 

@@ -20,7 +20,7 @@ returns c =
     let s = c .before .before .before .before .before .before .before .before .before .before .before .before in
     let a = s .args in
     let nonce = a .client .«last_nonce» + 1 in
-    let to = beginning nonce (Stamps nonce start empty) (a .card .now) (a .client) in
+    let to = beginning (a .register) nonce (Stamps nonce start empty) (a .card .now) (a .client) in
     let sent = rw (c .before .beginning .ensures, c .before .before .before .start .ensures, c .before .before .empty .ensures) at (c .sent .ensures) in
     λ before. sends (a .out .now) (c .before .before .before .before .before .before .write-read-stamp .last .0) (READ-STAMP (a .client .id) nonce) (s .pre .0) (c .before .before .before .before .before .before .write-read-stamp .result) (c .sent .result) to (c .before .before .before .before .before .before .write-read-stamp .ensures) sent
 

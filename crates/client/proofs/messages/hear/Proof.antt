@@ -37,7 +37,7 @@ returns-2 c =
     let passed = sym (c .before .before .before .before .before .before .before .accept .ensures) ∙ ap acceptingOutcome (c .before .before .before .before .before .fields .given .1) in
     let fields = c .before .before .before .before .before .fields .given .0 .0 in
     let taken = c .before .before .take in
-    step-calls (a .client) old (taken .result) (taken .last .1 .1 .1 .1 .1 .0) (a .role) bytes verdicts (behind-output (a .client) old (taken .result) (taken .last .1 .1 .1 .1 .1 .0) (roleStep (a .role) (a .client) bytes verdicts) _ (c .before .before .before .before .before .before .before .before .if1 .left) (passed-step (a .role) (a .client) bytes verdicts fields _ passed) (taken .ensures))
+    step-calls (a .client) old (taken .result) (taken .last .1 .1 .1 .1 .1 .0) (a .role) bytes verdicts (behind-output (a .client) old (taken .result) (taken .last .1 .1 .1 .1 .1 .0) (roleStep (a .role) (a .client) bytes verdicts) _ (c .before .before .before .before .before .before .before .before .if1 .left) (passed-step (a .client) bytes verdicts fields _ passed (a .role)) (taken .ensures))
 
 returns-3 : tie.Need-returns-3
 returns-3 c =

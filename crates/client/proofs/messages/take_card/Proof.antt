@@ -40,24 +40,26 @@ returns c =
 
 on-card-requires : tie.Need-on-card-requires
 on-card-requires c κs =
-    let x = c .before .before .before in
+    let e = c .before .before .before in
+    let x = e .before in
     let s = start (x .before) in
     let a = s .args in
-    let short = standing-short (cardAt (a .message .now) (a .fields .card)) (preparedPart (partAt (a .message .now) (a .fields .prepared))) (asked x ∙ not-false _ (c .before .before .if1 .left)) in
+    let short = standing-short (cardAt (a .message .now) (a .fields .card)) (preparedPart (partAt (a .message .now) (a .fields .prepared))) (asked x ∙ not-false _ (e .if1 .left)) in
     (s .pre .0, rw (x .before .part .ensures) (proof-there (a .client) (a .message .now) (a .fields) (s .pre .1)), rw (x .before .part .ensures) (s .pre .2), rw (x .before .before .card .ensures) short)
 
 returns-2 : tie.Need-returns-2
 returns-2 c =
     let o = c .before .before in
-    let e = o .before .before .before in
+    let w = o .before .before .before in
+    let e = w .before in
     let x = e .before in
     let p = x .before in
     let s = start p in
     let a = s .args in
     let fields = a .fields in
-    rw (card-step (a .client) (a .message .now) fields (s .pre .1) (a .role) (s .pre .3), guard-passes 14 _ _ (asked x ∙ not-false _ (e .if1 .left)))
+    rw (card-step (a .client) (a .message .now) fields (s .pre .1) (a .role) (s .pre .3), guard-passes 14 _ _ (asked x ∙ not-false _ (e .if1 .left)), ← w .awaiting .ensures)
     (o .on-card .ensures
-    ∙ ap₂ (λ (card proof : List ℕ). clientAnswers (a .client) (a .out .now) (onCard (afterCards (a .role)) (a .client) (replica (fields .sender)) (fields .nonce) card (preparedPart proof) (fields .addressed) (a .client .phase))) (p .before .card .ensures) (p .part .ensures))
+    ∙ ap₂ (λ (card proof : List ℕ). clientAnswers (a .client) (a .out .now) (onCard (afterCards (a .role)) (a .client) (replica (fields .sender)) (fields .nonce) card (preparedPart proof) (fields .addressed) (w .awaiting .result))) (p .before .card .ensures) (p .part .ensures))
 
 pub take-card-spec : {M : Type 1} → statement M
 take-card-spec =
@@ -68,6 +70,7 @@ take-card-spec =
     card-stands-requires
     (λ c κs. search needs)
     returns
+    (λ c κs. search needs)
     on-card-requires
     (λ c. search needs)
     returns-2)

@@ -13,13 +13,13 @@ use Rattle.client.proofs.read.on_card.Tie as tie
 returns : tie.Need-returns
 returns c =
     let a = c .before .before .before .before .before .args in
-    rw (no-cards (afterCards (a .role)) (a .client) (a .sender) (a .nonce) (a .card .now) (preparedPart (a .proof .now)) (a .addressed) (a .client .phase) (c .before .match .keys2)) (plain-call (c .refused .result) (a .out .now) (a .client) (Refused 18) (c .refused .ensures))
+    rw (no-cards (afterCards (a .role)) (a .client) (a .sender) (a .nonce) (a .card .now) (preparedPart (a .proof .now)) (a .addressed) (a .phase) (c .before .match .keys2)) (plain-call (c .refused .result) (a .out .now) (a .client) (Refused 18) (c .refused .ensures))
 
 returns-2 : tie.Need-returns-2
 returns-2 c =
     let a = c .before .before .before .before .before .before .before .before .before .before .args in
     let fails = sym (c .before .before .is-awaited .ensures) ∙ not-true _ (c .before .if1 .taken) in
-    rw (card-refused (afterCards (a .role)) (a .client) (a .sender) (a .nonce) (a .card .now) (preparedPart (a .proof .now)) (a .addressed) (a .client .phase) (c .before .before .before .before .before .phase .given .0 .0) (c .before .before .before .before .before .phase .given .0 .1 .0) (c .before .before .before .before .before .phase .given .0 .1 .1 .0) (c .before .before .before .before .before .phase .given .0 .1 .1 .1 .0) (c .before .before .before .before .before .phase .given .1) fails) (plain-call (c .refused2 .result) (a .out .now) (a .client) (Refused 18) (c .refused2 .ensures))
+    rw (card-refused (afterCards (a .role)) (a .client) (a .sender) (a .nonce) (a .card .now) (preparedPart (a .proof .now)) (a .addressed) (a .phase) (c .before .before .before .before .before .phase .given .0 .0) (c .before .before .before .before .before .phase .given .0 .1 .0) (c .before .before .before .before .before .phase .given .0 .1 .1 .0) (c .before .before .before .before .before .phase .given .0 .1 .1 .1 .0) (c .before .before .before .before .before .phase .given .1) fails) (plain-call (c .refused2 .result) (a .out .now) (a .client) (Refused 18) (c .refused2 .ensures))
 
 keep-better-card-requires : tie.Need-keep-better-card-requires
 keep-better-card-requires c κs = search needs
@@ -31,7 +31,7 @@ returns-3 : tie.Need-returns-3
 returns-3 c =
     let a = c .before .before .before .before .before .before .before .before .before .before .before .before .before .before .before .before .before .args in
     let passes = sym (c .before .before .before .before .before .before .before .before .before .is-awaited .ensures) ∙ not-false _ (c .before .before .before .before .before .before .before .before .if1 .left) in
-    rw (card-taken (afterCards (a .role)) (a .client) (a .sender) (a .nonce) (a .card .now) (preparedPart (a .proof .now)) (a .addressed) (a .client .phase) (c .before .before .before .before .before .before .before .before .before .before .before .before .phase .given .0 .0) (c .before .before .before .before .before .before .before .before .before .before .before .before .phase .given .0 .1 .0) (c .before .before .before .before .before .before .before .before .before .before .before .before .phase .given .0 .1 .1 .0) (c .before .before .before .before .before .before .before .before .before .before .before .before .phase .given .0 .1 .1 .1 .0) (c .before .before .before .before .before .before .before .before .before .before .before .before .phase .given .1) passes) (rw (c .before .before .before .before .before .keep-better-card .ensures, c .before .before .before .before .before .before .before .best-of .ensures, c .before .before .before .before .before .before .showed-by .ensures, c .before .before .before .before .with .ensures) at (c .before .before .count-card .ensures (a .client)))
+    rw (card-taken (afterCards (a .role)) (a .client) (a .sender) (a .nonce) (a .card .now) (preparedPart (a .proof .now)) (a .addressed) (a .phase) (c .before .before .before .before .before .before .before .before .before .before .before .before .phase .given .0 .0) (c .before .before .before .before .before .before .before .before .before .before .before .before .phase .given .0 .1 .0) (c .before .before .before .before .before .before .before .before .before .before .before .before .phase .given .0 .1 .1 .0) (c .before .before .before .before .before .before .before .before .before .before .before .before .phase .given .0 .1 .1 .1 .0) (c .before .before .before .before .before .before .before .before .before .before .before .before .phase .given .1) passes) (rw (c .before .before .before .before .before .keep-better-card .ensures, c .before .before .before .before .before .before .before .best-of .ensures, c .before .before .before .before .before .before .showed-by .ensures, c .before .before .before .before .with .ensures) at (c .before .before .count-card .ensures (a .client)))
 
 pub on-card-spec : {M : Type 1} → statement M
 on-card-spec =

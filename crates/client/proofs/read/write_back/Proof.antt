@@ -9,10 +9,11 @@ use Rattle.client.proofs.read.write_back.Tie as tie
 
 returns : tie.Need-returns
 returns c =
-    let s = c .before .before .before .before .before .before .before .before .before .before .before .before .before .before in
+    let wrote = c .before .before .before .before in
+    let s = wrote .before .before .before .before .before .before .before .before .before .before .before in
     let a = s .args in
     let sent = rw (c .before .with-phase .ensures) at (c .sent .ensures) in
-    λ before. sends (a .out .now) (c .before .before .before .before .write-write .last .0) (WRITE (a .client .id) (currentCard (a .client)) (bestProof (a .client) (a .best))) (s .pre) (c .before .before .before .before .write-write .result) (c .sent .result) (withPhase (WriteBack (a .best) (a .showed)) (a .client)) (c .before .before .before .before .write-write .ensures) sent
+    λ before. sends (a .out .now) (wrote .write-write .last .0) (WRITE (a .client .id) (currentCard (a .client)) (bestProof (a .client) (a .best))) (s .pre) (wrote .write-write .result) (c .sent .result) (withPhase (WriteBack (a .best) (a .showed)) (a .client)) (wrote .write-write .ensures) sent
 
 pub write-back-spec : {M : Type 1} → statement M
 write-back-spec =

@@ -5,8 +5,9 @@ use Rattle.client.proofs.record.with_last_written.Tie as tie
 
 returns : tie.Need-returns
 returns c =
-    let k = c .before .built .ensures in
-    rw (k .many, k .holds)
+    let k = c .before .before .before .built .ensures in
+    rw (k .many, k .holds, c .register-place .ensures .0)
 
 pub with-last-written-spec : {M : Type 1} → statement M
-with-last-written-spec = tie.close (tie.spec (λ c κs. search needs) returns)
+with-last-written-spec =
+    tie.close (tie.spec (λ c κs. search needs) (λ c κs. search needs) (λ c. search needs) (λ c. search needs) returns)

@@ -24,17 +24,19 @@ returns c =
 returns-2 : tie.Need-returns-2
 unfolding afterPrepared
 returns-2 c =
-    let s = c .before .before .before .before .before .before .before .before .before .before .before .before .before .before .before .before .before .before .before .before in
+    let wrote = c .before .before .before .before .before .before in
+    let b = wrote .before .before .before .before .before .before .before .before .before .before .before in
+    let enough = b .before in
+    let s = enough .before .before .before in
     let a = s .args in
     let signatures = a .client .signatures in
-    let long = sized signatures 1_024 (s .good .0 .1 .1 .1 .1 .1 .1 .1 .1 .1 .1 .1 .1 .0 .1 .0 .1) in
-    let b = c .before .before .before .before .before .before .before .before .before .before .before .before .before .before .before .before .built in
-    let made = kept-built (a .client) (a .counted) long (b .result .count) (b .result .signers) (b .result .entries) (b .ensures) in
+    let long = sized signatures 1_024 (s .good .0 .1 .1 .1 .1 .1 .1 .1 .1 .1 .1 .1 .1 .1 .0 .1 .0 .1) in
+    let made = kept-built (a .client) (a .counted) long (b .built .result .count) (b .built .result .signers) (b .built .result .entries) (b .built .ensures) in
     let proof : PreparedProof = record { timestamp = number (a .timestamp); digest = a .client .digest; entries = built (a .client) (a .counted) signatures } in
     let to = withPhase (Writtens (a .timestamp) empty) (withSigners (signerSet (proof .entries)) (withSignatures (zeros 1_024) (a .client))) in
-    let sent = rw (c .before .with-phase2 .ensures, c .before .before .with-signers .ensures, b .ensures .who, c .before .before .before .empty .ensures) at (c .sent .ensures) in
-    let wrote = rw made at (c .before .before .before .before .before .before .write-write .ensures) in
-    λ before. rw (sym (c .before .before .before .before .before .before .before .before .before .before .before .before .before .before .before .before .before .before .is-quorum .ensures) ∙ not-false _ (c .before .before .before .before .before .before .before .before .before .before .before .before .before .before .before .before .before .if1 .left)) (sends (a .out .now) (c .before .before .before .before .before .before .write-write .last .0) (WRITE (a .client .id) (currentCard (a .client)) proof) (s .pre) (c .before .before .before .before .before .before .write-write .result) (c .sent .result) to wrote sent)
+    let sent = rw (c .before .with-phase2 .ensures, c .before .before .with-signers .ensures, b .built .ensures .who, c .before .before .before .empty .ensures) at (c .sent .ensures) in
+    λ before. rw (sym (enough .before .is-quorum .ensures) ∙ not-false _ (enough .if1 .left))
+    (sends (a .out .now) (wrote .write-write .last .0) (WRITE (a .client .id) (currentCard (a .client)) proof) (s .pre) (wrote .write-write .result) (c .sent .result) to (rw made at (wrote .write-write .ensures)) sent)
 
 pub after-prepared-spec : {M : Type 1} → statement M
 after-prepared-spec =

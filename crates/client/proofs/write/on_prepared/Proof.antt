@@ -12,13 +12,13 @@ use Rattle.client.proofs.write.on_prepared.Tie as tie
 returns : tie.Need-returns
 returns c =
     let a = c .before .before .before .before .before .args in
-    rw (no-prepareds (a .client) (a .sender) (number (a .timestamp)) (a .digest .now) (a .signature .now) (a .client .phase) (c .before .match .keys2)) (plain-call (c .refused .result) (a .out .now) (a .client) (Refused 18) (c .refused .ensures))
+    rw (no-prepareds (a .client) (a .sender) (number (a .timestamp)) (a .digest .now) (a .signature .now) (a .phase) (c .before .match .keys2)) (plain-call (c .refused .result) (a .out .now) (a .client) (Refused 18) (c .refused .ensures))
 
 returns-2 : tie.Need-returns-2
 returns-2 c =
     let a = c .before .before .before .before .before .before .before .before .before .before .before .args in
     let fails = sym (c .before .before .is-awaited-prepared .ensures) ∙ not-true _ (c .before .if1 .taken) in
-    rw (prepared-refused (a .client) (a .sender) (number (a .timestamp)) (a .digest .now) (a .signature .now) (a .client .phase) (c .before .before .before .before .before .before .phase .given .0 .0) (c .before .before .before .before .before .before .phase .given .0 .1 .0) (c .before .before .before .before .before .before .phase .given .1) fails) (plain-call (c .refused2 .result) (a .out .now) (a .client) (Refused 18) (c .refused2 .ensures))
+    rw (prepared-refused (a .client) (a .sender) (number (a .timestamp)) (a .digest .now) (a .signature .now) (a .phase) (c .before .before .before .before .before .before .phase .given .0 .0) (c .before .before .before .before .before .before .phase .given .0 .1 .0) (c .before .before .before .before .before .before .phase .given .1) fails) (plain-call (c .refused2 .result) (a .out .now) (a .client) (Refused 18) (c .refused2 .ensures))
 
 after-prepared-requires : tie.Need-after-prepared-requires
 after-prepared-requires c κs = c .before .before .before .before .before .before .before .before .before .before .before .before .before .before .before .pre .0
@@ -27,7 +27,7 @@ returns-3 : tie.Need-returns-3
 returns-3 c =
     let a = c .before .before .before .before .before .before .before .before .before .before .before .before .before .before .before .before .before .before .args in
     let passes = sym (c .before .before .before .before .before .before .before .before .before .is-awaited-prepared .ensures) ∙ not-false _ (c .before .before .before .before .before .before .before .before .if1 .left) in
-    rw (prepared-taken (a .client) (a .sender) (number (a .timestamp)) (a .digest .now) (a .signature .now) (a .client .phase) (c .before .before .before .before .before .before .before .before .before .before .before .before .before .phase .given .0 .0) (c .before .before .before .before .before .before .before .before .before .before .before .before .before .phase .given .0 .1 .0) (c .before .before .before .before .before .before .before .before .before .before .before .before .before .phase .given .1) passes) (rw (c .before .before .before .before .before .with-signatures .ensures, c .before .before .before .before .before .before .with-signature .ensures, c .before .before .before .before .with .ensures) at (c .before .before .after-prepared .ensures (a .client)))
+    rw (prepared-taken (a .client) (a .sender) (number (a .timestamp)) (a .digest .now) (a .signature .now) (a .phase) (c .before .before .before .before .before .before .before .before .before .before .before .before .before .phase .given .0 .0) (c .before .before .before .before .before .before .before .before .before .before .before .before .before .phase .given .0 .1 .0) (c .before .before .before .before .before .before .before .before .before .before .before .before .before .phase .given .1) passes) (rw (c .before .before .before .before .before .with-signatures .ensures, c .before .before .before .before .before .before .with-signature .ensures, c .before .before .before .before .with .ensures) at (c .before .before .after-prepared .ensures (a .client)))
 
 pub on-prepared-spec : {M : Type 1} → statement M
 on-prepared-spec =

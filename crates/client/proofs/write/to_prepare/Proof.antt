@@ -10,19 +10,24 @@ use Rattle.client.proofs.write.to_prepare.Tie as tie
 
 returns : tie.Need-returns
 returns c =
-    let a = c .before .before .before .before .before .before .before .args in
+    let a = c .before .before .before .before .before .before .before .before .args in
     let none = no-successor (a .best) (a .client .id) (c .before .before .before .before .successor .result) (c .before .before .before .before .successor .ensures) (c .before .before .enum-told .given .1) in
     λ before. rw none (plain-call (c .plain .result) (a .out .now) (withPhase Idle (a .client)) Ended (rw (c .before .with-phase .ensures) at (c .plain .ensures)))
 
 returns-2 : tie.Need-returns-2
 returns-2 c =
-    let s = c .before .before .before .before .before .before .before .before .before .before .before .before .before .before .before .before .before .before .before .before .before .before .before in
+    let wrote = c .before .before .before .before .before .before in
+    let last = wrote .before .before .before .before .before .before .before .before in
+    let digest = last .before .before .before in
+    let found = digest .before .before in
+    let s = found .before .before .before .before .before .before in
     let a = s .args in
-    let next = c .before .before .before .before .before .before .before .before .before .before .before .before .before .before .before .before .before .before .next .given .0 .0 in
-    let found = the-successor (a .best) (a .client .id) (c .before .before .before .before .before .before .before .before .before .before .before .before .before .before .before .before .before .before .before .before .successor .result) (c .before .before .before .before .before .before .before .before .before .before .before .before .before .before .before .before .before .before .before .before .successor .ensures) next (c .before .before .before .before .before .before .before .before .before .before .before .before .before .before .before .before .before .before .next .given .1) in
-    let to = withPhase (Prepareds next empty) (withDigest (c .before .before .before .before .before .before .before .before .before .before .before .before .before .before .before .before .card-digest .result) (a .client)) in
+    let next = found .next .given .0 .0 in
+    let is = the-successor (a .best) (a .client .id) (found .before .before .successor .result) (found .before .before .successor .ensures) next (found .next .given .1) in
+    let to = withPhase (Prepareds next empty) (withDigest (digest .card-digest .result) (a .client)) in
     let sent = rw (c .before .with-phase2 .ensures, c .before .before .with-digest .ensures, c .before .before .before .empty .ensures) at (c .sent .ensures) in
-    λ before. rw (found, ← c .before .before .before .before .before .before .before .before .before .before .before .before .before .before .before .before .card-digest .ensures) (sends (a .out .now) (c .before .before .before .before .before .before .write-prepare .last .0) _ (s .pre) (c .before .before .before .before .before .before .write-prepare .result) (c .sent .result) to (c .before .before .before .before .before .before .write-prepare .ensures) sent)
+    let message = rw (last .last-written .ensures) at (wrote .write-prepare .ensures) in
+    λ before. rw (is, ← digest .card-digest .ensures) (sends (a .out .now) (wrote .write-prepare .last .0) _ (s .pre) (wrote .write-prepare .result) (c .sent .result) to message sent)
 
 pub to-prepare-spec : {M : Type 1} → statement M
 to-prepare-spec =
@@ -34,6 +39,7 @@ to-prepare-spec =
     (λ c κs. search needs)
     (λ c κs. search needs)
     returns
+    (λ c κs. search needs)
     (λ c κs. search needs)
     (λ c κs. search needs)
     (λ c κs. search needs)

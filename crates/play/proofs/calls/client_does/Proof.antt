@@ -4,7 +4,7 @@ use mathlib.Core.List.{List}
 use Prim.Native.Nat.{ℕ}
 use borrow.Author.Needs.{needs}
 use Rattle.play.proofs.Leaving.{client-leaves, client-behind, same-call, out-free, put-behind}
-use Rattle.play.specs.Calls.{clientDoes}
+use Rattle.play.specs.Calls.{theRegister, clientDoes}
 use Rattle.text.specs.Hex.{hexPairs}
 use Rattle.protocol.specs.Client.{beginWriteCall, beginReadCall}
 use Rattle.play.specs.declared.calls.Call.{Call}
@@ -19,7 +19,7 @@ returns c =
     let s = b .before .before .before in
     let a = s .before .before .before .before .args in
     let out = out-free (a .log) (a .store .now) (s .start .result) (s .start .ensures .0) in
-    let call = ap₂ (λ (digits old : List ℕ). beginWriteCall (a .client) (hexPairs 17 digits) old) (b .behind .ensures) out in
+    let call = ap₂ (λ (digits old : List ℕ). beginWriteCall (a .client) theRegister (hexPairs 17 digits) old) (b .behind .ensures) out in
     client-behind _ _ _ _ _ _ (call ∙ ap (λ (k : Call). clientDoes (a .client) (a .log) (a .store .now) (a .line .now) k) (sym (b .before .enum-told .given .1))) (put-behind (a .log) (a .store .now) (s .start .result) (s .start .ensures .0) _) (d .begin-write .ensures)
 
 returns-2 : tie.Need-returns-2
@@ -30,7 +30,7 @@ returns-2 c =
     let s = t .before .before in
     let a = s .before .before .before .before .args in
     let out = out-free (a .log) (a .store .now) (s .start .result) (s .start .ensures .0) in
-    let call = ap (λ (old : List ℕ). beginReadCall (a .client) old) out in
+    let call = ap (λ (old : List ℕ). beginReadCall (a .client) theRegister old) out in
     client-behind _ _ _ _ _ _ (call ∙ ap (λ (k : Call). clientDoes (a .client) (a .log) (a .store .now) (a .line .now) k) (sym (t .enum-told2 .given .1))) (put-behind (a .log) (a .store .now) (s .start .result) (s .start .ensures .0) _) (client-leaves _ _ _ _ (d .begin-read .ensures))
 
 returns-3 : tie.Need-returns-3

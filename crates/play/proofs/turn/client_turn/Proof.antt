@@ -12,11 +12,11 @@ returns c =
     let l = c .before in
     let d = l .before .before .before .before .before in
     let t = d .before .before .before in
-    let b = t .before .before .before .before .before in
+    let b = t .before .before .before .before in
     let a = b .args in
-    let four : length (a .world .clients) ≡ 4 = simp length-map at (b .good .0 .1 .1 .1 .0 .1 .0 .1) in
-    let first = default-free (a .world .clients) (t .client-seat .result) _ _ (omega (arith, t .client-seat .ensures .1)) in
-    client-plays (a .world) (a .store .now) (d .client-does .result .answer) (l .logged .result) (c .said .result) _ (l .logged .ensures) (c .said .ensures)
+    let four : length (a .t1 .clients) ≡ 4 = simp length-map at (b .good .0 .1 .1 .1 .0 .1 .0 .1) in
+    let first = default-free (a .t1 .clients) (t .client-seat .result) _ _ (omega (arith, t .client-seat .ensures .1)) in
+    client-plays (a .t1) (a .store .now) (d .client-does .result .answer) (l .logged .result) (c .said .result) _ (l .logged .ensures) (c .said .ensures)
     (a .id) (a .call) (a .line .now) (t .client-seat .result) _ (d .client-does .result) (t .client-seat .ensures .0) first refl (d .client-does .ensures)
 
 pub client-turn-spec : {M : Type 1} → statement M

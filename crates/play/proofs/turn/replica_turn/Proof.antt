@@ -14,11 +14,11 @@ returns c =
     let r = l .before in
     let d = r .before .before .before .before in
     let t = d .before .before .before in
-    let b = t .before .before .before .before in
+    let b = t .before .before .before in
     let a = b .args in
-    let four : length (a .world .replicas) ≡ 4 = simp length-map at (b .good .0 .1 .1 .0 .1 .0 .1) in
-    let first = default-free (a .world .replicas) (t .replica-seat .result) _ _ (omega (arith, t .replica-seat .ensures .1)) in
-    replica-plays (a .world) (a .store .now) (r .reply .result) (l .logged .result) (s .said .result) _ (l .logged .ensures) (s .said .ensures)
+    let four : length (a .t1 .replicas) ≡ 4 = simp length-map at (b .good .0 .1 .1 .0 .1 .0 .1) in
+    let first = default-free (a .t1 .replicas) (t .replica-seat .result) _ _ (omega (arith, t .replica-seat .ensures .1)) in
+    replica-plays (a .t1) (a .store .now) (r .reply .result) (l .logged .result) (s .said .result) _ (l .logged .ensures) (s .said .ensures)
     (a .id) (a .m) (t .replica-seat .result) _ (d .replica-does .result) (c .without-card .result) (t .replica-seat .ensures .0) first (r .reply .ensures) (d .replica-does .ensures) (c .without-card .ensures)
 
 pub replica-turn-spec : {M : Type 1} → statement M

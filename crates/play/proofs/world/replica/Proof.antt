@@ -1,0 +1,10 @@
+-- `play::world::replica` meets its contract. Assumes nothing.
+use borrow.Author.Needs.{needs}
+use Rattle.play.proofs.world.replica.Statement.{statement}
+use Rattle.play.proofs.world.replica.Tie as tie
+
+returns : tie.Need-returns
+returns c = rw (c .fresh-register .ensures)
+
+pub replica-spec : {M : Type 1} → statement M
+replica-spec = tie.close (tie.spec (λ c κs. search needs) returns)
