@@ -207,12 +207,8 @@ impl Player {
                 let (register, card) = (number(register)?, unhex(card)?);
                 self.clients.get(id)?.begin_write(register, &card, room)
             }
-            ["read", id, register] => {
-                self.clients.get(id)?.begin_read(number(register)?, room)
-            }
-            ["view", id, register] => {
-                self.viewers.get(id)?.begin_view(number(register)?, room)
-            }
+            ["read", id, register] => self.clients.get(id)?.begin_read(number(register)?, room),
+            ["view", id, register] => self.viewers.get(id)?.begin_view(number(register)?, room),
             ["to-replica", id, message, verdicts] => {
                 let (message, verdicts) = self.delivery(message, verdicts)?;
                 self.replicas.get(id)?.receive(&message, &verdicts, room)
