@@ -8,6 +8,7 @@ pub mod Listed
 pub mod Outcome
 pub mod Quorum
 pub mod Range
+pub mod Registers
 pub mod ReplicaSet
 pub mod Same
 pub mod Stored

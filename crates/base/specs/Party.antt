@@ -1,11 +1,13 @@
--- Document 01, "Parties and stamps": the fault bound (allowance) f, the numbers of replicas (holders) and clients (desks), the quorum.
-use mathlib.Core.Bool.{Bool, _&&_, not}
-use Prim.Native.Nat.{ℕ, _+_, _*_, min}
+-- Document 01, "Parties and stamps": the fault bound (allowance) f, the numbers of replicas (holders) and clients (desks), the quorum. Document
+-- 02, #103: the numbers of registers (sets).
+use mathlib.Core.Bool.{Bool, _&&_, not, cond}
+use Prim.Native.Nat.{ℕ, _+_, _-_, _*_, min}
 use lib.Dec.{leb}
 use Rattle.base.specs.Outcome.{Outcome, accepted, refused, guard}
 use Rattle.base.specs.Range.{within}
 use Rattle.base.specs.declared.party.ReplicaId.{ReplicaId}
 use Rattle.base.specs.declared.party.ClientId.{ClientId}
+use Rattle.base.specs.declared.party.RegisterId.{RegisterId}
 use Rattle.base.specs.declared.party.Setup.{Setup}
 use Rattle.base.specs.declared.party.Setup.the-variants.{Good, Refused}
 
@@ -36,6 +38,14 @@ isWriter id = within 1 64 (id .0)
 -- "Numbers 65 to 96 become viewing desks": the other clients.
 abbrev pub isViewer : ClientId → Bool
 isViewer id = isClient id && not (isWriter id)
+
+-- Document 02, #103: "A holder keeps 16 registers". 20: "the set is not 1 to 16".
+abbrev pub isRegister : RegisterId → Bool
+isRegister id = within 1 16 (id .0)
+
+-- Where a register stands among the sixteen. What is no register's number gets a place too, so that places are defined for all.
+abbrev pub registerPlace : RegisterId → ℕ
+registerPlace id = cond (isRegister id) (id .0 - 1) 0
 
 -- Refusal 16: "A party is set up with f, number or first nonce (0) out of range."
 abbrev pub replicaSetup : ℕ → ReplicaId → Outcome (Unit {0})

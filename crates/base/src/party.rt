@@ -1,9 +1,9 @@
-// The parties: replicas and clients, how many there are, and how many make a quorum.
+// The parties: replicas and clients, how many there are, and how many make a quorum; and the registers that they share.
 use crate::refusal::SET_UP;
 ghost use mathlib.Core.Path.{_≡_};
-ghost use Prim.Native.Nat.{min};
+ghost use Prim.Native.Nat.{min, _<_};
 ghost use Rattle.base.specs.Range.{within};
-ghost use Rattle.base.specs.Party.{replicaCount, quorumSize, isFaultBound, isReplica, isClient, isWriter, isViewer, replicaSetup, clientSetupIf, clientSetup, viewerSetup, setupOutcome};
+ghost use Rattle.base.specs.Party.{replicaCount, quorumSize, isFaultBound, isReplica, isClient, isWriter, isViewer, isRegister, registerPlace, replicaSetup, clientSetupIf, clientSetup, viewerSetup, setupOutcome};
 
 // A replica's number (document 01: holder number).
 #[repr(C)]
@@ -12,6 +12,10 @@ pub struct ReplicaId(pub u8);
 // A client's number (document 01: desk number).
 #[repr(C)]
 pub struct ClientId(pub u8);
+
+// A register's number (document 02, #103: set).
+#[repr(C)]
+pub struct RegisterId(pub u8);
 
 // Whether a party can be set up with the numbers given.
 pub enum Setup {
@@ -24,6 +28,8 @@ const LARGEST_FAULT_BOUND: u8 = 5;
 const CLIENTS: u8 = 96;
 
 const WRITERS: u8 = 64;
+
+pub const REGISTERS: usize = 16;
 
 // The fault bound that counts: no larger than the largest.
 fn bounded(f: u8) -> u8
@@ -90,6 +96,22 @@ pub fn is_viewer(id: ClientId) -> bool
         return false;
     }
     !is_writer(id)
+}
+
+pub fn is_register(id: RegisterId) -> bool
+    ensures { λ r. ⌜ r ≡ isRegister id ⌝ }
+{
+    within(1, REGISTERS as u8, id.0)
+}
+
+// Where a register stands among all: register x at x - 1. What is no register's number stands at 0 too.
+pub fn register_place(id: RegisterId) -> usize
+    ensures { λ r. ⌜ (r ≡ registerPlace id) × (r < 16) ⌝ }
+{
+    if !is_register(id) {
+        return 0;
+    }
+    (id.0 - 1) as usize
 }
 
 // Whether a replica can be set up with these numbers.

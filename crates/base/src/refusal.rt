@@ -36,3 +36,5 @@ pub const BUSY: u8 = 17;
 pub const NOT_AWAITED: u8 = 18;
 
 pub const NOT_FOR_VIEWERS: u8 = 19;
+
+pub const REGISTER: u8 = 20;

@@ -11,6 +11,7 @@ use lib.ListN.{length, getD, take, drop, length-append, take-append-drop, length
 use lib.Seq.{length-take-le, take-add, take-all, drop-at, drop-drop}
 use Rattle.base.specs.BigEndian.{fromBytes}
 use Rattle.base.specs.BitMap.{bit}
+use Rattle.base.specs.Party.{isRegister}
 use Rattle.base.specs.Outcome.{Outcome, accepted, refused, guard}
 use Rattle.base.specs.ReplicaSet.{empty}
 use Rattle.base.specs.Timestamp.{number, ofNumber, isIssued}
@@ -20,7 +21,7 @@ use Rattle.base.specs.Bytes.{between}
 use Rattle.wire.specs.Acceptance.{senderOf, numbered, inItsRange, maySend}
 use Rattle.wire.specs.Accepting.{opened, entryCount, countIn, signatureCount, proofBetween, Ready}
 use Rattle.wire.specs.Checks.{preparedOf, writtenOf, timestampOf, ifThere, entriesIfThere, entriesOf, oneEach, ownGenuine, issued, all, proven, proofOutcome}
-use Rattle.wire.specs.Decode.{decode, kindIn, reading, spanOf, fieldsIn, framed, timestampIn, readingOutcome}
+use Rattle.wire.specs.Decode.{messageIn, registerIn, kindIn, reading, spanOf, fieldsIn, framed, timestampIn, readingOutcome}
 use Rattle.wire.specs.Judging.{entriesIn, proofCheckOutcome, smallest, preparedOutcome, writtenOutcome}
 use Rattle.wire.specs.Layout.{rules, mapIn, place, field}
 use Rattle.wire.specs.Message.{Message, kindOf}
@@ -35,7 +36,7 @@ use Rattle.wire.specs.declared.message.Reading.the-variants.{Message as 
 use Rattle.wire.specs.declared.message.Span.{Span}
 use Rattle.wire.proofs.FieldParts.{room}
 use Rattle.wire.proofs.Framed.{Framed, framed-passes, framed-accepted, place-absent, length-field}
-use Rattle.wire.proofs.Parsed.{preparedAt, writtenAt, messageOf, prepared-whole, written-whole, parsed, decode-accepted, decode-refused}
+use Rattle.wire.proofs.Parsed.{preparedAt, writtenAt, messageOf, prepared-whole, written-whole, parsed, message-reads, message-refused}
 use Rattle.wire.proofs.ProofBytes.{length-read}
 use Rattle.wire.proofs.Proven.{proven-smallest, prepared-missing, written-missing}
 use Rattle.wire.proofs.Windows.{front-some}
@@ -86,10 +87,10 @@ module _ (bytes : List ℕ) where
   seen-taken (written e) k = record { sender = refl; kind = k; prepared = no-prepared (cc); written = no-written (cc); timestamp = with-timestamp (cc) }
   seen-taken (card e) k = record { sender = refl; kind = k; prepared = refl; written = no-written (cc); timestamp = no-timestamp (cc) }
 
-pub seen : (party : Party) (bytes : List ℕ) (message : Message) → decode party bytes ≡ accepted message → Seen party bytes message
+pub seen : (party : Party) (bytes : List ℕ) (message : Message) → messageIn party bytes ≡ accepted message → Seen party bytes message
 unfolding fieldsIn
 seen party bytes message e =
-    let p = parsed party bytes (fieldsIn bytes) (decode-accepted party bytes message e) in
+    let p = parsed party bytes (fieldsIn bytes) (message-reads party bytes message e) in
     let same : messageOf (p .taken) bytes ≡ message = cc (p .decodes) in
     subst (λ (m : Message). Seen party bytes m) same (seen-taken bytes (p .taken) (kind-taken bytes (p .taken)))
 
@@ -102,6 +103,7 @@ pub record Placed (bytes : List ℕ) (fields : Fields) : Type 0 where
   pub timestamp : fields .timestamp ≡ ofNumber (timestampIn bytes)
   pub prepared : fields .prepared ≡ spanOf bytes 6
   pub written : fields .written ≡ spanOf bytes 7
+  pub register : fields .register ≡ registerIn bytes
   pub first : Room bytes 38 (place bytes 6) (place bytes 7)
   pub second : Room bytes 6 (place bytes 7) (place bytes 8)
 
@@ -122,6 +124,7 @@ placed bytes fields e =
           timestamp = refl;
           prepared = refl;
           written = refl;
+          register = refl;
           first = unfold rules in room bytes 6 38 (omega arith) (λ l. omega arith) f;
           second = unfold rules in room bytes 7 6 (omega arith) (λ l. omega arith) f;
         }
@@ -215,7 +218,7 @@ module _ (bytes : List ℕ) (f : Framed bytes) where
           rw (eq-eqb (place bytes 7) (place bytes 8) (omega arith), nothing) (sym (written-missing n))
 
 -- A message has as many signatures as its places say: its own and those of its entries.
-pub entries-counted : (party : Party) (bytes : List ℕ) (message : Message) → decode party bytes ≡ accepted message → Framed bytes → 1 + length (entriesOf message) ≡ signatureCount bytes
+pub entries-counted : (party : Party) (bytes : List ℕ) (message : Message) → messageIn party bytes ≡ accepted message → Framed bytes → 1 + length (entriesOf message) ≡ signatureCount bytes
 unfolding entriesOf signatureCount fieldsIn
 entries-counted party bytes message e f =
     let s = seen party bytes message e in
@@ -224,7 +227,7 @@ entries-counted party bytes message e f =
     rw (s .prepared, s .written, length-append) (omega arith)
 
 -- Test 7 by the places of the proofs.
-pub one-each : (party : Party) (bytes : List ℕ) (message : Message) (verdicts : List ℕ) → decode party bytes ≡ accepted message → Framed bytes
+pub one-each : (party : Party) (bytes : List ℕ) (message : Message) (verdicts : List ℕ) → messageIn party bytes ≡ accepted message → Framed bytes
     → oneEach message verdicts ≡ (eqb (length verdicts) (signatureCount bytes) && all (λ v. leb v 1) verdicts)
 unfolding oneEach
 one-each party bytes message verdicts e f = rw (entries-counted party bytes message e f)
@@ -237,7 +240,7 @@ own-timestamp bytes = go (bit (mapIn bytes) 3)
     go true = refl
     go false = refl
 
-pub judged : (f : ℕ) (party : Party) (bytes : List ℕ) (message : Message) (first second : List ℕ) → decode party bytes ≡ accepted message → Framed bytes
+pub judged : (f : ℕ) (party : Party) (bytes : List ℕ) (message : Message) (first second : List ℕ) → messageIn party bytes ≡ accepted message → Framed bytes
     → length first ≡ entryCount (spanOf bytes 6) 38
     → length second ≡ entryCount (spanOf bytes 7) 6
     → smallest (smallest (proofBetween f bytes (place bytes 6) 38 (place bytes 7) first) (proofBetween f bytes (place bytes 7) 6 (place bytes 8) second)) (guard 11 (cond (bit (mapIn bytes) 3) (isIssued (ofNumber (timestampIn bytes))) true) (accepted empty))
@@ -249,8 +252,8 @@ judged f party bytes message first second e whole first-size second-size =
 
 -- Tests 2 to 8 by the bytes.
 pub opened-read : (party : Party) (f : ℕ) (bytes verdicts : List ℕ) (fields : Fields) → reading party bytes ≡ accepted fields
-    → opened party f bytes verdicts ≡ guard 6 (inItsRange f (numbered party (fields .sender))) (guard 19 (maySend (fields .kind) (numbered party (fields .sender))) (guard 7 (eqb (length verdicts) (signatureCount bytes) && all (λ v. leb v 1) verdicts) (guard 8 (ownGenuine verdicts) (accepted fields))))
-unfolding opened
+    → opened party f bytes verdicts ≡ guard 6 (inItsRange f (numbered party (fields .sender))) (guard 19 (maySend (fields .kind) (numbered party (fields .sender))) (guard 20 (isRegister (fields .register)) (guard 7 (eqb (length verdicts) (signatureCount bytes) && all (λ v. leb v 1) verdicts) (guard 8 (ownGenuine verdicts) (accepted fields)))))
+unfolding opened fieldsIn
 opened-read party f bytes verdicts fields e =
     let p = parsed party bytes fields e in
     let m = messageOf (p .taken) bytes in
@@ -260,7 +263,7 @@ opened-read party f bytes verdicts fields e =
 
 pub opened-unread : (party : Party) (f : ℕ) (bytes verdicts : List ℕ) (n : ℕ) → reading party bytes ≡ refused n → opened party f bytes verdicts ≡ refused n
 unfolding opened
-opened-unread party f bytes verdicts n e = rw (decode-refused party bytes n e)
+opened-unread party f bytes verdicts n e = rw (message-refused party bytes n e)
 
 -- What an answer says of the outcome that it stands for.
 pub answered : (outcome : Outcome Fields) (answer : Reading) (fields : Fields) → readingOutcome answer ≡ outcome → answer ≡ Found fields → outcome ≡ accepted fields
@@ -310,7 +313,7 @@ module _ (f : ℕ) (bytes verdicts : List ℕ) (fields : Fields) (n : ℕ) (read
       → proofCheckOutcome prepared ≡ proofBetween f bytes (fields .prepared .start) 38 (fields .prepared .end) (take (1 + n - 1) (drop 1 verdicts))
       → proofCheckOutcome written ≡ proofBetween f bytes (fields .written .start) 6 (fields .written .end) (take (length verdicts - (1 + n)) (drop (1 + n) verdicts))
       → own ≡ cond (bit (fields .map) 3) (isIssued (fields .timestamp)) true
-      → (party : Party) (message : Message) → decode party bytes ≡ accepted message
+      → (party : Party) (message : Message) → messageIn party bytes ≡ accepted message
       → smallest (smallest (proofCheckOutcome prepared) (proofCheckOutcome written)) (guard 11 own (accepted empty)) ≡ proven f message (drop 1 verdicts) (accepted (preparedSigners (preparedOf message)))
   unfolding signatureCount fieldsIn
   judged-parts one two own first second third party message e =

@@ -57,7 +57,7 @@ module _ (s : List ℕ) (p : Places) (whole : Framed s) (here : p ≡ placesIn s
   unfolding carried placesIn field
   with-card timestamp apart t =
       let there = card-there s (rw here at apart) in
-      let up = place-rises s 6 9 (omega arith) in
+      let up = place-rises s 6 10 (omega arith) in
       let ends = whole .ends in
       rw (t, here)
       (record {

@@ -27,10 +27,10 @@ least s b width wide h = go (bit (mapIn s) b) refl
     go true e = let w = wide (drop (place s b) s) in rw (place-present s b e) (omega arith)
     go false e = let same = place-absent s b e in absurd (omega arith)
 
-pub room : (s : List ℕ) (b width : ℕ) → b < 9 → ((l : List ℕ) → width ≤ extent (getD rules b (fixed 0)) l) → Framed s → Room s width (place s b) (place s (suc b))
+pub room : (s : List ℕ) (b width : ℕ) → b < 10 → ((l : List ℕ) → width ≤ extent (getD rules b (fixed 0)) l) → Framed s → Room s width (place s b) (place s (suc b))
 room s b width low wide whole =
     let ends = whole .ends in
-    let up = place-rises s (suc b) 9 low in
+    let up = place-rises s (suc b) 10 low in
     record { rises = place-rises s b (suc b) (omega arith); inside = omega arith; wide = least s b width wide }
 
 -- A field of a fixed width is no longer than that.
@@ -71,7 +71,8 @@ module _ (s : List ℕ) (whole : Framed s) where
 pub record Rooms (s : List ℕ) (p : Places) : Type 0 where
   pub nonce : Room s 8 (p .nonce) (p .timestamp)
   pub timestamp : Room s 5 (p .timestamp) (p .digest)
-  pub addressed : Room s 1 (p .addressed) (p .signature)
+  pub addressed : Room s 1 (p .addressed) (p .register)
+  pub register : Room s 1 (p .register) (p .signature)
   pub prepared : Room s 5 (p .prepared) (p .written)
 
 pub rooms : (s : List ℕ) (p : Places) → Framed s → p ≡ placesIn s → Rooms s p
@@ -82,13 +83,15 @@ rooms s p whole e =
       nonce = room s 2 8 (omega arith) (λ l. omega arith) whole;
       timestamp = room s 3 5 (omega arith) (λ l. omega arith) whole;
       addressed = room s 8 1 (omega arith) (λ l. omega arith) whole;
+      register = room s 9 1 (omega arith) (λ l. omega arith) whole;
       prepared = room s 6 5 (omega arith) (λ l. omega arith) whole;
     })
 
-pub made : (s : List ℕ) (p : Places) (nonce : ℕ) (timestamp : Timestamp) (addressed : ℕ) → Framed s → p ≡ placesIn s
+pub made : (s : List ℕ) (p : Places) (nonce : ℕ) (timestamp : Timestamp) (addressed register : ℕ) → Framed s → p ≡ placesIn s
     → nonce ≡ fromBytes (take 8 (between s (p .nonce) (p .timestamp)))
     → timestamp ≡ ofNumber (fromBytes (take 5 (between s (p .timestamp) (p .digest))))
-    → addressed ≡ fromBytes (take 1 (between s (p .addressed) (p .signature)))
+    → addressed ≡ fromBytes (take 1 (between s (p .addressed) (p .register)))
+    → register ≡ fromBytes (take 1 (between s (p .register) (p .signature)))
     → _≡_ {A = Fields} (record {
       map = p .map;
       kind = getD s 2 0;
@@ -100,11 +103,13 @@ pub made : (s : List ℕ) (p : Places) (nonce : ℕ) (timestamp : Timestamp) (ad
       prepared = record { start = p .prepared; end = p .written };
       written = record { start = p .written; end = p .addressed };
       addressed = record { 0 = addressed };
+      register = record { 0 = register };
       signature = record { start = p .signature; end = length s };
     }) (fieldsIn s)
 unfolding placesIn fieldsIn rules
-made s p nonce timestamp addressed whole e n t a =
+made s p nonce timestamp addressed register whole e n t a r =
     let n′ : nonce ≡ fromBytes (field s 2) = n ∙ rw e (ap fromBytes (fixed-front s 2 8 refl)) in
     let t′ : timestamp ≡ ofNumber (fromBytes (field s 3)) = t ∙ rw e (ap (λ (l : List ℕ). ofNumber (fromBytes l)) (fixed-front s 3 5 refl)) in
     let a′ : addressed ≡ fromBytes (field s 8) = a ∙ rw e (ap fromBytes (fixed-front s 8 1 refl)) in
-    rw (n′, t′, a′, ← kind-at s whole, ← sender-is s whole, e)
+    let r′ : register ≡ fromBytes (field s 9) = r ∙ rw e (ap fromBytes (fixed-front s 9 1 refl)) in
+    rw (n′, t′, a′, r′, ← kind-at s whole, ← sender-is s whole, e)

@@ -29,11 +29,11 @@ map-at (a ∷ []) h = absurd (omega arith)
 map-at (a ∷ b ∷ s) h = refl
 
 -- Test 3 as the code makes it.
-pub good-map : (map : ℕ) → map % 4 ≡ 3 → map < 512 → goodMap map ≡ true
+pub good-map : (map : ℕ) → map % 4 ≡ 3 → map < 1024 → goodMap map ≡ true
 good-map map low high =
     let zeroth : map / 1 % 2 ≡ 1 = omega arith in
     let first : map / 2 % 2 ≡ 1 = omega arith in
-    rw (eq-eqb (map / 1 % 2) 1 zeroth, eq-eqb (map / 2 % 2) 1 first, lt-ltb map 512 high)
+    rw (eq-eqb (map / 1 % 2) 1 zeroth, eq-eqb (map / 2 % 2) 1 first, lt-ltb map 1024 high)
 
 and-none : (a b : Bool) → (a ≡ true → b ≡ true → ⊥) → (a && b) ≡ false
 and-none true true h = absurd (h refl refl)
@@ -47,24 +47,24 @@ lacks-bits map h =
     both : map / 1 % 2 ≡ 1 → map / 2 % 2 ≡ 1 → ⊥
     both a b = h (omega (arith, div-div-eq-div-mul map 2 2))
 
-pub has-more : (map : ℕ) → 512 ≤ map → goodMap map ≡ false
-has-more map h = rw (le-ltb map 512 h) (and-false (eqb (map / 1 % 2) 1 && eqb (map / 2 % 2) 1))
+pub has-more : (map : ℕ) → 1024 ≤ map → goodMap map ≡ false
+has-more map h = rw (le-ltb map 1024 h) (and-false (eqb (map / 1 % 2) 1 && eqb (map / 2 % 2) 1))
 
 module _ {A : Type 0} (s : List ℕ) (next : Outcome A) where
   pub too-short : length s < 2 → framed s next ≡ refused 2
   unfolding framed
   too-short h = guard-refuses 2 _ _ (below 2 longest (length s) h)
 
-  pub too-long : 1579 < length s → framed s next ≡ refused 2
+  pub too-long : 1580 < length s → framed s next ≡ refused 2
   unfolding framed
   too-long h = guard-refuses 2 _ _ (above 2 longest (length s) h)
 
-  module _ (long : 2 ≤ length s) (short : length s ≤ 1579) where
+  module _ (long : 2 ≤ length s) (short : length s ≤ 1580) where
     pub bad-map : goodMap (mapIn s) ≡ false → framed s next ≡ refused 3
     unfolding framed
     bad-map e = guard-passes 2 _ _ (inside 2 longest (length s) long short) ∙ guard-refuses 3 _ _ e
 
-    pub to-end : goodMap (mapIn s) ≡ true → framed s next ≡ guard 4 (eqb (place s 9 + 64) (length s)) next
+    pub to-end : goodMap (mapIn s) ≡ true → framed s next ≡ guard 4 (eqb (place s 10 + 64) (length s)) next
     unfolding framed
     to-end e = guard-passes 2 _ _ (inside 2 longest (length s) long short) ∙ guard-passes 3 _ _ e
 
@@ -79,7 +79,7 @@ guards-refused false t3 t4 x next n e = let same : _≡_ {A = ℕ} 2 n = cc in r
 
 pub refuses : {A B : Type 0} (s : List ℕ) (x : A) (next : Outcome B) (n : ℕ) → framed s (accepted x) ≡ refused n → framed s next ≡ refused n
 unfolding framed
-refuses s x next n e = guards-refused (within 2 longest (length s)) (goodMap (mapIn s)) (eqb (place s 9 + 64) (length s)) x next n e
+refuses s x next n e = guards-refused (within 2 longest (length s)) (goodMap (mapIn s)) (eqb (place s 10 + 64) (length s)) x next n e
 
 -- What the framing says of the bytes, by its answer.
 pub framing-whole : (s : List ℕ) (r : Framing) (p : Places) → frameOutcome r ≡ framed s (accepted (placesIn s)) → r ≡ Whole p → framed s (accepted (placesIn s)) ≡ accepted p

@@ -26,26 +26,26 @@ pub record Framed (bytes : List ℕ) : Type 0 where
   pub long : 2 ≤ length bytes
   pub short : length bytes ≤ longest
   pub good : goodMap (mapIn bytes) ≡ true
-  pub ends : place bytes 9 + 64 ≡ length bytes
+  pub ends : place bytes 10 + 64 ≡ length bytes
 
 module _ {A : Type 0} (bytes : List ℕ) (next : Outcome A) where
   pub framed-passes : Framed bytes → framed bytes next ≡ next
   unfolding framed
   framed-passes f =
-      let four = guard 4 (eqb (place bytes 9 + 64) (length bytes)) next in
+      let four = guard 4 (eqb (place bytes 10 + 64) (length bytes)) next in
       guard-passes 2 (within 2 longest (length bytes)) (guard 3 (goodMap (mapIn bytes)) four) (inside 2 longest (length bytes) (f .long) (f .short))
       ∙ guard-passes 3 (goodMap (mapIn bytes)) four (f .good)
-      ∙ guard-passes 4 (eqb (place bytes 9 + 64) (length bytes)) next (eq-eqb (place bytes 9 + 64) (length bytes) (f .ends))
+      ∙ guard-passes 4 (eqb (place bytes 10 + 64) (length bytes)) next (eq-eqb (place bytes 10 + 64) (length bytes) (f .ends))
 
   pub framed-accepted : (a : A) → framed bytes next ≡ accepted a → Framed bytes × (next ≡ accepted a)
   unfolding framed
   framed-accepted a e =
-      let four = guard 4 (eqb (place bytes 9 + 64) (length bytes)) next in
+      let four = guard 4 (eqb (place bytes 10 + 64) (length bytes)) next in
       let two = guard-accepted 2 (within 2 longest (length bytes)) (guard 3 (goodMap (mapIn bytes)) four) a e in
       let three = guard-accepted 3 (goodMap (mapIn bytes)) four a (two .1) in
-      let last = guard-accepted 4 (eqb (place bytes 9 + 64) (length bytes)) next a (three .1) in
+      let last = guard-accepted 4 (eqb (place bytes 10 + 64) (length bytes)) next a (three .1) in
       let range = bounds 2 longest (length bytes) (two .0) in
-      (record { long = range .0; short = range .1; good = three .0; ends = eqb-true (place bytes 9 + 64) (length bytes) (last .0) }, last .1)
+      (record { long = range .0; short = range .1; good = three .0; ends = eqb-true (place bytes 10 + 64) (length bytes) (last .0) }, last .1)
 
 -- Places rise.
 pub place-next : (bytes : List ℕ) (b : ℕ) → place bytes b ≤ place bytes (suc b)
@@ -82,12 +82,12 @@ extent-take (fixed width) xs h = refl
 extent-take (repeated head unit) xs h = rw (getD-take (head + unit * getD xs (head - 1) 0) xs (head - 1) 0 (omega arith))
 
 module _ (bytes : List ℕ) (f : Framed bytes) where
-  -- Bits 0 and 1 are set, and none above 8.
-  good-parts : (bit (mapIn bytes) 0 && bit (mapIn bytes) 1 ≡ true) × (ltb (mapIn bytes) 512 ≡ true)
-  good-parts = and-true-both (bit (mapIn bytes) 0 && bit (mapIn bytes) 1) (ltb (mapIn bytes) 512) (f .good)
+  -- Bits 0 and 1 are set, and none above 9.
+  good-parts : (bit (mapIn bytes) 0 && bit (mapIn bytes) 1 ≡ true) × (ltb (mapIn bytes) 1024 ≡ true)
+  good-parts = and-true-both (bit (mapIn bytes) 0 && bit (mapIn bytes) 1) (ltb (mapIn bytes) 1024) (f .good)
 
-  pub map-small : mapIn bytes < 512
-  map-small = ltb-true (mapIn bytes) 512 (good-parts .1)
+  pub map-small : mapIn bytes < 1024
+  map-small = ltb-true (mapIn bytes) 1024 (good-parts .1)
 
   pub first-bits : (bit (mapIn bytes) 0 ≡ true) × (bit (mapIn bytes) 1 ≡ true)
   first-bits = and-true-both (bit (mapIn bytes) 0) (bit (mapIn bytes) 1) (good-parts .0)
@@ -101,17 +101,17 @@ module _ (bytes : List ℕ) (f : Framed bytes) where
   unfolding rules
   place-two = place-present bytes 1 (first-bits .1) ∙ omega (arith, place-one)
 
-  pub place-within : (b : ℕ) → b ≤ 9 → place bytes b + 64 ≤ length bytes
-  place-within b h = let end = f .ends in omega (arith, place-rises bytes b 9 h)
+  pub place-within : (b : ℕ) → b ≤ 10 → place bytes b + 64 ≤ length bytes
+  place-within b h = let end = f .ends in omega (arith, place-rises bytes b 10 h)
 
-  pub length-field : (b : ℕ) → b ≤ 8 → length (field bytes b) ≡ place bytes (suc b) - place bytes b
+  pub length-field : (b : ℕ) → b ≤ 9 → length (field bytes b) ≡ place bytes (suc b) - place bytes b
   unfolding field
   length-field b h =
       let next = place-within (suc b) (omega arith) in
       length-take-le (place bytes (suc b) - place bytes b) (drop (place bytes b) bytes) (simp length-drop (omega arith))
 
   -- A field that is there has the length that it says.
-  pub field-whole : (b : ℕ) → b ≤ 8 → bit (mapIn bytes) b ≡ true → Headed (getD rules b (fixed 0)) → extent (getD rules b (fixed 0)) (field bytes b) ≡ length (field bytes b)
+  pub field-whole : (b : ℕ) → b ≤ 9 → bit (mapIn bytes) b ≡ true → Headed (getD rules b (fixed 0)) → extent (getD rules b (fixed 0)) (field bytes b) ≡ length (field bytes b)
   unfolding field
   field-whole b h set headed =
       let rule = getD rules b (fixed 0) in

@@ -13,7 +13,7 @@ use lib.Seq.{take-all}
 use Rattle.base.specs.BigEndian.{fromBytes}
 use Rattle.base.specs.BitMap.{bit}
 use Rattle.base.specs.Outcome.{accepted}
-use Rattle.base.specs.Party.{quorumSize, replicaCount}
+use Rattle.base.specs.Party.{quorumSize, replicaCount, isRegister}
 use Rattle.base.specs.Rising.{rising}
 use Rattle.base.specs.Timestamp.{number, ofNumber}
 use Rattle.base.specs.declared.replica_set.ReplicaSet.{ReplicaSet}
@@ -21,7 +21,7 @@ use Rattle.base.proofs.Booleans.{and-true-both}
 use Rattle.base.proofs.Timestamps.{number-ofNumber}
 use Rattle.wire.specs.Acceptance.{senderOf, inItsRange, maySend, admitted, acceptance}
 use Rattle.wire.specs.Checks.{ifThere, shaped}
-use Rattle.wire.specs.Decode.{decode, reading, fieldsIn}
+use Rattle.wire.specs.Decode.{messageIn, forRegister, registerIn, reading, fieldsIn}
 use Rattle.wire.specs.Layout.{rules, mapIn, place, field, signature}
 use Rattle.wire.specs.Message.{Message, kindOf, READ-STAMP, PREPARE, WRITE, READ, STAMP, PREPARED, WRITTEN, CARD}
 use Rattle.wire.specs.Parts.{partAt, cardAt, preparedPart, writtenPart, preparedTimestamp, preparedSigners, writtenTimestamp, timestampPart, digestPart, countPart, entriesPart, Whole, WholeIfThere}
@@ -32,7 +32,7 @@ use Rattle.wire.specs.declared.message.Party.the-variants.{Replica, Clie
 use Rattle.wire.proofs.Accepting.{seen}
 use Rattle.wire.proofs.Admitted.{admitted-passed, acceptance-accepted}
 use Rattle.wire.proofs.Framed.{field-absent, place-present}
-use Rattle.wire.proofs.Parsed.{Parsed, parsed, preparedAt, writtenAt, prepared-whole, written-whole, taken-kind, replica-kind, client-kind, reads-1, reads-2, reads-3, reads-4, reads-5, reads-6, reads-7, reads-8}
+use Rattle.wire.proofs.Parsed.{Parsed, parsed, preparedAt, writtenAt, prepared-whole, written-whole, taken-kind, decode-splits, replica-kind, client-kind, reads-1, reads-2, reads-3, reads-4, reads-5, reads-6, reads-7, reads-8}
 use Rattle.wire.proofs.Passed.{Passed}
 use Rattle.wire.proofs.ProofBytes.{length-read, entries-read}
 use Rattle.wire.proofs.Rows.{Taken, prepare, write, prepared}
@@ -135,10 +135,11 @@ module _ (party : Party) (bytes : List ℕ) (fields : Fields) (found : Parsed pa
 
 -- The message that 2 to 11 let through.
 pub record Handed (party : Party) (f : ℕ) (bytes verdicts : List ℕ) (message : Message) : Type 0 where
-  pub decodes : decode party bytes ≡ accepted message
-  pub admits : admitted party f bytes verdicts ≡ accepted message
+  pub decodes : messageIn party bytes ≡ accepted message
+  pub admits : admitted party f bytes verdicts ≡ accepted (forRegister (registerIn bytes) message)
   pub ranged : inItsRange f (senderOf message) ≡ true
   pub may-send : maySend (kindOf message) (senderOf message) ≡ true
+  pub registered : isRegister (registerIn bytes) ≡ true
   pub passed : Passed f message verdicts
 
 module _ (party : Party) (f : ℕ) (bytes verdicts : List ℕ) (fields : Fields) {signers : ReplicaSet} (e : acceptance party f bytes verdicts ≡ accepted (fields, signers)) where
@@ -148,18 +149,26 @@ module _ (party : Party) (f : ℕ) (bytes verdicts : List ℕ) (fields : Fields)
   found : Parsed party bytes fields
   found = parsed party bytes fields reads
 
-  handed : (m : Message) → decode party bytes ≡ accepted m → Handed party f bytes verdicts m
+  handed : (m : Message) → messageIn party bytes ≡ accepted m → Handed party f bytes verdicts m
   handed m d =
       let a = acceptance-accepted party f bytes verdicts fields signers e in
-      let h = admitted-passed party f bytes verdicts (a .0) (a .1) in
-      let same : a .0 ≡ m = cc (h .decodes) in
-      subst (λ (m : Message). Handed party f bytes verdicts m) same (record { decodes = h .decodes; admits = a .1; ranged = h .ranged; may-send = h .may-send; passed = h .passed })
+      let h = admitted-passed party f bytes verdicts (registerIn bytes) (a .0) (a .1) in
+      let decodes = decode-splits party bytes (registerIn bytes) (a .0) (h .decodes) .1 in
+      let same : a .0 ≡ m = cc in
+      subst (λ (m : Message). Handed party f bytes verdicts m) same
+      (record { decodes = decodes; admits = a .1; ranged = h .ranged; may-send = h .may-send; registered = h .registered; passed = h .passed })
+
+  -- The register that was found is the message's.
+  pub register-is : fields .register ≡ registerIn bytes
+  unfolding fieldsIn
+  register-is = rw (found .same)
 
   -- The signers that were found are those of the prepared proof; nobody where there is none.
   pub signers-are : signers ≡ preparedSigners (preparedPart (partAt bytes (fields .prepared)))
   signers-are =
       let a = acceptance-accepted party f bytes verdicts fields signers e in
-      let s = seen party bytes (a .0) (admitted-passed party f bytes verdicts (a .0) (a .1) .decodes) in
+      let h = admitted-passed party f bytes verdicts (registerIn bytes) (a .0) (a .1) in
+      let s = seen party bytes (a .0) (decode-splits party bytes (registerIn bytes) (a .0) (h .decodes) .1) in
       a .3 ∙ ap preparedSigners (s .prepared ∙ sym (prepared-shown party bytes fields found))
 
   digest-is : partAt bytes (fields .digest) ≡ field bytes 4
@@ -173,7 +182,7 @@ module _ (party : Party) (f : ℕ) (bytes verdicts : List ℕ) (fields : Fields)
   -- What follows the fields is the signature.
   pub signature-is : partAt bytes (fields .signature) ≡ signature bytes
   unfolding fieldsIn
-  signature-is = rw (found .same) (take-all (length bytes - place bytes 9) (drop (place bytes 9) bytes) (rw length-drop (omega arith)))
+  signature-is = rw (found .same) (take-all (length bytes - place bytes 10) (drop (place bytes 10) bytes) (rw length-drop (omega arith)))
 
   pub signature-length : length (partAt bytes (fields .signature)) ≡ 64
   signature-length = let ends = found .framed .ends in rw (signature-is, length-drop) (omega arith)

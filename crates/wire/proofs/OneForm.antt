@@ -13,13 +13,14 @@ use lib.Seq.{drop-drop, length-take-le}
 use Rattle.base.specs.BigEndian.{fromBytes, toBytes, Bytes}
 use Rattle.base.specs.BitMap.{bit, mapOf}
 use Rattle.base.specs.Outcome.{accepted}
-use Rattle.wire.specs.Decode.{decode, kindIn, cardIn}
+use Rattle.base.specs.declared.party.RegisterId.{RegisterId}
+use Rattle.wire.specs.Decode.{messageIn, forRegister, decode, kindIn, cardIn, registerIn}
 use Rattle.wire.specs.Layout.{Rule, fixed, extent, rules, mapIn, place, field, signature}
 use Rattle.wire.specs.Message.{Message, preparedField, writtenField, fields, joined, body, encode, IsDigest, IsSignature, PreparedFits, WrittenFits, IfThere, CardFits, Fits, Legal, size}
 use Rattle.wire.specs.Proof.{preparedFrom, writtenFrom}
 use Rattle.wire.specs.declared.message.Party.{Party}
 use Rattle.wire.proofs.Framed.{Framed, Headed, place-next, field-absent, field-whole, bytes-field, map-small, first-bits}
-use Rattle.wire.proofs.Parsed.{preparedAt, writtenAt, prepared-whole, written-whole, messageOf, Tested, tested-accepted, decode-tested}
+use Rattle.wire.proofs.Parsed.{preparedAt, writtenAt, prepared-whole, written-whole, messageOf, Tested, tested-accepted, message-tested, decode-splits}
 use Rattle.base.proofs.BigEndian.{bytes-take, bytes-drop}
 use Rattle.wire.proofs.Widths.{rewritten, below}
 use Rattle.wire.proofs.ProofBytes.{prepared-back, prepared-fits, written-back, written-fits}
@@ -35,14 +36,14 @@ abbrev parts : List ℕ → ℕ → ℕ → List (Option (List ℕ))
 parts bytes b zero = []
 parts bytes b (suc k) = present (bit (mapIn bytes) b) (field bytes b) ∷ parts bytes (suc b) k
 
--- All nine by a list of bits.
+-- All ten by a list of bits.
 abbrev cells : List Bool → List (List ℕ) → List (Option (List ℕ))
 cells [] xs = []
 cells (t ∷ ts) [] = []
 cells (t ∷ ts) (x ∷ xs) = present t x ∷ cells ts xs
 
 abbrev contents : List ℕ → List (List ℕ)
-contents bytes = field bytes 0 ∷ field bytes 1 ∷ field bytes 2 ∷ field bytes 3 ∷ field bytes 4 ∷ field bytes 5 ∷ field bytes 6 ∷ field bytes 7 ∷ field bytes 8 ∷ []
+contents bytes = field bytes 0 ∷ field bytes 1 ∷ field bytes 2 ∷ field bytes 3 ∷ field bytes 4 ∷ field bytes 5 ∷ field bytes 6 ∷ field bytes 7 ∷ field bytes 8 ∷ field bytes 9 ∷ []
 
 -- Their map is the map read.
 map-present : (d : ℕ) (x : List ℕ) (fs : List (Option (List ℕ))) → d < 2 → mapOf (present (eqb d 1) x ∷ fs) ≡ 2 * mapOf fs + d
@@ -85,18 +86,18 @@ joined-parts bytes b (suc k) f =
 
 -- Bytes that passed 2 to 4 are their map, their fields and their signature.
 module _ (bytes : List ℕ) (f : Framed bytes) (small : Bytes bytes) where
-  whole : toBytes 2 (mapOf (parts bytes 0 9)) ++ (joined (parts bytes 0 9) ++ signature bytes) ≡ bytes
+  whole : toBytes 2 (mapOf (parts bytes 0 10)) ++ (joined (parts bytes 0 10) ++ signature bytes) ≡ bytes
   unfolding place
   whole =
-      let map : mapOf (parts bytes 0 9) ≡ mapIn bytes = map-parts bytes 0 9 ∙ omega (arith, map-small bytes f) in
+      let map : mapOf (parts bytes 0 10) ≡ mapIn bytes = map-parts bytes 0 10 ∙ omega (arith, map-small bytes f) in
       let long = f .long in
-      ap (λ (n : ℕ). toBytes 2 n ++ (joined (parts bytes 0 9) ++ signature bytes)) map
-      ∙ ap (λ (l : List ℕ). toBytes 2 (mapIn bytes) ++ l) (joined-parts bytes 0 9 f)
+      ap (λ (n : ℕ). toBytes 2 n ++ (joined (parts bytes 0 10) ++ signature bytes)) map
+      ∙ ap (λ (l : List ℕ). toBytes 2 (mapIn bytes) ++ l) (joined-parts bytes 0 10 f)
       ∙ ap (λ (l : List ℕ). l ++ drop 2 bytes) (rewritten 2 (take 2 bytes) (length-take-le 2 bytes long) (bytes-take 2 bytes small))
       ∙ take-append-drop 2 bytes
 
   -- A field of fixed width: its length; its number written again; its number's bound.
-  module _ (b width : ℕ) (h : b ≤ 8) (rule : getD rules b (fixed 0) ≡ fixed width) (set : bit (mapIn bytes) b ≡ true) where
+  module _ (b width : ℕ) (h : b ≤ 9) (rule : getD rules b (fixed 0) ≡ fixed width) (set : bit (mapIn bytes) b ≡ true) where
     width-of : length (field bytes b) ≡ width
     width-of = sym (subst (λ (r : Rule). Headed r → extent r (field bytes b) ≡ length (field bytes b)) rule (field-whole bytes f b h set) tt)
 
@@ -138,6 +139,14 @@ module _ (bytes : List ℕ) (f : Framed bytes) (small : Bytes bytes) where
   addressed-fits : bit (mapIn bytes) 8 ≡ true → fromBytes (field bytes 8) < 256 ^ 1
   unfolding rules
   addressed-fits set = number-fits 8 1 (omega arith) refl set
+
+  register-back : bit (mapIn bytes) 9 ≡ true → toBytes 1 (fromBytes (field bytes 9)) ≡ field bytes 9
+  unfolding rules
+  register-back set = number-back 9 1 (omega arith) refl set
+
+  register-fits : bit (mapIn bytes) 9 ≡ true → fromBytes (field bytes 9) < 256 ^ 1
+  unfolding rules
+  register-fits set = number-fits 9 1 (omega arith) refl set
 
   digest-fits : bit (mapIn bytes) 4 ≡ true → IsDigest (field bytes 4)
   unfolding rules
@@ -209,56 +218,73 @@ module _ (bytes : List ℕ) (f : Framed bytes) (small : Bytes bytes) where
   unfolding rules
   kind-back kind k = rw (← k) (number-back 0 1 (omega arith) refl (first-bits bytes f .0))
 
-  by-bits : (bs : List Bool) → bits (mapIn bytes) ≡ bs → cells bs (contents bytes) ≡ parts bytes 0 9
+  by-bits : (bs : List Bool) → bits (mapIn bytes) ≡ bs → cells bs (contents bytes) ≡ parts bytes 0 10
   by-bits bs e = ap (λ (bs : List Bool). cells bs (contents bytes)) (sym e)
 
-  message-fields : (kind : ℕ) (party : Party) → kindIn bytes ≡ kind → (t : Taken (mapIn bytes) kind party) → fields (messageOf t bytes) ≡ parts bytes 0 9
+  message-fields : (kind : ℕ) (party : Party) → kindIn bytes ≡ kind → (t : Taken (mapIn bytes) kind party) → fields (registerIn bytes) (messageOf t bytes) ≡ parts bytes 0 10
   unfolding fields
   message-fields kind party k (read-stamp e) =
-      rw (kind-back kind k, sender-back, nonce-back (cc)) (by-bits _ e)
+      rw (kind-back kind k, sender-back, nonce-back (cc), register-back (cc)) (by-bits _ e)
   message-fields kind party k (prepare e) =
-      rw (kind-back kind k, sender-back, timestamp-back (cc), prepared-part, written-part) (by-bits _ e)
+      rw (kind-back kind k, sender-back, timestamp-back (cc), prepared-part, written-part, register-back (cc)) (by-bits _ e)
   message-fields kind party k (write e) =
-      rw (kind-back kind k, sender-back, card-back (cc), prepared-back (field bytes 6) (prepared-whole bytes f (cc)) (bytes-field bytes 6 small)) (by-bits _ e)
+      rw (kind-back kind k, sender-back, card-back (cc), prepared-back (field bytes 6) (prepared-whole bytes f (cc)) (bytes-field bytes 6 small), register-back (cc)) (by-bits _ e)
   message-fields kind party k (read e) =
-      rw (kind-back kind k, sender-back, nonce-back (cc)) (by-bits _ e)
+      rw (kind-back kind k, sender-back, nonce-back (cc), register-back (cc)) (by-bits _ e)
   message-fields kind party k (stamp e) =
-      rw (kind-back kind k, sender-back, nonce-back (cc), prepared-part, addressed-back (cc)) (by-bits _ e)
+      rw (kind-back kind k, sender-back, nonce-back (cc), prepared-part, addressed-back (cc), register-back (cc)) (by-bits _ e)
   message-fields kind party k (prepared e) =
-      rw (kind-back kind k, sender-back, timestamp-back (cc)) (by-bits _ e)
+      rw (kind-back kind k, sender-back, timestamp-back (cc), register-back (cc)) (by-bits _ e)
   message-fields kind party k (written e) =
-      rw (kind-back kind k, sender-back, timestamp-back (cc)) (by-bits _ e)
+      rw (kind-back kind k, sender-back, timestamp-back (cc), register-back (cc)) (by-bits _ e)
   message-fields kind party k (card e) =
-      rw (kind-back kind k, sender-back, nonce-back (cc), card-back (cc), prepared-part, addressed-back (cc)) (by-bits _ e)
+      rw (kind-back kind k, sender-back, nonce-back (cc), card-back (cc), prepared-part, addressed-back (cc), register-back (cc)) (by-bits _ e)
 
-module _ (party : Party) (bytes : List ℕ) (m : Message) (e : decode party bytes ≡ accepted m) where
+-- Every kind has bit 9.
+has-register : {map kind : ℕ} {party : Party} → Taken map kind party → bit map 9 ≡ true
+has-register (read-stamp e) = cc
+has-register (prepare e) = cc
+has-register (write e) = cc
+has-register (read e) = cc
+has-register (stamp e) = cc
+has-register (prepared e) = cc
+has-register (written e) = cc
+has-register (card e) = cc
+
+module _ (party : Party) (bytes : List ℕ) (x : RegisterId) (m : Message) (e : decode party bytes ≡ accepted (forRegister x m)) where
   decode-passed : Tested party bytes
-  unfolding decode
-  decode-passed = tested-accepted party bytes (λ row. row .message bytes) m e
+  unfolding messageIn
+  decode-passed = tested-accepted party bytes (λ row. row .message bytes) m (decode-splits party bytes x m e .1)
 
   found : messageOf (decode-passed .passed .taken) bytes ≡ m
-  found = cc (decode-tested party bytes decode-passed)
+  found = cc (message-tested party bytes decode-passed, decode-splits party bytes x m e .1)
+
+  pub found-register : registerIn bytes ≡ x
+  found-register = decode-splits party bytes x m e .0
 
   pub signature-size : length (signature bytes) ≡ 64
   signature-size = let end = decode-passed .framed .ends in rw length-drop (omega arith)
 
   module _ (small : Bytes bytes) where
     pub decoded-signature : IsSignature (signature bytes)
-    decoded-signature = (signature-size, bytes-drop (place bytes 9) bytes small)
+    decoded-signature = (signature-size, bytes-drop (place bytes 10) bytes small)
 
     pub decoded-fits : Fits m
     decoded-fits = rw (← found) (message-fits bytes (decode-passed .framed) small (kindIn bytes) party (decode-passed .passed .taken))
 
+    pub decoded-register : x .0 < 256
+    decoded-register = rw (← found-register) (register-fits bytes (decode-passed .framed) small (has-register (decode-passed .passed .taken)))
+
     -- The bytes are those of the message that they are read as.
-    pub encode-decode : encode m (signature bytes) ≡ bytes
+    pub encode-decode : encode x m (signature bytes) ≡ bytes
     unfolding encode body
     encode-decode =
-        let same : fields m ≡ parts bytes 0 9 = rw (← found) (message-fields bytes (decode-passed .framed) small (kindIn bytes) party refl (decode-passed .passed .taken)) in
-        append-assoc (toBytes 2 (mapOf (fields m))) (joined (fields m)) (signature bytes)
+        let same : fields x m ≡ parts bytes 0 10 = ap (λ (y : RegisterId). fields y m) (sym found-register) ∙ ap (fields (registerIn bytes)) (sym found) ∙ message-fields bytes (decode-passed .framed) small (kindIn bytes) party refl (decode-passed .passed .taken) in
+        append-assoc (toBytes 2 (mapOf (fields x m))) (joined (fields x m)) (signature bytes)
         ∙ ap (λ (fs : List (Option (List ℕ))). toBytes 2 (mapOf fs) ++ (joined fs ++ signature bytes)) same ∙ whole bytes (decode-passed .framed) small
 
-    pub decoded-legal : Legal m
+    pub decoded-legal : Legal x m
     decoded-legal =
-        let size = encode-size m (signature bytes) decoded-fits decoded-signature in
+        let size = encode-size x m (signature bytes) decoded-fits decoded-signature in
         let short = decode-passed .framed .short in
-        record { fits = decoded-fits; short = omega (arith, ap length encode-decode) }
+        record { register-fits = decoded-register; fits = decoded-fits; short = omega (arith, ap length encode-decode) }

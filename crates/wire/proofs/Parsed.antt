@@ -9,12 +9,13 @@ use native.Mathlib.Omega.{arith}
 use lib.Dec.{eqb}
 use lib.ListN.{length, take}
 use Rattle.base.specs.BitMap.{bit}
-use Rattle.base.specs.Outcome.{Outcome, accepted, refused, guard}
+use Rattle.base.specs.Outcome.{Outcome, accepted, refused, guard, _>>=_}
 use Rattle.base.specs.Range.{within}
 use Rattle.base.specs.Timestamp.{number}
+use Rattle.base.specs.declared.party.RegisterId.{RegisterId}
 use Rattle.base.proofs.Timestamps.{number-ofNumber}
 use Rattle.base.proofs.Outcome.{guard-alike}
-use Rattle.wire.specs.Decode.{Kind, kinds, suits, ofKind, goodMap, framed, tested, decode, reading, fieldsIn, kindIn, clientIn, replicaIn, nonceIn, timestampIn, digestIn, cardIn, addressedIn, optional, preparedIn, writtenIn}
+use Rattle.wire.specs.Decode.{Kind, kinds, suits, ofKind, goodMap, framed, tested, messageIn, forRegister, decode, registerIn, reading, fieldsIn, kindIn, clientIn, replicaIn, nonceIn, timestampIn, digestIn, cardIn, addressedIn, optional, preparedIn, writtenIn}
 use Rattle.wire.specs.Layout.{extent, preparedRule, writtenRule, rules, mapIn, place, field}
 use Rattle.wire.specs.Message.{Message, READ-STAMP, PREPARE, WRITE, READ, STAMP, PREPARED, WRITTEN, CARD, longest}
 use Rattle.wire.specs.Proof.{PreparedProof, WrittenProof, preparedFrom, writtenFrom, readPrepared, readWritten}
@@ -95,10 +96,10 @@ module _ (party : Party) (bytes : List ℕ) (t : Tested party bytes) where
   tested-passes : (A : Type 0) (next : Kind → Outcome A) → tested party bytes next ≡ next (row (kindIn bytes))
   tested-passes A next = framed-passes bytes (ofKind party (mapIn bytes) (kindIn bytes) kinds next) (t .framed) ∙ t .passed .passes A next
 
-  -- Then both reading and decoding accept.
-  pub decode-tested : decode party bytes ≡ accepted (messageOf (t .passed .taken) bytes)
-  unfolding decode
-  decode-tested = tested-passes Message (λ row. row .message bytes) ∙ row-message bytes (kindIn bytes) party (t .framed) (t .passed .taken)
+  -- Then the bytes are a message, and reading accepts.
+  pub message-tested : messageIn party bytes ≡ accepted (messageOf (t .passed .taken) bytes)
+  unfolding messageIn
+  message-tested = tested-passes Message (λ row. row .message bytes) ∙ row-message bytes (kindIn bytes) party (t .framed) (t .passed .taken)
 
   pub reading-tested : reading party bytes ≡ accepted (fieldsIn bytes)
   unfolding reading
@@ -112,9 +113,9 @@ pub record Parsed (party : Party) (bytes : List ℕ) (fs : Fields) : Type 0 wher
   pub second : place bytes 1 ≡ 3
   pub third : place bytes 2 ≡ 4
   pub rises : (a b : ℕ) → a ≤ b → place bytes a ≤ place bytes b
-  pub inside : (b : ℕ) → b ≤ 9 → place bytes b + 64 ≤ length bytes
+  pub inside : (b : ℕ) → b ≤ 10 → place bytes b + 64 ≤ length bytes
   pub taken : Taken (mapIn bytes) (fs .kind) party
-  pub decodes : decode party bytes ≡ accepted (messageOf taken bytes)
+  pub decodes : messageIn party bytes ≡ accepted (messageOf taken bytes)
 
 module _ (party : Party) (bytes : List ℕ) (fs : Fields) (e : reading party bytes ≡ accepted fs) where
   reading-passed : Tested party bytes
@@ -135,7 +136,7 @@ module _ (party : Party) (bytes : List ℕ) (fs : Fields) (e : reading party byt
         rises = place-rises bytes;
         inside = place-within bytes (t .framed);
         taken = t .passed .taken;
-        decodes = decode-tested party bytes t;
+        decodes = message-tested party bytes t;
       }
       in
       subst (λ (fs : Fields). Parsed party bytes fs) same first
@@ -145,8 +146,8 @@ module _ (party : Party) (bytes : List ℕ) (fs : Fields) (e : reading party byt
   pub taken-kind : Taken (mapIn bytes) k party
   taken-kind = subst (λ (n : ℕ). Taken (mapIn bytes) n party) same (parsed party bytes fs e .taken)
 
-  kind-row : decode party bytes ≡ row k .message bytes
-  unfolding decode fieldsIn
+  kind-row : messageIn party bytes ≡ row k .message bytes
+  unfolding messageIn fieldsIn
   kind-row =
       let p = parsed party bytes fs e in
       let kind : kindIn bytes ≡ k = ap (λ (f : Fields). f .kind) (sym (p .same)) ∙ same in
@@ -156,35 +157,35 @@ write-set : {map : ℕ} → Taken map 3 Replica → bit map 6 ≡ true
 write-set (write e) = cc
 
 -- The message, kind by kind.
-pub reads-1 : (bytes : List ℕ) (fs : Fields) → reading Replica bytes ≡ accepted fs → fs .kind ≡ 1 → decode Replica bytes ≡ accepted (READ-STAMP (record { 0 = fs .sender }) (fs .nonce))
+pub reads-1 : (bytes : List ℕ) (fs : Fields) → reading Replica bytes ≡ accepted fs → fs .kind ≡ 1 → messageIn Replica bytes ≡ accepted (READ-STAMP (record { 0 = fs .sender }) (fs .nonce))
 unfolding row kinds fieldsIn
 reads-1 bytes fs e k = let p = parsed Replica bytes fs e in rw (kind-row Replica bytes fs e 1 k, p .same)
 
-pub reads-2 : (bytes : List ℕ) (fs : Fields) → reading Replica bytes ≡ accepted fs → fs .kind ≡ 2 → decode Replica bytes ≡ accepted (PREPARE (record { 0 = fs .sender }) (number (fs .timestamp)) (digestIn bytes) (preparedAt bytes) (writtenAt bytes))
+pub reads-2 : (bytes : List ℕ) (fs : Fields) → reading Replica bytes ≡ accepted fs → fs .kind ≡ 2 → messageIn Replica bytes ≡ accepted (PREPARE (record { 0 = fs .sender }) (number (fs .timestamp)) (digestIn bytes) (preparedAt bytes) (writtenAt bytes))
 unfolding row kinds fieldsIn
 reads-2 bytes fs e k = let p = parsed Replica bytes fs e in rw (kind-row Replica bytes fs e 2 k, p .same, prepared-in bytes p.framed, written-in bytes p.framed, number-ofNumber (timestampIn bytes))
 
-pub reads-3 : (bytes : List ℕ) (fs : Fields) → reading Replica bytes ≡ accepted fs → fs .kind ≡ 3 → decode Replica bytes ≡ accepted (WRITE (record { 0 = fs .sender }) (cardIn bytes) (preparedFrom (field bytes 6)))
+pub reads-3 : (bytes : List ℕ) (fs : Fields) → reading Replica bytes ≡ accepted fs → fs .kind ≡ 3 → messageIn Replica bytes ≡ accepted (WRITE (record { 0 = fs .sender }) (cardIn bytes) (preparedFrom (field bytes 6)))
 unfolding row kinds fieldsIn
 reads-3 bytes fs e k = let p = parsed Replica bytes fs e in rw (kind-row Replica bytes fs e 3 k, p .same, prepared-reads bytes p.framed (write-set (taken-kind Replica bytes fs e 3 k)))
 
-pub reads-4 : (bytes : List ℕ) (fs : Fields) → reading Replica bytes ≡ accepted fs → fs .kind ≡ 4 → decode Replica bytes ≡ accepted (READ (record { 0 = fs .sender }) (fs .nonce))
+pub reads-4 : (bytes : List ℕ) (fs : Fields) → reading Replica bytes ≡ accepted fs → fs .kind ≡ 4 → messageIn Replica bytes ≡ accepted (READ (record { 0 = fs .sender }) (fs .nonce))
 unfolding row kinds fieldsIn
 reads-4 bytes fs e k = let p = parsed Replica bytes fs e in rw (kind-row Replica bytes fs e 4 k, p .same)
 
-pub reads-5 : (bytes : List ℕ) (fs : Fields) → reading Client bytes ≡ accepted fs → fs .kind ≡ 5 → decode Client bytes ≡ accepted (STAMP (record { 0 = fs .sender }) (fs .nonce) (preparedAt bytes) (fs .addressed))
+pub reads-5 : (bytes : List ℕ) (fs : Fields) → reading Client bytes ≡ accepted fs → fs .kind ≡ 5 → messageIn Client bytes ≡ accepted (STAMP (record { 0 = fs .sender }) (fs .nonce) (preparedAt bytes) (fs .addressed))
 unfolding row kinds fieldsIn
 reads-5 bytes fs e k = let p = parsed Client bytes fs e in rw (kind-row Client bytes fs e 5 k, p .same, prepared-in bytes p.framed)
 
-pub reads-6 : (bytes : List ℕ) (fs : Fields) → reading Client bytes ≡ accepted fs → fs .kind ≡ 6 → decode Client bytes ≡ accepted (PREPARED (record { 0 = fs .sender }) (number (fs .timestamp)) (digestIn bytes))
+pub reads-6 : (bytes : List ℕ) (fs : Fields) → reading Client bytes ≡ accepted fs → fs .kind ≡ 6 → messageIn Client bytes ≡ accepted (PREPARED (record { 0 = fs .sender }) (number (fs .timestamp)) (digestIn bytes))
 unfolding row kinds fieldsIn
 reads-6 bytes fs e k = let p = parsed Client bytes fs e in rw (kind-row Client bytes fs e 6 k, p .same, number-ofNumber (timestampIn bytes))
 
-pub reads-7 : (bytes : List ℕ) (fs : Fields) → reading Client bytes ≡ accepted fs → fs .kind ≡ 7 → decode Client bytes ≡ accepted (WRITTEN (record { 0 = fs .sender }) (number (fs .timestamp)))
+pub reads-7 : (bytes : List ℕ) (fs : Fields) → reading Client bytes ≡ accepted fs → fs .kind ≡ 7 → messageIn Client bytes ≡ accepted (WRITTEN (record { 0 = fs .sender }) (number (fs .timestamp)))
 unfolding row kinds fieldsIn
 reads-7 bytes fs e k = let p = parsed Client bytes fs e in rw (kind-row Client bytes fs e 7 k, p .same, number-ofNumber (timestampIn bytes))
 
-pub reads-8 : (bytes : List ℕ) (fs : Fields) → reading Client bytes ≡ accepted fs → fs .kind ≡ 8 → decode Client bytes ≡ accepted (CARD (record { 0 = fs .sender }) (fs .nonce) (cardIn bytes) (preparedAt bytes) (fs .addressed))
+pub reads-8 : (bytes : List ℕ) (fs : Fields) → reading Client bytes ≡ accepted fs → fs .kind ≡ 8 → messageIn Client bytes ≡ accepted (CARD (record { 0 = fs .sender }) (fs .nonce) (cardIn bytes) (preparedAt bytes) (fs .addressed))
 unfolding row kinds fieldsIn
 reads-8 bytes fs e k = let p = parsed Client bytes fs e in rw (kind-row Client bytes fs e 8 k, p .same, prepared-in bytes p.framed)
 
@@ -220,17 +221,38 @@ module _ {A B : Type 0} (n : ℕ) where
   tested-alike party bytes a next e =
       let x = ofKind party (mapIn bytes) (kindIn bytes) kinds (λ row. accepted a) in
       let y = ofKind party (mapIn bytes) (kindIn bytes) kinds next in
-      let four = eqb (place bytes 9 + 64) (length bytes) in
+      let four = eqb (place bytes 10 + 64) (length bytes) in
       let three = goodMap (mapIn bytes) in
       guard-alike n 2 (within 2 longest (length bytes)) (guard 3 three (guard 4 four x)) (guard 3 three (guard 4 four y))
       (guard-alike n 3 three (guard 4 four x) (guard 4 four y) (guard-alike n 4 four x y (rows-alike party (mapIn bytes) (kindIn bytes) kinds a next))) e
 
--- What reading refuses, decoding refuses.
-pub decode-refused : (party : Party) (bytes : List ℕ) (n : ℕ) → reading party bytes ≡ refused n → decode party bytes ≡ refused n
-unfolding reading decode
-decode-refused party bytes n e = tested-alike n party bytes (fieldsIn bytes) (λ row. row .message bytes) e
+-- What reading refuses is no message.
+pub message-refused : (party : Party) (bytes : List ℕ) (n : ℕ) → reading party bytes ≡ refused n → messageIn party bytes ≡ refused n
+unfolding reading messageIn
+message-refused party bytes n e = tested-alike n party bytes (fieldsIn bytes) (λ row. row .message bytes) e
 
--- What decoding accepts, reading accepts.
-pub decode-accepted : (party : Party) (bytes : List ℕ) (m : Message) → decode party bytes ≡ accepted m → reading party bytes ≡ accepted (fieldsIn bytes)
-unfolding decode
-decode-accepted party bytes m e = reading-tested party bytes (tested-accepted party bytes (λ row. row .message bytes) m e)
+-- What is a message, reading accepts.
+pub message-reads : (party : Party) (bytes : List ℕ) (m : Message) → messageIn party bytes ≡ accepted m → reading party bytes ≡ accepted (fieldsIn bytes)
+unfolding messageIn
+message-reads party bytes m e = reading-tested party bytes (tested-accepted party bytes (λ row. row .message bytes) m e)
+
+-- Decoding yields that message with the register of the bytes.
+module _ (party : Party) (bytes : List ℕ) where
+  pub decode-joins : (m : Message) → messageIn party bytes ≡ accepted m → decode party bytes ≡ accepted (forRegister (registerIn bytes) m)
+  unfolding decode
+  decode-joins m e = rw e
+
+  pub decode-refused : (n : ℕ) → messageIn party bytes ≡ refused n → decode party bytes ≡ refused n
+  unfolding decode
+  decode-refused n e = rw e
+
+  pub decode-splits : (x : RegisterId) (m : Message) → decode party bytes ≡ accepted (forRegister x m) → (registerIn bytes ≡ x) × (messageIn party bytes ≡ accepted m)
+  unfolding decode
+  decode-splits x m e = go (messageIn party bytes) refl e
+    where
+      go : (o : Outcome Message) → messageIn party bytes ≡ o → (o >>= λ m. accepted (forRegister (registerIn bytes) m)) ≡ accepted (forRegister x m)
+          → (registerIn bytes ≡ x) × (messageIn party bytes ≡ accepted m)
+      go (refused n) d e = let z : _≡_ {A = ℕ} 0 1 = cc in absurd (omega arith)
+      go (accepted m′) d e =
+          let both : forRegister (registerIn bytes) m′ ≡ forRegister x m = cc in
+          (ap (λ (pair : RegisterId × Message). pair .0) both, d ∙ ap (λ (pair : RegisterId × Message). accepted (pair .1)) both)

@@ -25,14 +25,14 @@ pub cut-short : (s : List ℕ) (end : ℕ) (r : Taken) → Takes s end r → r �
 cut-short s end r h e = rw e at h
 
 -- Where one field is cut, test 4 fails.
-pub cut : {A : Type 0} (s : List ℕ) (b : ℕ) (r : Taken) (next : Outcome A) → b ≤ 9 → Takes s (place s b) r → r ≡ Cut → refused 4 ≡ guard 4 (eqb (place s 9 + 64) (length s)) next
+pub cut : {A : Type 0} (s : List ℕ) (b : ℕ) (r : Taken) (next : Outcome A) → b ≤ 10 → Takes s (place s b) r → r ≡ Cut → refused 4 ≡ guard 4 (eqb (place s 10 + 64) (length s)) next
 cut s b r next low h e =
     let past = cut-short s (place s b) r h e in
-    let more = place-rises s b 9 low in
-    sym (guard-refuses 4 (eqb (place s 9 + 64) (length s)) next (ne-eqb (place s 9 + 64) (length s) (λ k. omega arith)))
+    let more = place-rises s b 10 low in
+    sym (guard-refuses 4 (eqb (place s 10 + 64) (length s)) next (ne-eqb (place s 10 + 64) (length s) (λ k. omega arith)))
 
--- Bits 0, 1 and 8 are the fields of one byte.
-pub one-byte : (b : ℕ) → b < 9 → (b ≡ 2 → ⊥) → (b ≡ 3 → ⊥) → (b ≡ 4 → ⊥) → (b ≡ 5 → ⊥) → (b ≡ 6 → ⊥) → (b ≡ 7 → ⊥) → getD rules b (fixed 0) ≡ fixed 1
+-- Bits 0, 1, 8 and 9 are the fields of one byte.
+pub one-byte : (b : ℕ) → b < 10 → (b ≡ 2 → ⊥) → (b ≡ 3 → ⊥) → (b ≡ 4 → ⊥) → (b ≡ 5 → ⊥) → (b ≡ 6 → ⊥) → (b ≡ 7 → ⊥) → getD rules b (fixed 0) ≡ fixed 1
 unfolding rules
 one-byte zero h n2 n3 n4 n5 n6 n7 = refl
 one-byte (suc zero) h n2 n3 n4 n5 n6 n7 = refl
@@ -43,7 +43,8 @@ one-byte (suc (suc (suc (suc (suc zero))))) h n2 n3 n4 n5 n6 n7 = absurd (n5 ref
 one-byte (suc (suc (suc (suc (suc (suc zero)))))) h n2 n3 n4 n5 n6 n7 = absurd (n6 refl)
 one-byte (suc (suc (suc (suc (suc (suc (suc zero))))))) h n2 n3 n4 n5 n6 n7 = absurd (n7 refl)
 one-byte (suc (suc (suc (suc (suc (suc (suc (suc zero)))))))) h n2 n3 n4 n5 n6 n7 = refl
-one-byte (suc (suc (suc (suc (suc (suc (suc (suc (suc b))))))))) h n2 n3 n4 n5 n6 n7 = absurd (omega arith)
+one-byte (suc (suc (suc (suc (suc (suc (suc (suc (suc zero))))))))) h n2 n3 n4 n5 n6 n7 = refl
+one-byte (suc (suc (suc (suc (suc (suc (suc (suc (suc (suc b)))))))))) h n2 n3 n4 n5 n6 n7 = absurd (omega arith)
 
 -- A field that is there, by its rule.
 pub field-taken : (s : List ℕ) (b at : ℕ) (rule : Rule) (r : Taken) → bit (mapIn s) b ≡ true → at ≡ place s b → getD rules b (fixed 0) ≡ rule
@@ -51,8 +52,8 @@ pub field-taken : (s : List ℕ) (b at : ℕ) (rule : Rule) (r : Taken) → bit 
 field-taken s b at rule r set here same h = rw (place-present s b set, same, ← here) h
 
 -- The places that were found are those of the message.
-pub placed : (s : List ℕ) (map nonce timestamp digest card prepared written addressed signature : ℕ) → map ≡ mapIn s → Fronted s nonce timestamp digest card
-    → prepared ≡ place s 6 → written ≡ place s 7 → addressed ≡ place s 8 → signature ≡ place s 9
+pub placed : (s : List ℕ) (map nonce timestamp digest card prepared written addressed register signature : ℕ) → map ≡ mapIn s → Fronted s nonce timestamp digest card
+    → prepared ≡ place s 6 → written ≡ place s 7 → addressed ≡ place s 8 → register ≡ place s 9 → signature ≡ place s 10
     → _≡_ {A = Places} (record {
       map = map;
       nonce = nonce;
@@ -62,8 +63,9 @@ pub placed : (s : List ℕ) (map nonce timestamp digest card prepared written ad
       prepared = prepared;
       written = written;
       addressed = addressed;
+      register = register;
       signature = signature;
     }) (placesIn s)
 unfolding placesIn
-placed s map nonce timestamp digest card prepared written addressed signature m q e6 e7 e8 e9 =
-    rw (m, q .nonce-at, q .timestamp-at, q .digest-at, q .card-at, e6, e7, e8, e9)
+placed s map nonce timestamp digest card prepared written addressed register signature m q e6 e7 e8 e9 e10 =
+    rw (m, q .nonce-at, q .timestamp-at, q .digest-at, q .card-at, e6, e7, e8, e9, e10)

@@ -12,26 +12,16 @@ use lib.Dec.{eqb, leb}
 use lib.ListN.{getD}
 use Rattle.base.specs.BitMap.{bit, mapOf}
 use Rattle.base.specs.Outcome.{Outcome, accepted, refused, guard}
+use Rattle.base.specs.declared.party.RegisterId.{RegisterId}
 use Rattle.base.proofs.Booleans.{and-true-both}
 use Rattle.base.proofs.Outcome.{guard-passes, guard-accepted}
 use Rattle.wire.specs.Decode.{Kind, kinds, ofKind, sameParty, suits, mapWith, without, goodMap, takerOf}
-use Rattle.wire.specs.Message.{Message, READ-STAMP, PREPARE, WRITE, READ, STAMP, PREPARED, WRITTEN, CARD, fields}
+use Rattle.wire.specs.Message.{Message, READ-STAMP, PREPARE, WRITE, READ, STAMP, PREPARED, WRITTEN, CARD, kindOf, fields}
 use Rattle.wire.specs.declared.message.Party.{Party}
 use Rattle.wire.specs.declared.message.Party.the-variants.{Replica, Client}
 
 no-true : {A : Type 0} → _≡_ {A = Bool} false true → A
 no-true e = let z : _≡_ {A = ℕ} 0 1 = cc in absurd (omega arith)
-
--- The number of a message's kind.
-abbrev pub kindOf : Message → ℕ
-kindOf (READ-STAMP c n) = 1
-kindOf (PREPARE c t d proof last) = 2
-kindOf (WRITE c card proof) = 3
-kindOf (READ c n) = 4
-kindOf (STAMP r n proof c) = 5
-kindOf (PREPARED r t d) = 6
-kindOf (WRITTEN r t) = 7
-kindOf (CARD r n card proof c) = 8
 
 -- The row of a kind.
 abbrev noRow : Kind
@@ -41,37 +31,37 @@ unfoldable pub row : ℕ → Kind
 row k = getD kinds (k - 1) noRow
 
 -- The bits of a message are its row's, and its taker takes it.
-pub own-row : {A : Type 0} (m : Message) (next : Kind → Outcome A) → ofKind (takerOf m) (mapOf (fields m)) (kindOf m) kinds next ≡ next (row (kindOf m))
+pub own-row : {A : Type 0} (x : RegisterId) (m : Message) (next : Kind → Outcome A) → ofKind (takerOf m) (mapOf (fields x m)) (kindOf m) kinds next ≡ next (row (kindOf m))
 unfolding ofKind kinds row fields guard
-own-row (READ-STAMP c n) next = refl
-own-row (PREPARE c t d none none) next = refl
-own-row (PREPARE c t d none (some w)) next = refl
-own-row (PREPARE c t d (some p) none) next = refl
-own-row (PREPARE c t d (some p) (some w)) next = refl
-own-row (WRITE c card proof) next = refl
-own-row (READ c n) next = refl
-own-row (STAMP r n none c) next = refl
-own-row (STAMP r n (some p) c) next = refl
-own-row (PREPARED r t d) next = refl
-own-row (WRITTEN r t) next = refl
-own-row (CARD r n card none c) next = refl
-own-row (CARD r n card (some p) c) next = refl
+own-row x (READ-STAMP c n) next = refl
+own-row x (PREPARE c t d none none) next = refl
+own-row x (PREPARE c t d none (some w)) next = refl
+own-row x (PREPARE c t d (some p) none) next = refl
+own-row x (PREPARE c t d (some p) (some w)) next = refl
+own-row x (WRITE c card proof) next = refl
+own-row x (READ c n) next = refl
+own-row x (STAMP r n none c) next = refl
+own-row x (STAMP r n (some p) c) next = refl
+own-row x (PREPARED r t d) next = refl
+own-row x (WRITTEN r t) next = refl
+own-row x (CARD r n card none c) next = refl
+own-row x (CARD r n card (some p) c) next = refl
 
-pub good-map : (m : Message) → goodMap (mapOf (fields m)) ≡ true
+pub good-map : (x : RegisterId) (m : Message) → goodMap (mapOf (fields x m)) ≡ true
 unfolding fields
-good-map (READ-STAMP c n) = refl
-good-map (PREPARE c t d none none) = refl
-good-map (PREPARE c t d none (some w)) = refl
-good-map (PREPARE c t d (some p) none) = refl
-good-map (PREPARE c t d (some p) (some w)) = refl
-good-map (WRITE c card proof) = refl
-good-map (READ c n) = refl
-good-map (STAMP r n none c) = refl
-good-map (STAMP r n (some p) c) = refl
-good-map (PREPARED r t d) = refl
-good-map (WRITTEN r t) = refl
-good-map (CARD r n card none c) = refl
-good-map (CARD r n card (some p) c) = refl
+good-map x (READ-STAMP c n) = refl
+good-map x (PREPARE c t d none none) = refl
+good-map x (PREPARE c t d none (some w)) = refl
+good-map x (PREPARE c t d (some p) none) = refl
+good-map x (PREPARE c t d (some p) (some w)) = refl
+good-map x (WRITE c card proof) = refl
+good-map x (READ c n) = refl
+good-map x (STAMP r n none c) = refl
+good-map x (STAMP r n (some p) c) = refl
+good-map x (PREPARED r t d) = refl
+good-map x (WRITTEN r t) = refl
+good-map x (CARD r n card none c) = refl
+good-map x (CARD r n card (some p) c) = refl
 
 -- A bit that may be there: with it or without it.
 bit-power : (map b : ℕ) → bit map b ≡ true → 2 ^ b ≤ map
@@ -90,33 +80,33 @@ may-be P b map n e clear set = go (bit map b) refl e
     go true there e = let more : n + 2 ^ b ≡ map = omega (arith, bit-power map b there) in subst P more set
     go false there e = subst P (sym e) clear
 
--- The bits 0 to 8.
+-- The bits 0 to 9.
 abbrev pub bits : ℕ → List Bool
-bits map = bit map 0 ∷ bit map 1 ∷ bit map 2 ∷ bit map 3 ∷ bit map 4 ∷ bit map 5 ∷ bit map 6 ∷ bit map 7 ∷ bit map 8 ∷ []
+bits map = bit map 0 ∷ bit map 1 ∷ bit map 2 ∷ bit map 3 ∷ bit map 4 ∷ bit map 5 ∷ bit map 6 ∷ bit map 7 ∷ bit map 8 ∷ bit map 9 ∷ []
 
 -- What the table lets through: the kinds with their bits, and who takes them.
 pub data Taken (map : ℕ) : ℕ → Party → Type 0 where
-  read-stamp : bits map ≡ true ∷ true ∷ true ∷ false ∷ false ∷ false ∷ false ∷ false ∷ false ∷ [] → Taken map 1 Replica
-  prepare : bits map ≡ true ∷ true ∷ false ∷ true ∷ true ∷ false ∷ bit map 6 ∷ bit map 7 ∷ false ∷ [] → Taken map 2 Replica
-  write : bits map ≡ true ∷ true ∷ false ∷ false ∷ false ∷ true ∷ true ∷ false ∷ false ∷ [] → Taken map 3 Replica
-  read : bits map ≡ true ∷ true ∷ true ∷ false ∷ false ∷ false ∷ false ∷ false ∷ false ∷ [] → Taken map 4 Replica
-  stamp : bits map ≡ true ∷ true ∷ true ∷ false ∷ false ∷ false ∷ bit map 6 ∷ false ∷ true ∷ [] → Taken map 5 Client
-  prepared : bits map ≡ true ∷ true ∷ false ∷ true ∷ true ∷ false ∷ false ∷ false ∷ false ∷ [] → Taken map 6 Client
-  written : bits map ≡ true ∷ true ∷ false ∷ true ∷ false ∷ false ∷ false ∷ false ∷ false ∷ [] → Taken map 7 Client
-  card : bits map ≡ true ∷ true ∷ true ∷ false ∷ false ∷ true ∷ bit map 6 ∷ false ∷ true ∷ [] → Taken map 8 Client
+  read-stamp : bits map ≡ true ∷ true ∷ true ∷ false ∷ false ∷ false ∷ false ∷ false ∷ false ∷ true ∷ [] → Taken map 1 Replica
+  prepare : bits map ≡ true ∷ true ∷ false ∷ true ∷ true ∷ false ∷ bit map 6 ∷ bit map 7 ∷ false ∷ true ∷ [] → Taken map 2 Replica
+  write : bits map ≡ true ∷ true ∷ false ∷ false ∷ false ∷ true ∷ true ∷ false ∷ false ∷ true ∷ [] → Taken map 3 Replica
+  read : bits map ≡ true ∷ true ∷ true ∷ false ∷ false ∷ false ∷ false ∷ false ∷ false ∷ true ∷ [] → Taken map 4 Replica
+  stamp : bits map ≡ true ∷ true ∷ true ∷ false ∷ false ∷ false ∷ bit map 6 ∷ false ∷ true ∷ true ∷ [] → Taken map 5 Client
+  prepared : bits map ≡ true ∷ true ∷ false ∷ true ∷ true ∷ false ∷ false ∷ false ∷ false ∷ true ∷ [] → Taken map 6 Client
+  written : bits map ≡ true ∷ true ∷ false ∷ true ∷ false ∷ false ∷ false ∷ false ∷ false ∷ true ∷ [] → Taken map 7 Client
+  card : bits map ≡ true ∷ true ∷ true ∷ false ∷ false ∷ true ∷ bit map 6 ∷ false ∷ true ∷ true ∷ [] → Taken map 8 Client
 
-prepare-bits : (map : ℕ) → without (6 ∷ 7 ∷ []) map ≡ 27 → bits map ≡ true ∷ true ∷ false ∷ true ∷ true ∷ false ∷ bit map 6 ∷ bit map 7 ∷ false ∷ []
+prepare-bits : (map : ℕ) → without (6 ∷ 7 ∷ []) map ≡ 539 → bits map ≡ true ∷ true ∷ false ∷ true ∷ true ∷ false ∷ bit map 6 ∷ bit map 7 ∷ false ∷ true ∷ []
 prepare-bits map e =
-    may-be (λ (n : ℕ). without (6 ∷ []) map ≡ n → P map) 7 (without (6 ∷ []) map) 27 e (λ e6. may-be P 6 map 27 e6 refl refl) (λ e6. may-be P 6 map 155 e6 refl refl) refl
+    may-be (λ (n : ℕ). without (6 ∷ []) map ≡ n → P map) 7 (without (6 ∷ []) map) 539 e (λ e6. may-be P 6 map 539 e6 refl refl) (λ e6. may-be P 6 map 667 e6 refl refl) refl
   where
     P : ℕ → Type 0
-    P map = bits map ≡ true ∷ true ∷ false ∷ true ∷ true ∷ false ∷ bit map 6 ∷ bit map 7 ∷ false ∷ []
+    P map = bits map ≡ true ∷ true ∷ false ∷ true ∷ true ∷ false ∷ bit map 6 ∷ bit map 7 ∷ false ∷ true ∷ []
 
-stamp-bits : (map : ℕ) → without (6 ∷ []) map ≡ 263 → bits map ≡ true ∷ true ∷ true ∷ false ∷ false ∷ false ∷ bit map 6 ∷ false ∷ true ∷ []
-stamp-bits map e = may-be (λ (map : ℕ). bits map ≡ true ∷ true ∷ true ∷ false ∷ false ∷ false ∷ bit map 6 ∷ false ∷ true ∷ []) 6 map 263 e refl refl
+stamp-bits : (map : ℕ) → without (6 ∷ []) map ≡ 775 → bits map ≡ true ∷ true ∷ true ∷ false ∷ false ∷ false ∷ bit map 6 ∷ false ∷ true ∷ true ∷ []
+stamp-bits map e = may-be (λ (map : ℕ). bits map ≡ true ∷ true ∷ true ∷ false ∷ false ∷ false ∷ bit map 6 ∷ false ∷ true ∷ true ∷ []) 6 map 775 e refl refl
 
-card-bits : (map : ℕ) → without (6 ∷ []) map ≡ 295 → bits map ≡ true ∷ true ∷ true ∷ false ∷ false ∷ true ∷ bit map 6 ∷ false ∷ true ∷ []
-card-bits map e = may-be (λ (map : ℕ). bits map ≡ true ∷ true ∷ true ∷ false ∷ false ∷ true ∷ bit map 6 ∷ false ∷ true ∷ []) 6 map 295 e refl refl
+card-bits : (map : ℕ) → without (6 ∷ []) map ≡ 807 → bits map ≡ true ∷ true ∷ true ∷ false ∷ false ∷ true ∷ bit map 6 ∷ false ∷ true ∷ true ∷ []
+card-bits map e = may-be (λ (map : ℕ). bits map ≡ true ∷ true ∷ true ∷ false ∷ false ∷ true ∷ bit map 6 ∷ false ∷ true ∷ true ∷ []) 6 map 807 e refl refl
 
 same-party : (p q : Party) → sameParty p q ≡ true → p ≡ q
 same-party Replica Replica e = refl

@@ -13,13 +13,14 @@ use Rattle.base.specs.BitMap.{bit}
 use Rattle.base.specs.Bytes.{filled}
 use Rattle.base.specs.Outcome.{Outcome, accepted, refused}
 use Rattle.base.specs.Timestamp.{number}
+use Rattle.base.specs.declared.party.RegisterId.{RegisterId}
 use Rattle.base.specs.declared.party.ReplicaId.{ReplicaId}
 use Rattle.base.proofs.Filling.{filled-whole}
 use Rattle.base.proofs.Timestamps.{number-ofNumber}
 use Rattle.wire.specs.Acceptance.{Sender, replica, numbered}
 use Rattle.wire.specs.Accepting.{countIn}
 use Rattle.wire.specs.Checks.{preparedOf, writtenOf, entriesIfThere, entriesOf}
-use Rattle.wire.specs.Decode.{reading}
+use Rattle.wire.specs.Decode.{forRegister, registerIn, reading, fieldsIn}
 use Rattle.wire.specs.Layout.{mapIn, field}
 use Rattle.wire.specs.Message.{Message, PREPARED, WRITTEN, body}
 use Rattle.wire.specs.Parts.{partAt, preparedPart, writtenPart, timestampPart, digestPart, countPart, writtenCount}
@@ -34,29 +35,29 @@ use Rattle.wire.specs.declared.signatures.Signer.{Signer}
 use Rattle.wire.proofs.Accepting.{seen, placed-reading, all-signatures, entries-counted}
 use Rattle.wire.proofs.Framed.{field-absent}
 use Rattle.wire.proofs.Handed.{prepared-is, written-is, prepared-shown, written-shown, front-timestamp}
-use Rattle.wire.proofs.Parsed.{messageOf, parsed, prepared-whole, written-whole, decode-refused}
+use Rattle.wire.proofs.Parsed.{preparedAt, writtenAt, messageOf, parsed, prepared-whole, written-whole, message-refused, decode-joins, decode-refused}
 use Rattle.wire.proofs.ProofBytes.{length-read}
 
 -- ---- How many
 
-length-signed : (message : ReplicaId → Message) (entries : List Entry) → length (signedBy message entries) ≡ length entries
-length-signed message [] = refl
-length-signed message (entry ∷ entries) = ap suc (length-signed message entries)
+length-signed : (x : RegisterId) (message : ReplicaId → Message) (entries : List Entry) → length (signedBy x message entries) ≡ length entries
+length-signed x message [] = refl
+length-signed x message (entry ∷ entries) = ap suc (length-signed x message entries)
 
-prepared-length : (proof : Option PreparedProof) → length (signaturesIfThere preparedSignatures proof) ≡ length (entriesIfThere (λ (p : PreparedProof). p .entries) proof)
-prepared-length none = refl
-prepared-length (some proof) = length-signed (λ id. PREPARED id (proof .timestamp) (proof .digest)) (proof .entries)
+prepared-length : (x : RegisterId) (proof : Option PreparedProof) → length (signaturesIfThere (preparedSignatures x) proof) ≡ length (entriesIfThere (λ (p : PreparedProof). p .entries) proof)
+prepared-length x none = refl
+prepared-length x (some proof) = length-signed x (λ id. PREPARED id (proof .timestamp) (proof .digest)) (proof .entries)
 
-written-length : (proof : Option WrittenProof) → length (signaturesIfThere writtenSignatures proof) ≡ length (entriesIfThere (λ (p : WrittenProof). p .entries) proof)
-written-length none = refl
-written-length (some proof) = length-signed (λ id. WRITTEN id (proof .timestamp)) (proof .entries)
+written-length : (x : RegisterId) (proof : Option WrittenProof) → length (signaturesIfThere (writtenSignatures x) proof) ≡ length (entriesIfThere (λ (p : WrittenProof). p .entries) proof)
+written-length x none = refl
+written-length x (some proof) = length-signed x (λ id. WRITTEN id (proof .timestamp)) (proof .entries)
 
 -- Its own, and one an entry: as many as verdicts that test 7 asks for.
-pub length-signatures : (bytes : List ℕ) (message : Message) → length (signaturesOf bytes message) ≡ 1 + length (entriesOf message)
+pub length-signatures : (bytes : List ℕ) (x : RegisterId) (message : Message) → length (signaturesOf bytes (forRegister x message)) ≡ 1 + length (entriesOf message)
 unfolding entriesOf
-length-signatures bytes message =
-    let first = prepared-length (preparedOf message) in
-    let second = written-length (writtenOf message) in
+length-signatures bytes x message =
+    let first = prepared-length x (preparedOf message) in
+    let second = written-length x (writtenOf message) in
     simp length-append (omega arith)
 
 -- Of bytes that can be read, as many as their fields say; of others none.
@@ -65,27 +66,27 @@ unfolding signaturesTo
 signatures-counted party bytes fields e =
     let p = parsed party bytes fields e in
     let m = messageOf (p .taken) bytes in
-    rw (p .decodes)
-    (length-signatures bytes m ∙ entries-counted party bytes m (p .decodes) (p .framed) ∙ sym (all-signatures bytes fields (placed-reading party bytes fields e)))
+    rw (decode-joins party bytes m (p .decodes))
+    (length-signatures bytes (registerIn bytes) m ∙ entries-counted party bytes m (p .decodes) (p .framed) ∙ sym (all-signatures bytes fields (placed-reading party bytes fields e)))
 
 pub no-signatures : (party : Party) (bytes : List ℕ) (n : ℕ) → reading party bytes ≡ refused n → length (signaturesTo party bytes) ≡ 0
 unfolding signaturesTo
-no-signatures party bytes n e = rw (decode-refused party bytes n e)
+no-signatures party bytes n e = rw (decode-refused party bytes n (message-refused party bytes n e))
 
 -- ---- The i-th
 
 -- An entry's signature: its replica's, over that replica's message.
-abbrev entrySignature : (ReplicaId → Message) → ReplicaId → Signature
-entrySignature message id = record { signer = replica id; covers = body (message id) }
+abbrev entrySignature : RegisterId → (ReplicaId → Message) → ReplicaId → Signature
+entrySignature x message id = record { signer = replica id; covers = body x (message id) }
 
-signed-at : (message : ReplicaId → Message) (n : ℕ) (bytes : List ℕ) (i : ℕ) → i < n
-    → getElem? (signedBy message (readEntries n bytes)) i ≡ some (entrySignature message (record { 0 = getD bytes (65 * i) 0 }))
+signed-at : (x : RegisterId) (message : ReplicaId → Message) (n : ℕ) (bytes : List ℕ) (i : ℕ) → i < n
+    → getElem? (signedBy x message (readEntries n bytes)) i ≡ some (entrySignature x message (record { 0 = getD bytes (65 * i) 0 }))
 unfolding readEntries
-signed-at message zero bytes i h = absurd (omega arith)
-signed-at message (suc n) bytes zero h = refl
-signed-at message (suc n) bytes (suc i) h =
+signed-at x message zero bytes i h = absurd (omega arith)
+signed-at x message (suc n) bytes zero h = refl
+signed-at x message (suc n) bytes (suc i) h =
     let next : 65 + 65 * i ≡ 65 * suc i = omega arith in
-    signed-at message n (drop 65 bytes) i (omega arith) ∙ rw (getD-drop 65 bytes (65 * i) 0, next)
+    signed-at x message n (drop 65 bytes) i (omega arith) ∙ rw (getD-drop 65 bytes (65 * i) 0, next)
 
 -- An entry that is counted lies within its proof.
 module _ (proof : List ℕ) (i : ℕ) where
@@ -98,25 +99,25 @@ module _ (proof : List ℕ) (i : ℕ) where
   written-inside stand h = let size = length-drop 6 proof in omega arith
 
 -- Of a proof, by the parts that the code answers.
-pub prepared-at : (proof : List ℕ) (i : ℕ) → EntriesStand 38 proof → i < countPart proof
-    → getElem? (preparedSignatures (preparedFrom proof)) i
-    ≡ some (entrySignature (λ id. PREPARED id (number (timestampPart proof)) (filled 32 (digestPart proof))) (record { 0 = getD proof (38 + 65 * i) 0 }))
+pub prepared-at : (x : RegisterId) (proof : List ℕ) (i : ℕ) → EntriesStand 38 proof → i < countPart proof
+    → getElem? (preparedSignatures x (preparedFrom proof)) i
+    ≡ some (entrySignature x (λ id. PREPARED id (number (timestampPart proof)) (filled 32 (digestPart proof))) (record { 0 = getD proof (38 + 65 * i) 0 }))
 unfolding countPart digestPart
-prepared-at proof i stand h =
+prepared-at x proof i stand h =
     let long = prepared-inside proof i stand h in
     let stamp : number (timestampPart proof) ≡ fromBytes (take 5 proof) = ap number (front-timestamp proof (omega arith)) ∙ number-ofNumber (fromBytes (take 5 proof)) in
     let digest : length (take 32 (drop 5 proof)) ≡ 32 = simp (length-take, length-drop) (omega arith) in
     rw (stamp, le-ltb (length proof) 37 (omega arith), filled-whole 32 (take 32 (drop 5 proof)) digest, ← getD-drop 38 proof (65 * i) 0)
-    (signed-at (λ id. PREPARED id (fromBytes (take 5 proof)) (take 32 (drop 5 proof))) (getD proof 37 0) (drop 38 proof) i h)
+    (signed-at x (λ id. PREPARED id (fromBytes (take 5 proof)) (take 32 (drop 5 proof))) (getD proof 37 0) (drop 38 proof) i h)
 
-pub written-at : (proof : List ℕ) (i : ℕ) → EntriesStand 6 proof → i < writtenCount proof
-    → getElem? (writtenSignatures (writtenFrom proof)) i ≡ some (entrySignature (λ id. WRITTEN id (number (timestampPart proof))) (record { 0 = getD proof (6 + 65 * i) 0 }))
+pub written-at : (x : RegisterId) (proof : List ℕ) (i : ℕ) → EntriesStand 6 proof → i < writtenCount proof
+    → getElem? (writtenSignatures x (writtenFrom proof)) i ≡ some (entrySignature x (λ id. WRITTEN id (number (timestampPart proof))) (record { 0 = getD proof (6 + 65 * i) 0 }))
 unfolding writtenCount
-written-at proof i stand h =
+written-at x proof i stand h =
     let long = written-inside proof i stand h in
     let stamp : number (timestampPart proof) ≡ fromBytes (take 5 proof) = ap number (front-timestamp proof (omega arith)) ∙ number-ofNumber (fromBytes (take 5 proof)) in
     rw (stamp, ← getD-drop 6 proof (65 * i) 0)
-    (signed-at (λ id. WRITTEN id (fromBytes (take 5 proof))) (getD proof 5 0) (drop 6 proof) i h)
+    (signed-at x (λ id. WRITTEN id (fromBytes (take 5 proof))) (getD proof 5 0) (drop 6 proof) i h)
 
 -- Of a list behind another.
 module _ {A : Type 0} where
@@ -136,49 +137,49 @@ module _ {A : Type 0} where
   behind-all (x ∷ a) (suc i) h = behind-all a i (omega arith)
 
 -- Of both proofs.
-abbrev ofPrepared : List ℕ → List Signature
-ofPrepared proof = signaturesIfThere preparedSignatures (preparedPart proof)
+abbrev ofPrepared : RegisterId → List ℕ → List Signature
+ofPrepared x proof = signaturesIfThere (preparedSignatures x) (preparedPart proof)
 
-abbrev ofWritten : List ℕ → List Signature
-ofWritten proof = signaturesIfThere writtenSignatures (writtenPart proof)
+abbrev ofWritten : RegisterId → List ℕ → List Signature
+ofWritten x proof = signaturesIfThere (writtenSignatures x) (writtenPart proof)
 
-prepared-size : (proof : List ℕ) → length (ofPrepared proof) ≡ countPart proof
+prepared-size : (x : RegisterId) (proof : List ℕ) → length (ofPrepared x proof) ≡ countPart proof
 unfolding countPart
-prepared-size [] = refl
-prepared-size (byte ∷ proof) = let p = preparedFrom (byte ∷ proof) in length-signed (λ id. PREPARED id (p .timestamp) (p .digest)) (p .entries) ∙ length-read _ _
+prepared-size x [] = refl
+prepared-size x (byte ∷ proof) = let p = preparedFrom (byte ∷ proof) in length-signed x (λ id. PREPARED id (p .timestamp) (p .digest)) (p .entries) ∙ length-read _ _
 
-written-size : (proof : List ℕ) → length (ofWritten proof) ≡ writtenCount proof
+written-size : (x : RegisterId) (proof : List ℕ) → length (ofWritten x proof) ≡ writtenCount proof
 unfolding writtenCount
-written-size [] = refl
-written-size (byte ∷ proof) = let p = writtenFrom (byte ∷ proof) in length-signed (λ id. WRITTEN id (p .timestamp)) (p .entries) ∙ length-read _ _
+written-size x [] = refl
+written-size x (byte ∷ proof) = let p = writtenFrom (byte ∷ proof) in length-signed x (λ id. WRITTEN id (p .timestamp)) (p .entries) ∙ length-read _ _
 
-prepared-there : (proof : List ℕ) → 0 < countPart proof → ofPrepared proof ≡ preparedSignatures (preparedFrom proof)
+prepared-there : (x : RegisterId) (proof : List ℕ) → 0 < countPart proof → ofPrepared x proof ≡ preparedSignatures x (preparedFrom proof)
 unfolding countPart
-prepared-there [] h = absurd (omega arith)
-prepared-there (byte ∷ proof) h = refl
+prepared-there x [] h = absurd (omega arith)
+prepared-there x (byte ∷ proof) h = refl
 
-written-there : (proof : List ℕ) → 0 < writtenCount proof → ofWritten proof ≡ writtenSignatures (writtenFrom proof)
+written-there : (x : RegisterId) (proof : List ℕ) → 0 < writtenCount proof → ofWritten x proof ≡ writtenSignatures x (writtenFrom proof)
 unfolding writtenCount
-written-there [] h = absurd (omega arith)
-written-there (byte ∷ proof) h = refl
+written-there x [] h = absurd (omega arith)
+written-there x (byte ∷ proof) h = refl
 
-module _ (prepared written : List ℕ) (i : ℕ) where
-  pub of-first : i < countPart prepared → getElem? (preparedSignatures (preparedFrom prepared)) i ≡ getElem? (ofPrepared prepared ++ ofWritten written) i
+module _ (x : RegisterId) (prepared written : List ℕ) (i : ℕ) where
+  pub of-first : i < countPart prepared → getElem? (preparedSignatures x (preparedFrom prepared)) i ≡ getElem? (ofPrepared x prepared ++ ofWritten x written) i
   of-first h =
-      let size = prepared-size prepared in
-      sym (in-first (ofPrepared prepared) (ofWritten written) i (omega arith) ∙ rw (prepared-there prepared (omega arith)))
+      let size = prepared-size x prepared in
+      sym (in-first (ofPrepared x prepared) (ofWritten x written) i (omega arith) ∙ rw (prepared-there x prepared (omega arith)))
 
   pub of-second : countPart prepared ≤ i → i - countPart prepared < writtenCount written
-      → getElem? (writtenSignatures (writtenFrom written)) (i - countPart prepared) ≡ getElem? (ofPrepared prepared ++ ofWritten written) i
+      → getElem? (writtenSignatures x (writtenFrom written)) (i - countPart prepared) ≡ getElem? (ofPrepared x prepared ++ ofWritten x written) i
   of-second past h =
-      let size = prepared-size prepared in
-      sym (in-second (ofPrepared prepared) (ofWritten written) i (omega arith) ∙ rw (size, written-there written (omega arith)))
+      let size = prepared-size x prepared in
+      sym (in-second (ofPrepared x prepared) (ofWritten x written) i (omega arith) ∙ rw (size, written-there x written (omega arith)))
 
-  pub of-neither : countPart prepared ≤ i → writtenCount written ≤ i - countPart prepared → getElem? (ofPrepared prepared ++ ofWritten written) i ≡ none
+  pub of-neither : countPart prepared ≤ i → writtenCount written ≤ i - countPart prepared → getElem? (ofPrepared x prepared ++ ofWritten x written) i ≡ none
   of-neither past h =
-      let first = prepared-size prepared in
-      let second = written-size written in
-      behind-all (ofPrepared prepared ++ ofWritten written) i (rw length-append (omega arith))
+      let first = prepared-size x prepared in
+      let second = written-size x written in
+      behind-all (ofPrepared x prepared ++ ofWritten x written) i (rw length-append (omega arith))
 
 -- Of a message that was read.
 module _ (party : Party) (bytes : List ℕ) (fields : Fields) (e : reading party bytes ≡ accepted fields) where
@@ -187,14 +188,22 @@ module _ (party : Party) (bytes : List ℕ) (fields : Fields) (e : reading party
   own-at =
       let p = parsed party bytes fields e in
       let s = seen party bytes _ (p .decodes) in
-      rw (p .decodes, s .sender, ← placed-reading party bytes fields e .sender)
+      rw (decode-joins party bytes _ (p .decodes), s .sender, ← placed-reading party bytes fields e .sender)
 
-  pub entry-at : (i : ℕ) → signatureTo party bytes (suc i) ≡ accepted (getElem? (ofPrepared (partAt bytes (fields .prepared)) ++ ofWritten (partAt bytes (fields .written))) i)
-  unfolding signatureTo
+  register-read : fields .register ≡ registerIn bytes
+  unfolding fieldsIn
+  register-read = rw (parsed party bytes fields e .same)
+
+  both : RegisterId → List Signature
+  both x = signaturesIfThere (preparedSignatures x) (preparedAt bytes) ++ signaturesIfThere (writtenSignatures x) (writtenAt bytes)
+
+  pub entry-at : (i : ℕ) → signatureTo party bytes (suc i) ≡ accepted (getElem? (ofPrepared (fields .register) (partAt bytes (fields .prepared)) ++ ofWritten (fields .register) (partAt bytes (fields .written))) i)
+  unfolding signatureTo both
   entry-at i =
       let p = parsed party bytes fields e in
       let s = seen party bytes _ (p .decodes) in
-      rw (p .decodes, s .prepared, s .written, prepared-shown party bytes fields p, written-shown party bytes fields p)
+      rw (decode-joins party bytes _ (p .decodes), s .prepared, s .written, prepared-shown party bytes fields p, written-shown party bytes fields p)
+      (ap (λ (x : RegisterId). accepted (getElem? (both x) i)) (sym register-read))
 
   pub prepared-stand : EntriesStand 38 (partAt bytes (fields .prepared))
   prepared-stand = rw (prepared-is party bytes fields (parsed party bytes fields e)) (go (bit (mapIn bytes) 6) refl)
@@ -212,7 +221,7 @@ module _ (party : Party) (bytes : List ℕ) (fields : Fields) (e : reading party
 
 pub unread-at : (party : Party) (bytes : List ℕ) (i n : ℕ) → reading party bytes ≡ refused n → signatureTo party bytes i ≡ refused n
 unfolding signatureTo
-unread-at party bytes i n e = rw (decode-refused party bytes n e)
+unread-at party bytes i n e = rw (decode-refused party bytes n (message-refused party bytes n e))
 
 -- ---- Answers
 

@@ -9,6 +9,7 @@ use Rattle.base.proofs.BigEndian.{length-toBytes}
 use Rattle.base.specs.Outcome.{accepted, guard}
 use Rattle.base.specs.Range.{within}
 use Rattle.base.specs.Rising.{rising}
+use Rattle.base.specs.declared.party.RegisterId.{RegisterId}
 use Rattle.wire.specs.Checks.{preparedOf, writtenOf, entriesOf, all, oneEach, shaped, proven, checked}
 use Rattle.wire.specs.Layout.{fixed, repeated, preparedRule, writtenRule, rules}
 use Rattle.wire.specs.Message.{Message, READ-STAMP, PREPARE, WRITE, READ, STAMP, PREPARED, WRITTEN, CARD, numberField, sized, preparedField, writtenField, fields, joined, body, encode, IsSignature, PreparedFits, WrittenFits, IfThere, Fits, preparedSize, writtenSize, EachFits, Legal, size, longest}
@@ -30,19 +31,19 @@ writtenField-obeys : (proof : Option WrittenProof) → IfThere WrittenFits proof
 writtenField-obeys none fits = tt
 writtenField-obeys (some p) fits = written-obeys p fits
 
-pub fields-obey : (m : Message) → Fits m → AllObey rules (fields m)
+pub fields-obey : (x : RegisterId) (m : Message) → Fits m → AllObey rules (fields x m)
 unfolding fields rules Fits
-fields-obey (READ-STAMP c n) fits = (number-obeys 1 1, (number-obeys 1 (c .0), (number-obeys 8 n, (tt, (tt, (tt, (tt, (tt, (tt, tt)))))))))
-fields-obey (PREPARE c t d proof last) fits =
-    (number-obeys 1 2, (number-obeys 1 (c .0), (tt, (number-obeys 5 t, ((λ rest. sym (fits .2 .0)), (tt, (preparedField-obeys proof (fits .3), (writtenField-obeys last (fits .4), (tt, tt)))))))))
-fields-obey (WRITE c card proof) fits = (number-obeys 1 3, (number-obeys 1 (c .0), (tt, (tt, (tt, (sized-obeys card, (prepared-obeys proof (fits .2), (tt, (tt, tt)))))))))
-fields-obey (READ c n) fits = (number-obeys 1 4, (number-obeys 1 (c .0), (number-obeys 8 n, (tt, (tt, (tt, (tt, (tt, (tt, tt)))))))))
-fields-obey (STAMP r n proof c) fits =
-    (number-obeys 1 5, (number-obeys 1 (r .0), (number-obeys 8 n, (tt, (tt, (tt, (preparedField-obeys proof (fits .2), (tt, (number-obeys 1 (c .0), tt)))))))))
-fields-obey (PREPARED r t d) fits = (number-obeys 1 6, (number-obeys 1 (r .0), (tt, (number-obeys 5 t, ((λ rest. sym (fits .2 .0)), (tt, (tt, (tt, (tt, tt)))))))))
-fields-obey (WRITTEN r t) fits = (number-obeys 1 7, (number-obeys 1 (r .0), (tt, (number-obeys 5 t, (tt, (tt, (tt, (tt, (tt, tt)))))))))
-fields-obey (CARD r n card proof c) fits =
-    (number-obeys 1 8, (number-obeys 1 (r .0), (number-obeys 8 n, (tt, (tt, (sized-obeys card, (preparedField-obeys proof (fits .3), (tt, (number-obeys 1 (c .0), tt)))))))))
+fields-obey x (READ-STAMP c n) fits = (number-obeys 1 1, (number-obeys 1 (c .0), (number-obeys 8 n, (tt, (tt, (tt, (tt, (tt, (tt, (number-obeys 1 (x .0), tt))))))))))
+fields-obey x (PREPARE c t d proof last) fits =
+    (number-obeys 1 2, (number-obeys 1 (c .0), (tt, (number-obeys 5 t, ((λ rest. sym (fits .2 .0)), (tt, (preparedField-obeys proof (fits .3), (writtenField-obeys last (fits .4), (tt, (number-obeys 1 (x .0), tt))))))))))
+fields-obey x (WRITE c card proof) fits = (number-obeys 1 3, (number-obeys 1 (c .0), (tt, (tt, (tt, (sized-obeys card, (prepared-obeys proof (fits .2), (tt, (tt, (number-obeys 1 (x .0), tt))))))))))
+fields-obey x (READ c n) fits = (number-obeys 1 4, (number-obeys 1 (c .0), (number-obeys 8 n, (tt, (tt, (tt, (tt, (tt, (tt, (number-obeys 1 (x .0), tt))))))))))
+fields-obey x (STAMP r n proof c) fits =
+    (number-obeys 1 5, (number-obeys 1 (r .0), (number-obeys 8 n, (tt, (tt, (tt, (preparedField-obeys proof (fits .2), (tt, (number-obeys 1 (c .0), (number-obeys 1 (x .0), tt))))))))))
+fields-obey x (PREPARED r t d) fits = (number-obeys 1 6, (number-obeys 1 (r .0), (tt, (number-obeys 5 t, ((λ rest. sym (fits .2 .0)), (tt, (tt, (tt, (tt, (number-obeys 1 (x .0), tt))))))))))
+fields-obey x (WRITTEN r t) fits = (number-obeys 1 7, (number-obeys 1 (r .0), (tt, (number-obeys 5 t, (tt, (tt, (tt, (tt, (tt, (number-obeys 1 (x .0), tt))))))))))
+fields-obey x (CARD r n card proof c) fits =
+    (number-obeys 1 8, (number-obeys 1 (r .0), (number-obeys 8 n, (tt, (tt, (sized-obeys card, (preparedField-obeys proof (fits .3), (tt, (number-obeys 1 (c .0), (number-obeys 1 (x .0), tt))))))))))
 
 -- The lengths of fields, added up.
 total : List (Option (List ℕ)) → ℕ
@@ -63,24 +64,24 @@ length-writtenField : (proof : Option WrittenProof) → IfThere WrittenFits proo
 length-writtenField none fits = refl
 length-writtenField (some p) fits = length-written p fits
 
-total-size : (m : Message) → Fits m → 2 + total (fields m) + 64 ≡ size m
+total-size : (x : RegisterId) (m : Message) → Fits m → 2 + total (fields x m) + 64 ≡ size m
 unfolding total fields Fits size
-total-size (READ-STAMP c n) fits = simp length-toBytes (omega arith)
-total-size (PREPARE c t d proof last) fits =
+total-size x (READ-STAMP c n) fits = simp length-toBytes (omega arith)
+total-size x (PREPARE c t d proof last) fits =
     let digest = fits .2 .0 in
     simp (length-toBytes, length-preparedField proof (fits .3), length-writtenField last (fits .4)) (omega arith)
-total-size (WRITE c card proof) fits = simp (length-toBytes, length-prepared proof (fits .2)) (omega arith)
-total-size (READ c n) fits = simp length-toBytes (omega arith)
-total-size (STAMP r n proof c) fits = simp (length-toBytes, length-preparedField proof (fits .2)) (omega arith)
-total-size (PREPARED r t d) fits = let digest = fits .2 .0 in simp length-toBytes (omega arith)
-total-size (WRITTEN r t) fits = simp length-toBytes (omega arith)
-total-size (CARD r n card proof c) fits = simp (length-toBytes, length-preparedField proof (fits .3)) (omega arith)
+total-size x (WRITE c card proof) fits = simp (length-toBytes, length-prepared proof (fits .2)) (omega arith)
+total-size x (READ c n) fits = simp length-toBytes (omega arith)
+total-size x (STAMP r n proof c) fits = simp (length-toBytes, length-preparedField proof (fits .2)) (omega arith)
+total-size x (PREPARED r t d) fits = let digest = fits .2 .0 in simp length-toBytes (omega arith)
+total-size x (WRITTEN r t) fits = simp length-toBytes (omega arith)
+total-size x (CARD r n card proof c) fits = simp (length-toBytes, length-preparedField proof (fits .3)) (omega arith)
 
 -- How many bytes are written.
-pub encode-size : (m : Message) (signature : List ℕ) → Fits m → IsSignature signature → length (encode m signature) ≡ size m
+pub encode-size : (x : RegisterId) (m : Message) (signature : List ℕ) → Fits m → IsSignature signature → length (encode x m signature) ≡ size m
 unfolding encode body
-encode-size m signature fits sig =
-    let whole = total-size m fits in
+encode-size x m signature fits sig =
+    let whole = total-size x m fits in
     let end = sig .0 in
     simp (length-append, length-toBytes, length-joined) (omega arith)
 
@@ -103,7 +104,7 @@ few-written : (proof : Option WrittenProof) → IfThere (λ (p : WrittenProof). 
 few-written none few = omega arith
 few-written (some p) few = omega arith
 
--- "The longest message has 1,579 bytes", for cards of at most 17 bytes and proofs of at most 11 entries.
+-- "The longest message is 1,580 bytes", for cards of at most 17 bytes and proofs of at most 11 entries.
 pub at-most-longest : (m : Message) → length (cardBytes m) ≤ 17
     → IfThere (λ (p : PreparedProof). length (p .entries) ≤ 11) (preparedOf m) → IfThere (λ (p : WrittenProof). length (p .entries) ≤ 11) (writtenOf m) → size m ≤ longest
 unfolding size
@@ -138,11 +139,12 @@ unfolding blank blanks
 blanks-fit id zero h = tt
 blanks-fit id (suc n) h = ((omega arith, (refl, zeros 64)), blanks-fit (suc id) n (omega arith))
 
-pub longest-reached : (size longestMessage ≡ longest) × Legal longestMessage
+pub longest-reached : (size longestMessage ≡ longest) × Legal (record { 0 = 1 }) longestMessage
 unfolding size longestMessage Fits blanks
 longest-reached = (
   refl,
   record {
+    register-fits = omega arith;
     fits = (omega arith, omega arith, (refl, zeros 32), (omega arith, (refl, zeros 32), (omega arith, blanks-fit 1 11 (omega arith))), (omega arith, (omega arith, blanks-fit 1 11 (omega arith))));
     short = omega arith;
   },

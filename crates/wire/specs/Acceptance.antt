@@ -1,11 +1,13 @@
--- Document 01, "Turned down", 2 to 11 in their order, with 19 of document 02: the message that a party is handed, or its refusal. The steps of replica and client begin with it.
+-- Document 01, "Turned down", 2 to 11 in their order, with 19 and 20 of document 02: the message that a party is handed and its register, or
+-- its refusal. The steps of replica and client begin with it.
 use mathlib.Core.Bool.{Bool, true, _||_}
 use mathlib.Core.List.{List}
 use Prim.Native.Nat.{ℕ}
 use lib.Dec.{eqb}
 use Rattle.base.specs.Outcome.{Outcome, accepted, refused, guard, _>>=_}
-use Rattle.base.specs.Party.{isClient, isWriter, isReplica}
+use Rattle.base.specs.Party.{isClient, isWriter, isReplica, isRegister}
 use Rattle.base.specs.declared.party.ClientId.{ClientId}
+use Rattle.base.specs.declared.party.RegisterId.{RegisterId}
 use Rattle.base.specs.declared.party.ReplicaId.{ReplicaId}
 use Rattle.base.specs.declared.replica_set.ReplicaSet.{ReplicaSet}
 use Rattle.wire.specs.Checks.{preparedOf, checked}
@@ -48,24 +50,25 @@ abbrev pub maySend : ℕ → Sender → Bool
 maySend kind (client id) = eqb kind 4 || isWriter id
 maySend kind (replica id) = true
 
--- 6 to 11 of a message with its verdicts (marks).
-unfoldable pub admits : ℕ → List ℕ → Message → Outcome Message
-admits f verdicts message =
+-- 6 to 11 of a message for a register, with its verdicts (marks). 20: "the set is not 1 to 16; tested right after 6 (and 19)".
+unfoldable pub admits : ℕ → List ℕ → RegisterId × Message → Outcome (RegisterId × Message)
+admits f verdicts (register, message) =
     guard 6 (inItsRange f (senderOf message))
     (guard 19 (maySend (kindOf message) (senderOf message))
+    (guard 20 (isRegister register)
     (checked f message verdicts
-    (accepted message)))
+    (accepted (register, message)))))
 
 -- 2 to 11 of bytes.
-unfoldable pub admitted : Party → ℕ → List ℕ → List ℕ → Outcome Message
+unfoldable pub admitted : Party → ℕ → List ℕ → List ℕ → Outcome (RegisterId × Message)
 admitted party f bytes verdicts = decode party bytes >>= admits f verdicts
 
 -- The same as the code answers it: the fields of the bytes, and who signed the message's prepared proof (document 02, #102).
-abbrev pub foundIn : List ℕ → Message → Fields × ReplicaSet
-foundIn bytes message = (fieldsIn bytes, preparedSigners (preparedOf message))
+abbrev pub foundIn : List ℕ → RegisterId × Message → Fields × ReplicaSet
+foundIn bytes sent = (fieldsIn bytes, preparedSigners (preparedOf (sent .1)))
 
 unfoldable pub acceptance : Party → ℕ → List ℕ → List ℕ → Outcome (Fields × ReplicaSet)
-acceptance party f bytes verdicts = admitted party f bytes verdicts >>= λ message. accepted (foundIn bytes message)
+acceptance party f bytes verdicts = admitted party f bytes verdicts >>= λ sent. accepted (foundIn bytes sent)
 
 -- What an answer of the code stands for.
 abbrev pub acceptingOutcome : Accepting → Outcome (Fields × ReplicaSet)

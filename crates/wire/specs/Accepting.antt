@@ -8,11 +8,12 @@ use lib.ListN.{length, take, drop}
 use Rattle.base.specs.BigEndian.{fromBytes}
 use Rattle.base.specs.Bytes.{between}
 use Rattle.base.specs.Outcome.{Outcome, accepted, guard, _>>=_}
+use Rattle.base.specs.Party.{isRegister}
 use Rattle.base.specs.ReplicaSet.{empty}
 use Rattle.base.specs.declared.replica_set.ReplicaSet.{ReplicaSet}
 use Rattle.wire.specs.Acceptance.{senderOf, inItsRange, maySend}
 use Rattle.wire.specs.Checks.{preparedOf, oneEach, ownGenuine, proven, proofOutcome}
-use Rattle.wire.specs.Decode.{decode, fieldsIn, framed}
+use Rattle.wire.specs.Decode.{messageIn, registerIn, fieldsIn, framed}
 use Rattle.wire.specs.Judging.{entriesIn, proofCheckOutcome}
 use Rattle.wire.specs.Message.{Message, kindOf}
 use Rattle.wire.specs.Parts.{preparedSigners}
@@ -21,15 +22,16 @@ use Rattle.wire.specs.declared.message.Fields.{Fields}
 use Rattle.wire.specs.declared.message.Party.{Party}
 use Rattle.wire.specs.declared.message.Span.{Span}
 
--- 2 to 8, and what follows for the message.
+-- 2 to 8, with 19 and 20, and what follows for the message.
 abbrev pub opening : {A : Type 0} → Party → ℕ → List ℕ → List ℕ → (Message → Outcome A) → Outcome A
 opening party f bytes verdicts next =
-    decode party bytes >>= λ message.
+    messageIn party bytes >>= λ message.
     guard 6 (inItsRange f (senderOf message))
     (guard 19 (maySend (kindOf message) (senderOf message))
+    (guard 20 (isRegister (registerIn bytes))
     (guard 7 (oneEach message verdicts)
     (guard 8 (ownGenuine verdicts)
-    (next message))))
+    (next message)))))
 
 unfoldable pub opened : Party → ℕ → List ℕ → List ℕ → Outcome Fields
 opened party f bytes verdicts = opening party f bytes verdicts (λ message. accepted (fieldsIn bytes))
@@ -58,4 +60,4 @@ pub record Ready (bytes verdicts : List ℕ) (fields : Fields) : Type 0 where
 
 -- 9 to 11 of the message that the bytes are, whoever is handed it, and its prepared proof's signers.
 abbrev pub Judges : ℕ → List ℕ → List ℕ → ProofCheck → Type 0
-Judges f bytes verdicts check = (party : Party) (message : Message) → decode party bytes ≡ accepted message → proofCheckOutcome check ≡ proven f message (drop 1 verdicts) (accepted (preparedSigners (preparedOf message)))
+Judges f bytes verdicts check = (party : Party) (message : Message) → messageIn party bytes ≡ accepted message → proofCheckOutcome check ≡ proven f message (drop 1 verdicts) (accepted (preparedSigners (preparedOf message)))

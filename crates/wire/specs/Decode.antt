@@ -1,4 +1,4 @@
--- Document 01, "Messages" and "Turned down", 2 to 5: the message that some bytes are, or their refusal.
+-- Document 01, "Messages" and "Turned down", 2 to 5: the message that some bytes are and its register, or their refusal.
 use mathlib.Core.Bool.{Bool, true, false, _&&_, cond}
 use mathlib.Core.List.{List, [], _∷_}
 use mathlib.Core.Option.{Option, none, some}
@@ -11,6 +11,7 @@ use Rattle.base.specs.Outcome.{Outcome, accepted, refused, guard, _>>=_}
 use Rattle.base.specs.Range.{within}
 use Rattle.base.specs.Timestamp.{ofNumber}
 use Rattle.base.specs.declared.party.ClientId.{ClientId}
+use Rattle.base.specs.declared.party.RegisterId.{RegisterId}
 use Rattle.base.specs.declared.party.ReplicaId.{ReplicaId}
 use Rattle.wire.specs.Layout.{fieldBits, mapIn, place, field, signaturePlace}
 use Rattle.wire.specs.Message.{Message, READ-STAMP, PREPARE, WRITE, READ, STAMP, PREPARED, WRITTEN, CARD, longest}
@@ -48,6 +49,10 @@ cardIn bytes = drop 1 (field bytes 5)
 abbrev pub addressedIn : List ℕ → ClientId
 addressedIn bytes = record { 0 = fromBytes (field bytes 8) }
 
+-- Document 02, #103: "Every message gains bit 9, the set (1 byte, after bit 8)". 0 where it is not there.
+abbrev pub registerIn : List ℕ → RegisterId
+registerIn bytes = record { 0 = fromBytes (field bytes 9) }
+
 -- A proof that may be missing.
 abbrev pub optional : {A : Type 0} → Bool → Outcome A → Outcome (Option A)
 optional true proof = proof >>= λ p. accepted (some p)
@@ -59,7 +64,7 @@ preparedIn bytes = optional (bit (mapIn bytes) 6) (readPrepared (field bytes 6))
 abbrev pub writtenIn : List ℕ → Outcome (Option WrittenProof)
 writtenIn bytes = optional (bit (mapIn bytes) 7) (readWritten (field bytes 7))
 
--- A row of the table of kinds: who takes it, the bits it has, the bits it may have, and the message.
+-- A row of the table of kinds: who takes it, the bits it has, the bits it may have, and the message. Each has bit 9.
 pub record Kind : Type 1 where
   pub number : ℕ
   pub taker : Party
@@ -73,22 +78,22 @@ kind number taker must may message = record { number = number; taker = taker; mu
 unfoldable pub kinds : List Kind
 kinds =
     -- READ-STAMP
-    kind 1 Replica (0 ∷ 1 ∷ 2 ∷ []) [] (λ m. accepted (READ-STAMP (clientIn m) (nonceIn m)))
+    kind 1 Replica (0 ∷ 1 ∷ 2 ∷ 9 ∷ []) [] (λ m. accepted (READ-STAMP (clientIn m) (nonceIn m)))
     -- PREPARE
-    ∷ kind 2 Replica (0 ∷ 1 ∷ 3 ∷ 4 ∷ []) (6 ∷ 7 ∷ []) (λ m.
+    ∷ kind 2 Replica (0 ∷ 1 ∷ 3 ∷ 4 ∷ 9 ∷ []) (6 ∷ 7 ∷ []) (λ m.
     preparedIn m >>= λ proof. writtenIn m >>= λ last. accepted (PREPARE (clientIn m) (timestampIn m) (digestIn m) proof last))
     -- WRITE
-    ∷ kind 3 Replica (0 ∷ 1 ∷ 5 ∷ 6 ∷ []) [] (λ m. readPrepared (field m 6) >>= λ proof. accepted (WRITE (clientIn m) (cardIn m) proof))
+    ∷ kind 3 Replica (0 ∷ 1 ∷ 5 ∷ 6 ∷ 9 ∷ []) [] (λ m. readPrepared (field m 6) >>= λ proof. accepted (WRITE (clientIn m) (cardIn m) proof))
     -- READ
-    ∷ kind 4 Replica (0 ∷ 1 ∷ 2 ∷ []) [] (λ m. accepted (READ (clientIn m) (nonceIn m)))
+    ∷ kind 4 Replica (0 ∷ 1 ∷ 2 ∷ 9 ∷ []) [] (λ m. accepted (READ (clientIn m) (nonceIn m)))
     -- STAMP
-    ∷ kind 5 Client (0 ∷ 1 ∷ 2 ∷ 8 ∷ []) (6 ∷ []) (λ m. preparedIn m >>= λ proof. accepted (STAMP (replicaIn m) (nonceIn m) proof (addressedIn m)))
+    ∷ kind 5 Client (0 ∷ 1 ∷ 2 ∷ 8 ∷ 9 ∷ []) (6 ∷ []) (λ m. preparedIn m >>= λ proof. accepted (STAMP (replicaIn m) (nonceIn m) proof (addressedIn m)))
     -- PREPARED
-    ∷ kind 6 Client (0 ∷ 1 ∷ 3 ∷ 4 ∷ []) [] (λ m. accepted (PREPARED (replicaIn m) (timestampIn m) (digestIn m)))
+    ∷ kind 6 Client (0 ∷ 1 ∷ 3 ∷ 4 ∷ 9 ∷ []) [] (λ m. accepted (PREPARED (replicaIn m) (timestampIn m) (digestIn m)))
     -- WRITTEN
-    ∷ kind 7 Client (0 ∷ 1 ∷ 3 ∷ []) [] (λ m. accepted (WRITTEN (replicaIn m) (timestampIn m)))
+    ∷ kind 7 Client (0 ∷ 1 ∷ 3 ∷ 9 ∷ []) [] (λ m. accepted (WRITTEN (replicaIn m) (timestampIn m)))
     -- CARD
-    ∷ kind 8 Client (0 ∷ 1 ∷ 2 ∷ 5 ∷ 8 ∷ []) (6 ∷ []) (λ m.
+    ∷ kind 8 Client (0 ∷ 1 ∷ 2 ∷ 5 ∷ 8 ∷ 9 ∷ []) (6 ∷ []) (λ m.
     preparedIn m >>= λ proof. accepted (CARD (replicaIn m) (nonceIn m) (cardIn m) proof (addressedIn m)))
     ∷ []
 
@@ -127,7 +132,7 @@ unfoldable pub ofKind : {A : Type 0} → Party → ℕ → ℕ → List Kind →
 ofKind party map number [] next = refused 5
 ofKind party map number (row ∷ rows) next = cond (eqb number (row .number)) (guard 5 (suits party map row) (next row)) (ofKind party map number rows next)
 
--- 3: "The bit map lacks bit 0 or 1, or has one of 9 to 15."
+-- 3: "The bit map lacks bit 0 or 1, or has one of" 10 to 15 (document 02, #103).
 abbrev pub goodMap : ℕ → Bool
 goodMap map = (bit map 0 && bit map 1) && ltb map (2 ^ fieldBits)
 
@@ -143,8 +148,15 @@ framed bytes next =
 abbrev pub tested : {A : Type 0} → Party → List ℕ → (Kind → Outcome A) → Outcome A
 tested party bytes next = framed bytes (ofKind party (mapIn bytes) (kindIn bytes) kinds next)
 
-unfoldable pub decode : Party → List ℕ → Outcome Message
-decode party bytes = tested party bytes (λ row. row .message bytes)
+unfoldable pub messageIn : Party → List ℕ → Outcome Message
+messageIn party bytes = tested party bytes (λ row. row .message bytes)
+
+-- With the register that it is for.
+abbrev pub forRegister : RegisterId → Message → RegisterId × Message
+forRegister register message = (register, message)
+
+unfoldable pub decode : Party → List ℕ → Outcome (RegisterId × Message)
+decode party bytes = messageIn party bytes >>= λ message. accepted (forRegister (registerIn bytes) message)
 
 -- Where the field of a bit stands.
 abbrev pub spanOf : List ℕ → ℕ → Span
@@ -164,6 +176,7 @@ fieldsIn bytes =
       prepared = spanOf bytes 6;
       written = spanOf bytes 7;
       addressed = addressedIn bytes;
+      register = registerIn bytes;
       signature = record { start = signaturePlace bytes; end = length bytes };
     }
 

@@ -36,11 +36,12 @@ rules =
     ∷ preparedRule  -- 6: prepared proof
     ∷ writtenRule  -- 7: written proof
     ∷ fixed 1  -- 8: client (desk) addressed
+    ∷ fixed 1  -- 9: register (set), document 02, #103
     ∷ []
 
--- The fields have bits 0 to 8.
+-- The fields have bits 0 to 9.
 abbrev pub fieldBits : ℕ
-fieldBits = 9
+fieldBits = 10
 
 -- "Bit map (2 bytes)"
 abbrev pub mapIn : List ℕ → ℕ

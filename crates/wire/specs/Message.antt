@@ -7,10 +7,11 @@ use lib.ListN.{length}
 use Rattle.base.specs.BigEndian.{toBytes, Bytes}
 use Rattle.base.specs.BitMap.{mapOf}
 use Rattle.base.specs.declared.party.ClientId.{ClientId}
+use Rattle.base.specs.declared.party.RegisterId.{RegisterId}
 use Rattle.base.specs.declared.party.ReplicaId.{ReplicaId}
 use Rattle.wire.specs.Proof.{Entry, PreparedProof, WrittenProof, preparedBytes, writtenBytes}
 
--- A message but for its signature. Fields stand in the order of their bits; a timestamp is its number.
+-- A message but for its register (document 02, #103: set) and its signature. Fields stand in the order of their bits; a timestamp is its number.
 pub data Message : Type 0 where
   READ-STAMP : ClientId → ℕ → Message  -- sender, nonce
   PREPARE : ClientId → ℕ → List ℕ → Option PreparedProof → Option WrittenProof → Message  -- sender, timestamp, digest, proofs
@@ -47,20 +48,20 @@ abbrev pub writtenField : Option WrittenProof → Option (List ℕ)
 writtenField none = none
 writtenField (some proof) = some (writtenBytes proof)
 
--- The fields by bit: 0 kind, 1 sender, 2 nonce, 3 timestamp, 4 digest, 5 card, 6 prepared proof, 7 written proof, 8 client addressed.
-unfoldable pub fields : Message → List (Option (List ℕ))
-fields (READ-STAMP client nonce) = numberField 1 1 ∷ numberField 1 (client .0) ∷ numberField 8 nonce ∷ none ∷ none ∷ none ∷ none ∷ none ∷ none ∷ []
-fields (PREPARE client timestamp digest proof last) =
-    numberField 1 2 ∷ numberField 1 (client .0) ∷ none ∷ numberField 5 timestamp ∷ some digest ∷ none ∷ preparedField proof ∷ writtenField last ∷ none ∷ []
-fields (WRITE client card proof) = numberField 1 3 ∷ numberField 1 (client .0) ∷ none ∷ none ∷ none ∷ sized card ∷ some (preparedBytes proof) ∷ none ∷ none ∷ []
-fields (READ client nonce) = numberField 1 4 ∷ numberField 1 (client .0) ∷ numberField 8 nonce ∷ none ∷ none ∷ none ∷ none ∷ none ∷ none ∷ []
-fields (STAMP replica nonce proof client) =
-    numberField 1 5 ∷ numberField 1 (replica .0) ∷ numberField 8 nonce ∷ none ∷ none ∷ none ∷ preparedField proof ∷ none ∷ numberField 1 (client .0) ∷ []
-fields (PREPARED replica timestamp digest) =
-    numberField 1 6 ∷ numberField 1 (replica .0) ∷ none ∷ numberField 5 timestamp ∷ some digest ∷ none ∷ none ∷ none ∷ none ∷ []
-fields (WRITTEN replica timestamp) = numberField 1 7 ∷ numberField 1 (replica .0) ∷ none ∷ numberField 5 timestamp ∷ none ∷ none ∷ none ∷ none ∷ none ∷ []
-fields (CARD replica nonce card proof client) =
-    numberField 1 8 ∷ numberField 1 (replica .0) ∷ numberField 8 nonce ∷ none ∷ none ∷ sized card ∷ preparedField proof ∷ none ∷ numberField 1 (client .0) ∷ []
+-- The fields by bit: 0 kind, 1 sender, 2 nonce, 3 timestamp, 4 digest, 5 card, 6 prepared proof, 7 written proof, 8 client addressed, 9 register.
+unfoldable pub fields : RegisterId → Message → List (Option (List ℕ))
+fields register (READ-STAMP client nonce) = numberField 1 1 ∷ numberField 1 (client .0) ∷ numberField 8 nonce ∷ none ∷ none ∷ none ∷ none ∷ none ∷ none ∷ numberField 1 (register .0) ∷ []
+fields register (PREPARE client timestamp digest proof last) =
+    numberField 1 2 ∷ numberField 1 (client .0) ∷ none ∷ numberField 5 timestamp ∷ some digest ∷ none ∷ preparedField proof ∷ writtenField last ∷ none ∷ numberField 1 (register .0) ∷ []
+fields register (WRITE client card proof) = numberField 1 3 ∷ numberField 1 (client .0) ∷ none ∷ none ∷ none ∷ sized card ∷ some (preparedBytes proof) ∷ none ∷ none ∷ numberField 1 (register .0) ∷ []
+fields register (READ client nonce) = numberField 1 4 ∷ numberField 1 (client .0) ∷ numberField 8 nonce ∷ none ∷ none ∷ none ∷ none ∷ none ∷ none ∷ numberField 1 (register .0) ∷ []
+fields register (STAMP replica nonce proof client) =
+    numberField 1 5 ∷ numberField 1 (replica .0) ∷ numberField 8 nonce ∷ none ∷ none ∷ none ∷ preparedField proof ∷ none ∷ numberField 1 (client .0) ∷ numberField 1 (register .0) ∷ []
+fields register (PREPARED replica timestamp digest) =
+    numberField 1 6 ∷ numberField 1 (replica .0) ∷ none ∷ numberField 5 timestamp ∷ some digest ∷ none ∷ none ∷ none ∷ none ∷ numberField 1 (register .0) ∷ []
+fields register (WRITTEN replica timestamp) = numberField 1 7 ∷ numberField 1 (replica .0) ∷ none ∷ numberField 5 timestamp ∷ none ∷ none ∷ none ∷ none ∷ none ∷ numberField 1 (register .0) ∷ []
+fields register (CARD replica nonce card proof client) =
+    numberField 1 8 ∷ numberField 1 (replica .0) ∷ numberField 8 nonce ∷ none ∷ none ∷ sized card ∷ preparedField proof ∷ none ∷ numberField 1 (client .0) ∷ numberField 1 (register .0) ∷ []
 
 -- The fields that are there, one after the other.
 unfoldable pub joined : List (Option (List ℕ)) → List ℕ
@@ -69,12 +70,12 @@ joined (none ∷ fields) = joined fields
 joined (some bytes ∷ fields) = bytes ++ joined fields
 
 -- The bytes that the signature covers: bit map and fields.
-unfoldable pub body : Message → List ℕ
-body message = toBytes 2 (mapOf (fields message)) ++ joined (fields message)
+unfoldable pub body : RegisterId → Message → List ℕ
+body register message = toBytes 2 (mapOf (fields register message)) ++ joined (fields register message)
 
 -- "then a 64-byte seal over all bytes before it"
-unfoldable pub encode : Message → List ℕ → List ℕ
-encode message signature = body message ++ signature
+unfoldable pub encode : RegisterId → Message → List ℕ → List ℕ
+encode register message signature = body register message ++ signature
 
 -- What fits its field's width. Said of the data alone, not of its bytes.
 abbrev pub IsDigest : List ℕ → Type 0
@@ -122,9 +123,9 @@ abbrev pub writtenSize : Option WrittenProof → ℕ
 writtenSize none = 0
 writtenSize (some proof) = 6 + 65 * length (proof .entries)
 
--- Bit map, kind and sender in front, the signature behind.
+-- Bit map, kind and sender in front, register and signature behind.
 abbrev pub sizeWith : ℕ → ℕ
-sizeWith others = 2 + 1 + 1 + others + 64
+sizeWith others = 2 + 1 + 1 + others + 1 + 64
 
 unfoldable pub size : Message → ℕ
 size (READ-STAMP client nonce) = sizeWith 8
@@ -136,12 +137,13 @@ size (PREPARED replica timestamp digest) = sizeWith (5 + 32)
 size (WRITTEN replica timestamp) = sizeWith 5
 size (CARD replica nonce card proof client) = sizeWith (8 + 1 + length card + preparedSize proof + 1)
 
--- "The longest message has 1,579 bytes."
+-- Document 02, #103: "The longest message is 1,580 bytes"
 abbrev pub longest : ℕ
-longest = 1_579
+longest = 1_580
 
--- "every legal message": the kind's fields, each within its width, and no longer than the longest. What 6 and 9 to 14 ask besides is
--- a party's to ask: a message that they refuse has its one byte form too.
-pub record Legal (message : Message) : Type 0 where
+-- "every legal message": the kind's fields, each within its width, and no longer than the longest. What 6, 20 and 9 to 14 ask besides
+-- is a party's to ask: a message that they refuse has its one byte form too.
+pub record Legal (register : RegisterId) (message : Message) : Type 0 where
+  pub register-fits : register .0 < 256
   pub fits : Fits message
   pub short : size message ≤ longest

@@ -35,6 +35,7 @@ placesIn bytes =
       prepared = place bytes 6;
       written = place bytes 7;
       addressed = place bytes 8;
+      register = place bytes 9;
       signature = signaturePlace bytes;
     }
 

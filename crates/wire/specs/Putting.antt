@@ -6,6 +6,7 @@ use Prim.Native.Nat.{ℕ, _+_, _≤_}
 use lib.ListN.{length, take, drop}
 use Rattle.base.specs.BigEndian.{toBytes}
 use Rattle.base.specs.declared.party.ClientId.{ClientId}
+use Rattle.base.specs.declared.party.RegisterId.{RegisterId}
 use Rattle.wire.specs.Writing.{blankSignature}
 
 -- A step of a writer: the bytes, at most so many, stand from a place on, and the next place is the one behind them.
@@ -16,8 +17,9 @@ pub record Put (old : List ℕ) (at : ℕ) (bytes : List ℕ) (most : ℕ) (next
   pub holds : new ≡ take at old ++ bytes ++ drop (at + length bytes) old
 
 -- A READ-STAMP or READ, by its kind.
-unfoldable pub question : ℕ → ClientId → ℕ → List ℕ
-question kind client nonce = toBytes 2 7 ++ (toBytes 1 kind ++ (toBytes 1 (client .0) ++ toBytes 8 nonce)) ++ blankSignature
+unfoldable pub question : RegisterId → ℕ → ClientId → ℕ → List ℕ
+question register kind client nonce =
+    toBytes 2 519 ++ (toBytes 1 kind ++ (toBytes 1 (client .0) ++ (toBytes 8 nonce ++ toBytes 1 (register .0)))) ++ blankSignature
 
 -- A card behind its length.
 abbrev pub sizedCard : List ℕ → List ℕ

@@ -5,6 +5,7 @@ use mathlib.Core.Option.{Option, none, some}
 use Prim.Native.Nat.{ℕ, _-_, _*_, _≤_}
 use lib.ListN.{length, getD, take, drop, getElem?}
 use Rattle.base.specs.Outcome.{Outcome, accepted, refused, _>>=_}
+use Rattle.base.specs.declared.party.RegisterId.{RegisterId}
 use Rattle.base.specs.declared.party.ReplicaId.{ReplicaId}
 use Rattle.wire.specs.Acceptance.{Sender, replica, client, senderOf}
 use Rattle.wire.specs.Checks.{preparedOf, writtenOf}
@@ -23,30 +24,32 @@ pub record Signature : Type 0 where
   pub signer : Sender
   pub covers : List ℕ
 
--- "An entry's seal is that of the holder's PREPARED (or WRITTEN) message with this stamp (and digest)."
-abbrev pub signedBy : (ReplicaId → Message) → List Entry → List Signature
-signedBy message [] = []
-signedBy message (entry ∷ entries) = record { signer = replica (entry .signer); covers = body (message (entry .signer)) } ∷ signedBy message entries
+-- "An entry's seal is that of the holder's PREPARED (or WRITTEN) message with this stamp (and digest)." Document 02, #103: "an entry's
+-- seal is that of a message for the set that its proof is shown for".
+abbrev pub signedBy : RegisterId → (ReplicaId → Message) → List Entry → List Signature
+signedBy register message [] = []
+signedBy register message (entry ∷ entries) =
+    record { signer = replica (entry .signer); covers = body register (message (entry .signer)) } ∷ signedBy register message entries
 
-abbrev pub preparedSignatures : PreparedProof → List Signature
-preparedSignatures proof = signedBy (λ id. PREPARED id (proof .timestamp) (proof .digest)) (proof .entries)
+abbrev pub preparedSignatures : RegisterId → PreparedProof → List Signature
+preparedSignatures register proof = signedBy register (λ id. PREPARED id (proof .timestamp) (proof .digest)) (proof .entries)
 
-abbrev pub writtenSignatures : WrittenProof → List Signature
-writtenSignatures proof = signedBy (λ id. WRITTEN id (proof .timestamp)) (proof .entries)
+abbrev pub writtenSignatures : RegisterId → WrittenProof → List Signature
+writtenSignatures register proof = signedBy register (λ id. WRITTEN id (proof .timestamp)) (proof .entries)
 
 abbrev pub signaturesIfThere : {A : Type 0} → (A → List Signature) → Option A → List Signature
 signaturesIfThere signatures none = []
 signaturesIfThere signatures (some proof) = signatures proof
 
 -- The signatures of a message: "the message's own first, then entries in order". Its own covers "all bytes before it".
-abbrev pub signaturesOf : List ℕ → Message → List Signature
-signaturesOf bytes message =
+abbrev pub signaturesOf : List ℕ → RegisterId × Message → List Signature
+signaturesOf bytes (register, message) =
     record { signer = senderOf message; covers = take (length bytes - 64) bytes }
-    ∷ (signaturesIfThere preparedSignatures (preparedOf message) ++ signaturesIfThere writtenSignatures (writtenOf message))
+    ∷ (signaturesIfThere (preparedSignatures register) (preparedOf message) ++ signaturesIfThere (writtenSignatures register) (writtenOf message))
 
 -- The signatures of bytes that a party is handed; none if it cannot read them (2 to 5).
-abbrev pub signaturesIfRead : List ℕ → Outcome Message → List Signature
-signaturesIfRead bytes (accepted message) = signaturesOf bytes message
+abbrev pub signaturesIfRead : List ℕ → Outcome (RegisterId × Message) → List Signature
+signaturesIfRead bytes (accepted sent) = signaturesOf bytes sent
 signaturesIfRead bytes (refused number) = []
 
 unfoldable pub signaturesTo : Party → List ℕ → List Signature
@@ -54,7 +57,7 @@ signaturesTo party bytes = signaturesIfRead bytes (decode party bytes)
 
 -- The i-th of them, counted from 0, if there are so many; or the refusal of the bytes.
 unfoldable pub signatureTo : Party → List ℕ → ℕ → Outcome (Option Signature)
-signatureTo party bytes i = decode party bytes >>= λ message. accepted (getElem? (signaturesOf bytes message) i)
+signatureTo party bytes i = decode party bytes >>= λ sent. accepted (getElem? (signaturesOf bytes sent) i)
 
 -- What an answer of the code stands for: the signer, and how many bytes the signature covers.
 abbrev pub signerOf : Signer → Sender

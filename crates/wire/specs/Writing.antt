@@ -8,6 +8,7 @@ use lib.Dec.{leb, eqb}
 use lib.ListN.{length, take, drop, replicate}
 use Rattle.base.specs.Outcome.{Outcome, accepted, refused, guard}
 use Rattle.base.specs.Timestamp.{number}
+use Rattle.base.specs.declared.party.RegisterId.{RegisterId}
 use Rattle.base.specs.declared.timestamp.Timestamp.{Timestamp}
 use Rattle.wire.specs.Message.{Message, encode, longest}
 use Rattle.wire.specs.Proof.{Entry, PreparedProof, WrittenProof, readEntries}
@@ -18,15 +19,15 @@ use Rattle.wire.specs.declared.writer.Encoded.the-variants.{Length, Refu
 unfoldable pub blankSignature : List ℕ
 blankSignature = replicate 64 0
 
-abbrev pub unsigned : Message → List ℕ
-unsigned message = encode message blankSignature
+abbrev pub unsigned : RegisterId → Message → List ℕ
+unsigned register message = encode register message blankSignature
 
 -- What an answer of the code stands for: the message's length.
 abbrev pub encodedOutcome : Encoded → Outcome ℕ
 encodedOutcome (Length n) = accepted n
 encodedOutcome (Refused number) = refused number
 
--- 1: "The output is shorter than 1,579 bytes."
+-- 1: "The output is shorter than" the longest message.
 abbrev pub roomy : List ℕ → Bool
 roomy output = leb longest (length output)
 

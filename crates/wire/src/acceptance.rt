@@ -14,10 +14,12 @@ use crate::signatures::entry_count;
 use base::party::ClientId;
 use base::party::ReplicaId;
 use base::party::is_client;
+use base::party::is_register;
 use base::party::is_replica;
 use base::party::is_writer;
 use base::refusal::NOT_FOR_VIEWERS;
 use base::refusal::NOT_GENUINE;
+use base::refusal::REGISTER;
 use base::refusal::SENDER;
 use base::refusal::VERDICTS;
 use base::replica_set::ReplicaSet;
@@ -62,7 +64,7 @@ fn may_send(party: Party, kind: u8, sender: u8) -> bool
     is_writer(ClientId(sender))
 }
 
-// Tests 2 to 8.
+// Tests 2 to 8, with 19 and 20 behind 6.
 fn open(party: Party, f: u8, bytes: &[u8], verdicts: &[u8]) -> Reading
     ensures { λ r. ⌜ readingOutcome r ≡ opened party f (now (bytes .entry)) (now (verdicts .entry)) ⌝ }
 {
@@ -73,6 +75,9 @@ fn open(party: Party, f: u8, bytes: &[u8], verdicts: &[u8]) -> Reading
             }
             if !may_send(party, fields.kind, fields.sender) {
                 return Reading::Refused(NOT_FOR_VIEWERS);
+            }
+            if !is_register(fields.register) {
+                return Reading::Refused(REGISTER);
             }
             if !verdicts_fit(verdicts, count_in(fields)) {
                 return Reading::Refused(VERDICTS);

@@ -29,6 +29,7 @@ pub struct Places {
     pub prepared: usize,
     pub written: usize,
     pub addressed: usize,
+    pub register: usize,
     pub signature: usize,
 }
 
@@ -111,7 +112,10 @@ fn lay_back(
     let Taken::Next(addressed) = take_field(bytes, map, 7, written) else {
         return Framing::Refused(FIELD_LENGTHS);
     };
-    let Taken::Next(signature) = take_field(bytes, map, 8, addressed) else {
+    let Taken::Next(register) = take_field(bytes, map, 8, addressed) else {
+        return Framing::Refused(FIELD_LENGTHS);
+    };
+    let Taken::Next(signature) = take_field(bytes, map, 9, register) else {
         return Framing::Refused(FIELD_LENGTHS);
     };
     if bytes.len() - signature != SIGNATURE {
@@ -126,6 +130,7 @@ fn lay_back(
         prepared: prepared,
         written: written,
         addressed: addressed,
+        register: register,
         signature: signature,
     })
 }

@@ -1,8 +1,8 @@
 // The lengths of a message and of its parts, in bytes.
-pub const LONGEST_MESSAGE: usize = 1_579;
+pub const LONGEST_MESSAGE: usize = 1_580;
 
-// The bit maps of fields 0 to 8 are below this number.
-pub const MAPS: u16 = 512;
+// The bit maps of fields 0 to 9 are below this number.
+pub const MAPS: u16 = 1_024;
 
 pub const SIGNATURE: usize = 64;
 

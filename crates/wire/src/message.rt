@@ -1,5 +1,6 @@
 // Messages as they stand in a slice.
 use base::party::ClientId;
+use base::party::RegisterId;
 use base::timestamp::Timestamp;
 
 // Who is handed a message.
@@ -26,6 +27,7 @@ pub struct Fields {
     pub prepared: Span,
     pub written: Span,
     pub addressed: ClientId,
+    pub register: RegisterId,
     pub signature: Span,
 }
 

@@ -6,6 +6,7 @@ use crate::message::Party;
 use crate::message::Reading;
 use crate::message::Span;
 use base::party::ClientId;
+use base::party::RegisterId;
 use base::refusal::KIND;
 ghost use mathlib.Core.Path.{_≡_};
 ghost use mathlib.Core.List.{_∷_, []};
@@ -32,9 +33,9 @@ fn suits_replica(kind: u8, map: u16) -> bool
     ensures { λ r. ⌜ r ≡ suiting Party.Replica map kind kinds ⌝ }
 {
     match kind {
-        1 | 4 => map == 0x007,
-        2 => without(without(map, 6), 7) == 0x01b,
-        3 => map == 0x063,
+        1 | 4 => map == 0x207,
+        2 => without(without(map, 6), 7) == 0x21b,
+        3 => map == 0x263,
         _ => false,
     }
 }
@@ -44,10 +45,10 @@ fn suits_client(kind: u8, map: u16) -> bool
     ensures { λ r. ⌜ r ≡ suiting Party.Client map kind kinds ⌝ }
 {
     match kind {
-        5 => without(map, 6) == 0x107,
-        6 => map == 0x01b,
-        7 => map == 0x00b,
-        8 => without(map, 6) == 0x127,
+        5 => without(map, 6) == 0x307,
+        6 => map == 0x21b,
+        7 => map == 0x20b,
+        8 => without(map, 6) == 0x327,
         _ => false,
     }
 }
@@ -68,7 +69,8 @@ fn fields(bytes: &[u8], places: Places) -> Fields
 {
     let nonce = crate::numbers::eight_in(bytes, places.nonce, places.timestamp);
     let timestamp = crate::numbers::timestamp_in(bytes, places.timestamp, places.digest);
-    let addressed = ClientId(crate::numbers::byte_in(bytes, places.addressed, places.signature));
+    let addressed = ClientId(crate::numbers::byte_in(bytes, places.addressed, places.register));
+    let register = RegisterId(crate::numbers::byte_in(bytes, places.register, places.signature));
     Fields {
         map: places.map,
         kind: bytes[2],
@@ -92,6 +94,7 @@ fn fields(bytes: &[u8], places: Places) -> Fields
             end: places.addressed,
         },
         addressed: addressed,
+        register: register,
         signature: Span {
             start: places.signature,
             end: bytes.len(),

@@ -14,6 +14,7 @@ use crate::writer::put_prepared_body;
 use crate::writer::put_written_body;
 use base::bytes::put;
 use base::party::ClientId;
+use base::party::RegisterId;
 use base::party::ReplicaId;
 use base::refusal::OUTPUT_TOO_SHORT;
 use base::slices::front;
@@ -103,41 +104,53 @@ fn own(party: Party, number: u8, bytes: &[u8], out: &mut [u8]) -> Signed
     Signed::By(sender(party, number), covered)
 }
 
-// An entry's of a prepared proof: its replica's, over the PREPARED with the proof's timestamp and digest.
-fn of_prepared(proof: &[u8], i: usize, out: &mut [u8]) -> Signed
+// An entry's of a prepared proof: its replica's, over the PREPARED for this register with the proof's timestamp and digest.
+fn of_prepared(register: RegisterId, proof: &[u8], i: usize, out: &mut [u8]) -> Signed
     requires { ⌜ EntriesStand 38 (now proof) × (i < countPart (now proof)) × (longest ≤ length (now out)) ⌝ }
-    ensures { λ r. ⌜ ShowsSignature (accepted (getElem? (preparedSignatures (preparedFrom (now (proof .entry)))) i)) (now (out .entry)) r (now (out .exit)) ⌝ }
+    ensures { λ r. ⌜ ShowsSignature (accepted (getElem? (preparedSignatures register (preparedFrom (now (proof .entry)))) i)) (now (out .entry)) r (now (out .exit)) ⌝ }
 {
     let replica = ReplicaId(proof[PREPARED_HEAD + ENTRY * i]);
     let digest = digest_array(crate::parts::digest(proof));
-    let covered = put_prepared_body(out, replica, crate::parts::timestamp(proof), &digest);
+    let covered = put_prepared_body(
+        out,
+        register,
+        replica,
+        crate::parts::timestamp(proof),
+        &digest,
+    );
     Signed::By(Signer::Replica(replica), covered)
 }
 
-// An entry's of a written proof: its replica's, over the WRITTEN with the proof's timestamp.
-fn of_written(proof: &[u8], i: usize, out: &mut [u8]) -> Signed
+// An entry's of a written proof: its replica's, over the WRITTEN for this register with the proof's timestamp.
+fn of_written(register: RegisterId, proof: &[u8], i: usize, out: &mut [u8]) -> Signed
     requires { ⌜ EntriesStand 6 (now proof) × (i < writtenCount (now proof)) × (longest ≤ length (now out)) ⌝ }
-    ensures { λ r. ⌜ ShowsSignature (accepted (getElem? (writtenSignatures (writtenFrom (now (proof .entry)))) i)) (now (out .entry)) r (now (out .exit)) ⌝ }
+    ensures { λ r. ⌜ ShowsSignature (accepted (getElem? (writtenSignatures register (writtenFrom (now (proof .entry)))) i)) (now (out .entry)) r (now (out .exit)) ⌝ }
 {
     let replica = ReplicaId(proof[WRITTEN_HEAD + ENTRY * i]);
-    let covered = put_written_body(out, replica, crate::parts::timestamp(proof));
+    let covered = put_written_body(out, register, replica, crate::parts::timestamp(proof));
     Signed::By(Signer::Replica(replica), covered)
 }
 
 // An entry's, the prepared proof's entries first.
-fn of_entries(prepared: &[u8], written: &[u8], i: usize, out: &mut [u8]) -> Signed
+fn of_entries(
+    register: RegisterId,
+    prepared: &[u8],
+    written: &[u8],
+    i: usize,
+    out: &mut [u8],
+) -> Signed
     requires { ⌜ EntriesStand 38 (now prepared) × EntriesStand 6 (now written) × (longest ≤ length (now out)) ⌝ }
     ensures { λ r. ⌜ ShowsSignature
-        (accepted (getElem? (signaturesIfThere preparedSignatures (preparedPart (now (prepared .entry))) ++ signaturesIfThere writtenSignatures (writtenPart (now (written .entry)))) i))
+        (accepted (getElem? (signaturesIfThere (preparedSignatures register) (preparedPart (now (prepared .entry))) ++ signaturesIfThere (writtenSignatures register) (writtenPart (now (written .entry)))) i))
         (now (out .entry)) r (now (out .exit)) ⌝ }
 {
     let first = crate::parts::entry_count(prepared) as usize;
     if i < first {
-        return of_prepared(prepared, i, out);
+        return of_prepared(register, prepared, i, out);
     }
     let behind = i - first;
     if behind < crate::parts::written_entry_count(written) as usize {
-        return of_written(written, behind, out);
+        return of_written(register, written, behind, out);
     }
     Signed::Nothing
 }
@@ -152,7 +165,7 @@ fn of_fields(party: Party, bytes: &[u8], fields: Fields, i: usize, out: &mut [u8
     }
     let prepared = crate::parts::part(bytes, fields.prepared);
     let written = crate::parts::part(bytes, fields.written);
-    of_entries(prepared, written, i - 1, out)
+    of_entries(fields.register, prepared, written, i - 1, out)
 }
 
 // Whose the i-th signature of a message is, the message's own being number 0, and which bytes it covers: they stand in front of the output, its old bytes behind.

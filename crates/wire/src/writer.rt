@@ -7,13 +7,16 @@ use crate::layout::DIGEST;
 use crate::layout::ENTRIES_ROOM;
 use crate::layout::LONGEST_MESSAGE;
 use base::party::ClientId;
+use base::party::RegisterId;
 use base::party::ReplicaId;
 use base::refusal::OUTPUT_TOO_SHORT;
 use base::timestamp::Timestamp;
 use fields::put_addressed;
 use fields::put_card;
+use fields::put_end;
 use fields::put_head;
 use fields::put_nonce;
+use fields::put_register;
 use fields::put_signature;
 use fields::put_timestamp;
 use fields::put_timestamp_and_digest;
@@ -34,49 +37,61 @@ pub enum Encoded {
     Refused(u8),
 }
 
-// Bit maps by the fields' bits.
-const WITH_NONCE: u16 = 0b0_0000_0111;
+// Bit maps by the fields' bits. Each has the register's, 9.
+const WITH_NONCE: u16 = 0b10_0000_0111;
 
-const WITH_TIMESTAMP: u16 = 0b0_0000_1011;
+const WITH_TIMESTAMP: u16 = 0b10_0000_1011;
 
-const WITH_DIGEST: u16 = 0b0_0001_1011;
+const WITH_DIGEST: u16 = 0b10_0001_1011;
 
-const WITH_CARD_AND_PROOF: u16 = 0b0_0110_0011;
+const WITH_CARD_AND_PROOF: u16 = 0b10_0110_0011;
 
-const ADDRESSED: u16 = 0b1_0000_0111;
+const ADDRESSED: u16 = 0b11_0000_0111;
 
-const ADDRESSED_WITH_CARD: u16 = 0b1_0010_0111;
+const ADDRESSED_WITH_CARD: u16 = 0b11_0010_0111;
 
-const PREPARED_PROOF: u16 = 0b0_0100_0000;
+const PREPARED_PROOF: u16 = 0b00_0100_0000;
 
-const WRITTEN_PROOF: u16 = 0b0_1000_0000;
+const WRITTEN_PROOF: u16 = 0b00_1000_0000;
 
 // READ-STAMP and READ: a kind, a client and a nonce.
-fn write_question(out: &mut [u8], kind: u8, client: ClientId, nonce: u64) -> Encoded
-    ensures { λ r. ⌜ Wrote (now (out .entry)) (question kind client nonce) r (now (out .exit)) ⌝ }
+fn write_question(
+    out: &mut [u8],
+    register: RegisterId,
+    kind: u8,
+    client: ClientId,
+    nonce: u64,
+) -> Encoded
+    ensures { λ r. ⌜ Wrote (now (out .entry)) (question register kind client nonce) r (now (out .exit)) ⌝ }
 {
     if out.len() < LONGEST_MESSAGE {
         return Encoded::Refused(OUTPUT_TOO_SHORT);
     }
     let a = put_head(out, WITH_NONCE, kind, client.0);
     let b = put_nonce(out, a, nonce);
-    Encoded::Length(put_signature(out, b))
+    Encoded::Length(put_end(out, b, register))
 }
 
-pub fn write_read_stamp(out: &mut [u8], client: ClientId, nonce: u64) -> Encoded
-    ensures { λ r. ⌜ Wrote (now (out .entry)) (unsigned (READ-STAMP client nonce)) r (now (out .exit)) ⌝ }
+pub fn write_read_stamp(
+    out: &mut [u8],
+    register: RegisterId,
+    client: ClientId,
+    nonce: u64,
+) -> Encoded
+    ensures { λ r. ⌜ Wrote (now (out .entry)) (unsigned register (READ-STAMP client nonce)) r (now (out .exit)) ⌝ }
 {
-    write_question(out, 1, client, nonce)
+    write_question(out, register, 1, client, nonce)
 }
 
-pub fn write_read(out: &mut [u8], client: ClientId, nonce: u64) -> Encoded
-    ensures { λ r. ⌜ Wrote (now (out .entry)) (unsigned (READ client nonce)) r (now (out .exit)) ⌝ }
+pub fn write_read(out: &mut [u8], register: RegisterId, client: ClientId, nonce: u64) -> Encoded
+    ensures { λ r. ⌜ Wrote (now (out .entry)) (unsigned register (READ client nonce)) r (now (out .exit)) ⌝ }
 {
-    write_question(out, 4, client, nonce)
+    write_question(out, register, 4, client, nonce)
 }
 
 pub fn write_prepare<'a>(
     out: &mut [u8],
+    register: RegisterId,
     client: ClientId,
     timestamp: Timestamp,
     digest: &'a [u8; DIGEST],
@@ -89,7 +104,7 @@ pub fn write_prepare<'a>(
     last_entries: &'a [u8; ENTRIES_ROOM],
 ) -> Encoded
     ensures { λ r. ⌜ Wrote (now (out .entry))
-        (unsigned (PREPARE client (number timestamp) (now (digest .entry))
+        (unsigned register (PREPARE client (number timestamp) (now (digest .entry))
         (unless (missing «proof_timestamp») (keptPrepared «proof_timestamp» (now («proof_digest» .entry)) «proof_count» (now («proof_entries» .entry))))
         (unless (missing «last_timestamp») (keptWritten «last_timestamp» «last_count» (now («last_entries» .entry))))))
         r (now (out .exit)) ⌝ }
@@ -111,11 +126,12 @@ pub fn write_prepare<'a>(
         proof_entries,
     );
     let d = put_written_unless_missing(out, c, last_timestamp, last_count, last_entries);
-    Encoded::Length(put_signature(out, d))
+    Encoded::Length(put_end(out, d, register))
 }
 
 pub fn write_write<'a>(
     out: &mut [u8],
+    register: RegisterId,
     client: ClientId,
     card: &'a [u8; CARD_ROOM],
     card_length: u8,
@@ -125,7 +141,7 @@ pub fn write_write<'a>(
     entries: &'a [u8; ENTRIES_ROOM],
 ) -> Encoded
     ensures { λ r. ⌜ Wrote (now (out .entry))
-        (unsigned (WRITE client (keptCard «card_length» (now (card .entry)))
+        (unsigned register (WRITE client (keptCard «card_length» (now (card .entry)))
         (keptPrepared timestamp (now (digest .entry)) «entry_count» (now (entries .entry)))))
         r (now (out .exit)) ⌝ }
 {
@@ -135,11 +151,12 @@ pub fn write_write<'a>(
     let a = put_head(out, WITH_CARD_AND_PROOF, 3, client.0);
     let b = put_card(out, a, card, card_length);
     let c = put_prepared(out, b, timestamp, digest, entry_count, entries);
-    Encoded::Length(put_signature(out, c))
+    Encoded::Length(put_end(out, c, register))
 }
 
 pub fn write_stamp<'a>(
     out: &mut [u8],
+    register: RegisterId,
     replica: ReplicaId,
     nonce: u64,
     timestamp: Timestamp,
@@ -149,7 +166,7 @@ pub fn write_stamp<'a>(
     client: ClientId,
 ) -> Encoded
     ensures { λ r. ⌜ Wrote (now (out .entry))
-        (unsigned (STAMP replica nonce
+        (unsigned register (STAMP replica nonce
         (unless (missing timestamp) (keptPrepared timestamp (now (digest .entry)) «entry_count» (now (entries .entry))))
         client))
         r (now (out .exit)) ⌝ }
@@ -161,58 +178,73 @@ pub fn write_stamp<'a>(
     let a = put_head(out, map, 5, replica.0);
     let b = put_nonce(out, a, nonce);
     let c = put_prepared_unless_missing(out, b, timestamp, digest, entry_count, entries);
-    Encoded::Length(put_addressed(out, c, client.0))
+    Encoded::Length(put_addressed(out, c, client.0, register))
 }
 
 // A PREPARED or WRITTEN without its signature: the bytes that the signature covers, in a proof's entry too.
 pub(super) fn put_prepared_body(
     out: &mut [u8],
+    register: RegisterId,
     replica: ReplicaId,
     timestamp: Timestamp,
     digest: &[u8; 32],
 ) -> usize
-    requires { ⌜ 41 ≤ length (now out) ⌝ }
-    ensures { λ r. ⌜ Put (now (out .entry)) 0 (body (PREPARED replica (number timestamp) (now (digest .entry)))) 41 r (now (out .exit)) ⌝ }
+    requires { ⌜ 42 ≤ length (now out) ⌝ }
+    ensures { λ r. ⌜ Put (now (out .entry)) 0 (body register (PREPARED replica (number timestamp) (now (digest .entry)))) 42 r (now (out .exit)) ⌝ }
 {
-    let behind = put_head(out, WITH_DIGEST, 6, replica.0);
-    put_timestamp_and_digest(out, behind, timestamp, digest)
+    let a = put_head(out, WITH_DIGEST, 6, replica.0);
+    let b = put_timestamp_and_digest(out, a, timestamp, digest);
+    put_register(out, b, register)
 }
 
-pub(super) fn put_written_body(out: &mut [u8], replica: ReplicaId, timestamp: Timestamp) -> usize
-    requires { ⌜ 9 ≤ length (now out) ⌝ }
-    ensures { λ r. ⌜ Put (now (out .entry)) 0 (body (WRITTEN replica (number timestamp))) 9 r (now (out .exit)) ⌝ }
+pub(super) fn put_written_body(
+    out: &mut [u8],
+    register: RegisterId,
+    replica: ReplicaId,
+    timestamp: Timestamp,
+) -> usize
+    requires { ⌜ 10 ≤ length (now out) ⌝ }
+    ensures { λ r. ⌜ Put (now (out .entry)) 0 (body register (WRITTEN replica (number timestamp))) 10 r (now (out .exit)) ⌝ }
 {
-    let behind = put_head(out, WITH_TIMESTAMP, 7, replica.0);
-    put_timestamp(out, behind, timestamp)
+    let a = put_head(out, WITH_TIMESTAMP, 7, replica.0);
+    let b = put_timestamp(out, a, timestamp);
+    put_register(out, b, register)
 }
 
 pub fn write_prepared(
     out: &mut [u8],
+    register: RegisterId,
     replica: ReplicaId,
     timestamp: Timestamp,
     digest: &[u8; DIGEST],
 ) -> Encoded
-    ensures { λ r. ⌜ Wrote (now (out .entry)) (unsigned (PREPARED replica (number timestamp) (now (digest .entry)))) r (now (out .exit)) ⌝ }
+    ensures { λ r. ⌜ Wrote (now (out .entry)) (unsigned register (PREPARED replica (number timestamp) (now (digest .entry)))) r (now (out .exit)) ⌝ }
 {
     if out.len() < LONGEST_MESSAGE {
         return Encoded::Refused(OUTPUT_TOO_SHORT);
     }
-    let behind = put_prepared_body(out, replica, timestamp, digest);
+    let behind = put_prepared_body(out, register, replica, timestamp, digest);
     Encoded::Length(put_signature(out, behind))
 }
 
-pub fn write_written(out: &mut [u8], replica: ReplicaId, timestamp: Timestamp) -> Encoded
-    ensures { λ r. ⌜ Wrote (now (out .entry)) (unsigned (WRITTEN replica (number timestamp))) r (now (out .exit)) ⌝ }
+pub fn write_written(
+    out: &mut [u8],
+    register: RegisterId,
+    replica: ReplicaId,
+    timestamp: Timestamp,
+) -> Encoded
+    ensures { λ r. ⌜ Wrote (now (out .entry)) (unsigned register (WRITTEN replica (number timestamp))) r (now (out .exit)) ⌝ }
 {
     if out.len() < LONGEST_MESSAGE {
         return Encoded::Refused(OUTPUT_TOO_SHORT);
     }
-    let behind = put_written_body(out, replica, timestamp);
+    let behind = put_written_body(out, register, replica, timestamp);
     Encoded::Length(put_signature(out, behind))
 }
 
 pub fn write_card<'a>(
     out: &mut [u8],
+    register: RegisterId,
     replica: ReplicaId,
     nonce: u64,
     card: &'a [u8; CARD_ROOM],
@@ -224,7 +256,7 @@ pub fn write_card<'a>(
     client: ClientId,
 ) -> Encoded
     ensures { λ r. ⌜ Wrote (now (out .entry))
-        (unsigned (CARD replica nonce (keptCard «card_length» (now (card .entry)))
+        (unsigned register (CARD replica nonce (keptCard «card_length» (now (card .entry)))
         (unless (missing timestamp) (keptPrepared timestamp (now (digest .entry)) «entry_count» (now (entries .entry))))
         client))
         r (now (out .exit)) ⌝ }
@@ -237,5 +269,5 @@ pub fn write_card<'a>(
     let b = put_nonce(out, a, nonce);
     let c = put_card(out, b, card, card_length);
     let d = put_prepared_unless_missing(out, c, timestamp, digest, entry_count, entries);
-    Encoded::Length(put_addressed(out, d, client.0))
+    Encoded::Length(put_addressed(out, d, client.0, register))
 }

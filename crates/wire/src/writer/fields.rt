@@ -4,6 +4,7 @@ use crate::layout::DIGEST;
 use crate::layout::LONGEST_CARD;
 use crate::layout::SIGNATURE;
 use crate::layout::TIMESTAMP;
+use base::party::RegisterId;
 use base::timestamp::Timestamp;
 ghost use mathlib.Core.Path.{_≡_};
 ghost use mathlib.Core.List.{[], _∷_, _++_};
@@ -119,13 +120,30 @@ pub(super) fn put_signature(out: &mut [u8], at: usize) -> usize
     put_bytes(out, at, &signature, SIGNATURE)
 }
 
-// The client addressed, and the signature behind it.
-pub(super) fn put_addressed(out: &mut [u8], at: usize, client: u8) -> usize
+// The register that the message is for.
+pub(super) fn put_register(out: &mut [u8], at: usize, register: RegisterId) -> usize
+    requires { ⌜ at < length (now out) ⌝ }
+    ensures { λ r. ⌜ Put (now (out .entry)) at (toBytes 1 (register .0)) 1 r (now (out .exit)) ⌝ }
+{
+    put_byte(out, at, register.0)
+}
+
+// The register, and the signature behind it.
+pub(super) fn put_end(out: &mut [u8], at: usize, register: RegisterId) -> usize
     requires { ⌜ at + 65 ≤ length (now out) ⌝ }
-    ensures { λ r. ⌜ Put (now (out .entry)) at (toBytes 1 client ++ blankSignature) 65 r (now (out .exit)) ⌝ }
+    ensures { λ r. ⌜ Put (now (out .entry)) at (toBytes 1 (register .0) ++ blankSignature) 65 r (now (out .exit)) ⌝ }
+{
+    let behind = put_register(out, at, register);
+    put_signature(out, behind)
+}
+
+// The client addressed, and what stands behind it.
+pub(super) fn put_addressed(out: &mut [u8], at: usize, client: u8, register: RegisterId) -> usize
+    requires { ⌜ at + 66 ≤ length (now out) ⌝ }
+    ensures { λ r. ⌜ Put (now (out .entry)) at (toBytes 1 client ++ (toBytes 1 (register .0) ++ blankSignature)) 66 r (now (out .exit)) ⌝ }
 {
     let behind = put_byte(out, at, client);
-    put_signature(out, behind)
+    put_end(out, behind, register)
 }
 
 // A card behind its length.

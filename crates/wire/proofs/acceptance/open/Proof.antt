@@ -6,6 +6,7 @@ use native.Mathlib.Omega.{arith}
 use borrow.Author.Tests.{eq-eqb, ne-eqb, eqb-true, not-true, not-false}
 use lib.Dec.{eqb, leb}
 use lib.ListN.{length, getD}
+use Rattle.base.specs.Party.{isRegister}
 use Rattle.base.specs.Outcome.{accepted, guard}
 use Rattle.base.proofs.Booleans.{and-true-both}
 use Rattle.base.proofs.Outcome.{guard-passes, guard-refuses}
@@ -38,32 +39,44 @@ told c = c .before .before .before
 may : (c : tie.After-may-send) → maySend (told c .before .fields .given .0 .0 .kind) (numbered (start (told c) .args .party) (told c .before .fields .given .0 .0 .sender)) ≡ c .may-send .result
 may c = sym (c .may-send .ensures)
 
+-- Test 20.
+abbrev asked : tie.After-is-register → tie.After-may-send
+asked c = c .before .before
+
+one : (c : tie.After-is-register) → isRegister (told (asked c) .before .fields .given .0 .0 .register) ≡ c .is-register .result
+one c = sym (c .is-register .ensures)
+
+abbrev told20 : tie.After-is-register → tie.After-known-told
+told20 c = told (asked c)
+
 -- Tests 7 and 8 are left.
-sent : (c : tie.Else2) → opened (start (told (c .before)) .args .party) (start (told (c .before)) .args .f) (start (told (c .before)) .args .bytes .now) (start (told (c .before)) .args .verdicts .now)
-    ≡ guard 7 (eqb (length (start (told (c .before)) .args .verdicts .now)) (signatureCount (start (told (c .before)) .args .bytes .now)) && all (λ v. leb v 1) (start (told (c .before)) .args .verdicts .now))
-    (guard 8 (ownGenuine (start (told (c .before)) .args .verdicts .now)) (accepted (told (c .before) .before .fields .given .0 .0)))
+sent : (c : tie.Else3) → opened (start (told20 (c .before)) .args .party) (start (told20 (c .before)) .args .f) (start (told20 (c .before)) .args .bytes .now) (start (told20 (c .before)) .args .verdicts .now)
+    ≡ guard 7 (eqb (length (start (told20 (c .before)) .args .verdicts .now)) (signatureCount (start (told20 (c .before)) .args .bytes .now)) && all (λ v. leb v 1) (start (told20 (c .before)) .args .verdicts .now))
+    (guard 8 (ownGenuine (start (told20 (c .before)) .args .verdicts .now)) (accepted (told20 (c .before) .before .fields .given .0 .0)))
 sent c =
-    let m = c .before in
+    let r = c .before in
+    let m = asked r in
     let k = told m in
     let a = start k .args in
     opened-read (a .party) (a .f) (a .bytes .now) (a .verdicts .now) (k .before .fields .given .0 .0) (known k)
     ∙ guard-passes 6 _ _ (ranged (m .before .before) ∙ not-false _ (m .before .if1 .left))
-    ∙ guard-passes 19 _ _ (may m ∙ not-false _ (c .if2 .left))
+    ∙ guard-passes 19 _ _ (may m ∙ not-false _ (r .before .if2 .left))
+    ∙ guard-passes 20 _ _ (one r ∙ not-false _ (c .if3 .left))
 
 -- Test 7.
 fits : (c : tie.After-verdicts-fit)
     → c .verdicts-fit .result
-    ≡ (eqb (length (start (told (c .before .before .before)) .args .verdicts .now)) (signatureCount (start (told (c .before .before .before)) .args .bytes .now)) && all (λ v. leb v 1) (start (told (c .before .before .before)) .args .verdicts .now))
+    ≡ (eqb (length (start (told20 (c .before .before .before)) .args .verdicts .now)) (signatureCount (start (told20 (c .before .before .before)) .args .bytes .now)) && all (λ v. leb v 1) (start (told20 (c .before .before .before)) .args .verdicts .now))
 fits c =
-    let k = told (c .before .before .before) in
+    let k = told20 (c .before .before .before) in
     rw (c .before .count-in .ensures, all-signatures (start k .args .bytes .now) (k .before .fields .given .0 .0) (at-places k)) at (c .verdicts-fit .ensures)
 
-some-verdict : (c : tie.Else3) → 1 ≤ length (start (told (c .before .before .before .before)) .args .verdicts .now)
+some-verdict : (c : tie.Else4) → 1 ≤ length (start (told20 (c .before .before .before .before)) .args .verdicts .now)
 some-verdict c =
-    let v = start (told (c .before .before .before .before)) .args .verdicts .now in
+    let v = start (told20 (c .before .before .before .before)) .args .verdicts .now in
     let b = c .before in
     let n = b .before .count-in .result in
-    let good : (eqb (length v) n && all (λ x. leb x 1) v) ≡ true = sym (b .verdicts-fit .ensures) ∙ not-false (b .verdicts-fit .result) (c .if3 .left) in
+    let good : (eqb (length v) n && all (λ x. leb x 1) v) ≡ true = sym (b .verdicts-fit .ensures) ∙ not-false (b .verdicts-fit .result) (c .if4 .left) in
     let size : length v ≡ n = eqb-true (length v) n (and-true-both (eqb (length v) n) (all (λ x. leb x 1) v) good .0) in
     omega (arith, b .before .count-in .ensures)
 
@@ -81,25 +94,38 @@ returns-2 c =
     rw (opened-read (a .party) (a .f) (a .bytes .now) (a .verdicts .now) (k .before .fields .given .0 .0) (known k), guard-passes 6 _ _ (ranged (m .before .before) ∙ not-false _ (m .before .if1 .left)), guard-refuses 19 _ _ (may m ∙ not-true _ (c .if2 .taken)))
 
 returns-3 : tie.Need-returns-3
-returns-3 c = rw (sent (c .before .before .before), guard-refuses 7 _ _ (sym (fits (c .before)) ∙ not-true _ (c .if3 .taken)))
-
-shared-slice-read-if4 : tie.Need-shared-slice-read-if4
-shared-slice-read-if4 c = let h = some-verdict (c .before) in omega arith
+returns-3 c =
+    let r = c .before in
+    let m = asked r in
+    let k = told m in
+    let a = start k .args in
+    rw (
+      opened-read (a .party) (a .f) (a .bytes .now) (a .verdicts .now) (k .before .fields .given .0 .0) (known k),
+      guard-passes 6 _ _ (ranged (m .before .before) ∙ not-false _ (m .before .if1 .left)),
+      guard-passes 19 _ _ (may m ∙ not-false _ (r .before .if2 .left)),
+      guard-refuses 20 _ _ (one r ∙ not-true _ (c .if3 .taken)),
+    )
 
 returns-4 : tie.Need-returns-4
-returns-4 c =
-    let e = c .before .before in
-    let v = start (told (e .before .before .before .before)) .args .verdicts .now in
-    rw (sent (e .before .before .before), guard-passes 7 _ _ (sym (fits (e .before)) ∙ not-false _ (e .if3 .left)), guard-refuses 8 _ _ (ne-eqb (getD v 0 0) 1 (c .if4 .taken)))
+returns-4 c = rw (sent (c .before .before .before), guard-refuses 7 _ _ (sym (fits (c .before)) ∙ not-true _ (c .if4 .taken)))
+
+shared-slice-read-if5 : tie.Need-shared-slice-read-if5
+shared-slice-read-if5 c = let h = some-verdict (c .before) in omega arith
 
 returns-5 : tie.Need-returns-5
 returns-5 c =
     let e = c .before .before in
-    let v = start (told (e .before .before .before .before)) .args .verdicts .now in
-    rw (sent (e .before .before .before), guard-passes 7 _ _ (sym (fits (e .before)) ∙ not-false _ (e .if3 .left)), guard-passes 8 _ _ (eq-eqb (getD v 0 0) 1 (c .if4 .left)))
+    let v = start (told20 (e .before .before .before .before)) .args .verdicts .now in
+    rw (sent (e .before .before .before), guard-passes 7 _ _ (sym (fits (e .before)) ∙ not-false _ (e .if4 .left)), guard-refuses 8 _ _ (ne-eqb (getD v 0 0) 1 (c .if5 .taken)))
 
 returns-6 : tie.Need-returns-6
-returns-6 c = let a = c .before .before .before .before .before .before .args in sym (opened-unread (a .party) (a .f) (a .bytes .now) (a .verdicts .now) (c .before .number .given .0 .0) (turned-down (reading (a .party) (a .bytes .now)) (c .before .before .before .read .result) (c .before .number .given .0 .0) (c .before .before .before .read .ensures) (c .before .number .given .1)))
+returns-6 c =
+    let e = c .before .before in
+    let v = start (told20 (e .before .before .before .before)) .args .verdicts .now in
+    rw (sent (e .before .before .before), guard-passes 7 _ _ (sym (fits (e .before)) ∙ not-false _ (e .if4 .left)), guard-passes 8 _ _ (eq-eqb (getD v 0 0) 1 (c .if5 .left)))
+
+returns-7 : tie.Need-returns-7
+returns-7 c = let a = c .before .before .before .before .before .before .args in sym (opened-unread (a .party) (a .f) (a .bytes .now) (a .verdicts .now) (c .before .number .given .0 .0) (turned-down (reading (a .party) (a .bytes .now)) (c .before .before .before .read .result) (c .before .number .given .0 .0) (c .before .before .before .read .ensures) (c .before .number .given .1)))
 
 pub open-spec : {M : Type 1} → statement M
 open-spec =
@@ -112,10 +138,12 @@ open-spec =
     (λ c κs. search needs)
     returns-2
     (λ c κs. search needs)
-    (λ c κs. search needs)
     returns-3
-    shared-slice-read-if4
+    (λ c κs. search needs)
+    (λ c κs. search needs)
     returns-4
-    (λ c. search needs)
+    shared-slice-read-if5
     returns-5
-    returns-6)
+    (λ c. search needs)
+    returns-6
+    returns-7)

@@ -38,7 +38,7 @@ add-t8 c =
     let here : f .before .places .given .0 .0 .card ≡ place s 5 = ap (λ (p : Places). p .card) (k .1) in
     let ends = k .0 .ends in
     let short = k .0 .short in
-    let up = place-rises s 5 9 (omega arith) in
+    let up = place-rises s 5 10 (omega arith) in
     rw here (omega arith)
 
 returns-3 : tie.Need-returns-3

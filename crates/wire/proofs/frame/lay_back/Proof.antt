@@ -33,8 +33,14 @@ at8 c = taken _ _ _ _ (c .before .before .before .take-field3 .ensures) (c .befo
 abbrev start4 : tie.After-known-told4 → tie.Start
 start4 c = start3 (c .before .before .before .before)
 
-at9 : (c : tie.After-known-told4) → (c .before .signature .given .0 .0 ≡ place (start4 c .args .bytes .now) 9) × (place (start4 c .args .bytes .now) 9 ≤ length (start4 c .args .bytes .now))
-at9 c = taken _ _ _ _ (c .before .before .before .take-field4 .ensures) (c .before .signature .given .1)
+at9 : (c : tie.After-known-told4) → (c .before .register .given .0 .0 ≡ place (start4 c .args .bytes .now) 9) × (place (start4 c .args .bytes .now) 9 ≤ length (start4 c .args .bytes .now))
+at9 c = taken _ _ _ _ (c .before .before .before .take-field4 .ensures) (c .before .register .given .1)
+
+abbrev start5 : tie.After-known-told5 → tie.Start
+start5 c = start4 (c .before .before .before .before)
+
+at10 : (c : tie.After-known-told5) → (c .before .signature .given .0 .0 ≡ place (start5 c .args .bytes .now) 10) × (place (start5 c .args .bytes .now) 10 ≤ length (start5 c .args .bytes .now))
+at10 c = taken _ _ _ _ (c .before .before .before .take-field5 .ensures) (c .before .signature .given .1)
 
 returns : tie.Need-returns
 returns c = cut _ 6 _ _ (omega arith) (c .before .before .take-field .ensures) (c .enum-told .given .1)
@@ -57,23 +63,34 @@ take-field-requires-4 c κs = let h = at8 c in let q = start3 c .pre in omega ar
 returns-4 : tie.Need-returns-4
 returns-4 c = cut _ 9 _ _ (omega arith) (c .before .before .take-field4 .ensures) (c .enum-told4 .given .1)
 
-sub-if1 : tie.Need-sub-if1
-sub-if1 c = let h = at9 c in omega arith
+take-field-requires-5 : tie.Need-take-field-requires-5
+take-field-requires-5 c κs = let h = at9 c in let q = start4 c .pre in omega arith
 
 returns-5 : tie.Need-returns-5
-returns-5 c =
-    let h = at9 (c .before) in
-    let s = start4 (c .before) .args .bytes .now in
-    sym (guard-refuses 4 _ _ (ne-eqb (place s 9 + 64) (length s) (λ e. c .if1 .taken (omega arith))))
+returns-5 c = cut _ 10 _ _ (omega arith) (c .before .before .take-field5 .ensures) (c .enum-told5 .given .1)
+
+sub-if1 : tie.Need-sub-if1
+sub-if1 c = let h = at10 c in omega arith
 
 returns-6 : tie.Need-returns-6
 returns-6 c =
-    let h = at9 (c .before) in
-    let b = start4 (c .before) in
+    let h = at10 (c .before) in
+    let s = start5 (c .before) .args .bytes .now in
+    sym (guard-refuses 4 _ _ (ne-eqb (place s 10 + 64) (length s) (λ e. c .if1 .taken (omega arith))))
+
+returns-7 : tie.Need-returns-7
+returns-7 c =
+    let c₁₀ = c .before in
+    let c₉ = c₁₀ .before .before .before .before in
+    let c₈ = c₉ .before .before .before .before in
+    let c₇ = c₈ .before .before .before .before in
+    let c₆ = c₇ .before .before .before .before in
+    let h = at10 c₁₀ in
+    let b = start5 c₁₀ in
     let s = b .args .bytes .now in
-    let ends : place s 9 + 64 ≡ length s = omega arith in
+    let ends : place s 10 + 64 ≡ length s = omega arith in
     let q = b .pre .1 in
-    ap accepted (placed s _ _ _ _ _ _ _ _ _ (b .pre .0) q (at6 (c .before .before .before .before .before .before .before .before .before .before .before .before .before) .0) (at7 (c .before .before .before .before .before .before .before .before .before) .0) (at8 (c .before .before .before .before .before) .0) (h .0)) ∙ sym (guard-passes 4 _ _ (eq-eqb _ _ ends))
+    ap accepted (placed s _ _ _ _ _ _ _ _ _ _ (b .pre .0) q (at6 c₆ .0) (at7 c₇ .0) (at8 c₈ .0) (at9 c₉ .0) (h .0)) ∙ sym (guard-passes 4 _ _ (eq-eqb _ _ ends))
 
 pub lay-back-spec : {M : Type 1} → statement M
 lay-back-spec =
@@ -95,6 +112,10 @@ lay-back-spec =
     (λ c. search needs)
     (λ c. search needs)
     returns-4
-    sub-if1
+    take-field-requires-5
+    (λ c. search needs)
+    (λ c. search needs)
     returns-5
-    returns-6)
+    sub-if1
+    returns-6
+    returns-7)

@@ -19,10 +19,13 @@ timestamp-in-requires c κs = let b = c .before .before in let k = known _ _ (b 
 byte-in-requires : tie.Need-byte-in-requires
 byte-in-requires c κs = let b = c .before .before .before in let k = known _ _ (b .pre) in rooms (b .args .bytes .now) (b .args .places) (k .0) (k .1) .addressed
 
+byte-in-requires-2 : tie.Need-byte-in-requires-2
+byte-in-requires-2 c κs = let b = c .before .before .before .before in let k = known _ _ (b .pre) in rooms (b .args .bytes .now) (b .args .places) (k .0) (k .1) .register
+
 returns : tie.Need-returns
 returns c =
-    let b = c .before .before .before .before .before .before in let k = known _ _ (b .pre) in
-    made (b .args .bytes .now) (b .args .places) _ _ _ (k .0) (k .1) (c .before .before .before .before .eight-in .ensures) (c .before .before .before .timestamp-in .ensures) (c .before .before .byte-in .ensures)
+    let b = c .before .before .before .before .before .before .before in let k = known _ _ (b .pre) in
+    made (b .args .bytes .now) (b .args .places) _ _ _ _ (k .0) (k .1) (c .before .before .before .before .before .eight-in .ensures) (c .before .before .before .before .timestamp-in .ensures) (c .before .before .before .byte-in .ensures) (c .before .before .byte-in2 .ensures)
 
 pub fields-spec : {M : Type 1} → statement M
 fields-spec =
@@ -31,6 +34,7 @@ fields-spec =
     eight-in-requires
     timestamp-in-requires
     byte-in-requires
-    (λ c. let h = both (c .before .before .before .before .before) in omega arith)
+    byte-in-requires-2
     (λ c. let h = both (c .before .before .before .before .before .before) in omega arith)
+    (λ c. let h = both (c .before .before .before .before .before .before .before) in omega arith)
     returns)

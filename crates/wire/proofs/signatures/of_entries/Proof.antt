@@ -12,7 +12,7 @@ returns c =
     let x = c .before .before in
     let e = x .before .before .before in
     let a = e .before .before .before .before .args in
-    found-so (ap accepted (of-first (a .prepared .now) (a .written .now) (a .i) (rw (← e .entry-count .ensures) (omega arith)))) (x .of-prepared .ensures)
+    found-so (ap accepted (of-first (a .register) (a .prepared .now) (a .written .now) (a .i) (rw (← e .entry-count .ensures) (omega arith)))) (x .of-prepared .ensures)
 
 returns-2 : tie.Need-returns-2
 returns-2 c =
@@ -20,7 +20,7 @@ returns-2 c =
     let w = x .before .before .before in
     let e = w .before .before in
     let a = e .before .before .before .before .args in
-    found-so (ap accepted (of-second (a .prepared .now) (a .written .now) (a .i) (rw (← e .entry-count .ensures) (omega arith)) (rw (← e .entry-count .ensures, ← w .written-entry-count .ensures) (omega arith))))
+    found-so (ap accepted (of-second (a .register) (a .prepared .now) (a .written .now) (a .i) (rw (← e .entry-count .ensures) (omega arith)) (rw (← e .entry-count .ensures, ← w .written-entry-count .ensures) (omega arith))))
     (rw (e .entry-count .ensures) at (x .of-written .ensures))
 
 returns-3 : tie.Need-returns-3
@@ -28,7 +28,7 @@ returns-3 c =
     let w = c .before in
     let e = w .before .before in
     let a = e .before .before .before .before .args in
-    no-answer (ap accepted (of-neither (a .prepared .now) (a .written .now) (a .i) (rw (← e .entry-count .ensures) (omega arith)) (rw (← e .entry-count .ensures, ← w .written-entry-count .ensures) (omega arith))))
+    no-answer (ap accepted (of-neither (a .register) (a .prepared .now) (a .written .now) (a .i) (rw (← e .entry-count .ensures) (omega arith)) (rw (← e .entry-count .ensures, ← w .written-entry-count .ensures) (omega arith))))
 
 pub of-entries-spec : {M : Type 1} → statement M
 of-entries-spec =

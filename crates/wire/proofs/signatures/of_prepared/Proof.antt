@@ -6,14 +6,14 @@ use borrow.Author.Needs.{needs}
 use Rattle.wire.proofs.signatures.of_prepared.Statement.{statement}
 use Rattle.wire.proofs.signatures.of_prepared.Tie as tie
 
-mul-t7 : tie.Need-mul-t7
-mul-t7 c = let a = c .before .before in let h = prepared-inside (a .args .proof .now) (a .args .i) (a .pre .0) (a .pre .1) in search needs
+mul-t8 : tie.Need-mul-t8
+mul-t8 c = let a = c .before .before in let h = prepared-inside (a .args .proof .now) (a .args .i) (a .pre .0) (a .pre .1) in search needs
 
-add-t8 : tie.Need-add-t8
-add-t8 c = let a = c .before .before in let h = prepared-inside (a .args .proof .now) (a .args .i) (a .pre .0) (a .pre .1) in search needs
+add-t9 : tie.Need-add-t9
+add-t9 c = let a = c .before .before in let h = prepared-inside (a .args .proof .now) (a .args .i) (a .pre .0) (a .pre .1) in search needs
 
-shared-slice-read-t10 : tie.Need-shared-slice-read-t10
-shared-slice-read-t10 c = let a = c .before .before .before in prepared-inside (a .args .proof .now) (a .args .i) (a .pre .0) (a .pre .1)
+shared-slice-read-t11 : tie.Need-shared-slice-read-t11
+shared-slice-read-t11 c = let a = c .before .before .before in prepared-inside (a .args .proof .now) (a .args .i) (a .pre .0) (a .pre .1)
 
 returns : tie.Need-returns
 returns c =
@@ -22,16 +22,16 @@ returns c =
     let d = t .before .before in
     let b = d .before in
     let a = b .before .before .before .before in
-    answers (ap accepted (prepared-at (a .args .proof .now) (a .args .i) (a .pre .0) (a .pre .1))) refl
+    answers (ap accepted (prepared-at (a .args .register) (a .args .proof .now) (a .args .i) (a .pre .0) (a .pre .1))) refl
     (rw (t .timestamp .ensures, d .digest-array .ensures, b .digest .ensures) at (y .put-prepared-body .ensures))
 
 pub of-prepared-spec : {M : Type 1} → statement M
 of-prepared-spec =
     tie.close
     (tie.spec
-    mul-t7
-    add-t8
-    shared-slice-read-t10
+    mul-t8
+    add-t9
+    shared-slice-read-t11
     (λ c κs. search needs)
     (λ c κs. search needs)
     (λ c κs. search needs)

@@ -9,10 +9,11 @@ use Rattle.wire.proofs.writer.put_written_body.Tie as tie
 
 returns : tie.Need-returns
 returns c =
-    let y = c .before .before in
+    let z = c .before .before in
+    let y = z .before .before .before .before in
     let x = y .before .before .before .before in
     let a = x .before .before .before .args in
-    restated 9 (written-body (a .replica) (number (a .timestamp))) (omega arith) (then (x .put-head .ensures) (y .put-timestamp .ensures))
+    restated 10 (written-body (a .register) (a .replica) (number (a .timestamp))) (omega arith) (then (then (x .put-head .ensures) (y .put-timestamp .ensures)) (z .put-register .ensures))
 
 pub put-written-body-spec : {M : Type 1} → statement M
-put-written-body-spec = tie.close (tie.spec (λ c κs. search needs) (λ c κs. search needs) (λ c. search needs) returns)
+put-written-body-spec = tie.close (tie.spec (λ c κs. search needs) (λ c κs. search needs) (λ c κs. search needs) (λ c. search needs) returns)

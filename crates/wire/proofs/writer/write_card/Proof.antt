@@ -20,9 +20,9 @@ returns-2 c =
     let c₁ = c₂ .before .before .before .before in
     let b = c₁ .before .before in
     let a = b .before .before .before .args in
-    let map = 295 + b .bit-unless-missing .result in
+    let map = 807 + b .bit-unless-missing .result in
     let proof = keptPrepared (a .timestamp) (a .digest .now) (a .entry-count) (a .entries .now) in
-    wrote (card-parts (a .replica) map (a .nonce) (keptCard (a .card-length) (a .card .now)) (missing (a .timestamp)) proof (a .client) (rw (b .bit-unless-missing .ensures .0))) (omega arith)
+    wrote (card-parts (a .register) (a .replica) map (a .nonce) (keptCard (a .card-length) (a .card .now)) (missing (a .timestamp)) proof (a .client) (rw (b .bit-unless-missing .ensures .0))) (omega arith)
     (then (then (then (then (c₁ .put-head .ensures) (c₂ .put-nonce .ensures)) (c₃ .put-card .ensures)) (c₄ .put-prepared-unless-missing .ensures)) (c₅ .put-addressed .ensures))
 
 pub write-card-spec : {M : Type 1} → statement M

@@ -21,14 +21,14 @@ returns-2 c =
     let c₁ = c₂ .before .before .before .before in
     let b = c₁ .before .before in
     let a = b .before .before .before .before .args in
-    let map = 27 + b .before .bit-unless-missing .result + b .bit-unless-missing2 .result in
+    let map = 539 + b .before .bit-unless-missing .result + b .bit-unless-missing2 .result in
     let proof = keptPrepared (a .proof-timestamp) (a .proof-digest .now) (a .proof-count) (a .proof-entries .now) in
     let last = keptWritten (a .last-timestamp) (a .last-count) (a .last-entries .now) in
     wrote
-    (prepare-parts (a .client) map (number (a .timestamp)) (a .digest .now) (missing (a .proof-timestamp)) (missing (a .last-timestamp)) proof last
+    (prepare-parts (a .register) (a .client) map (number (a .timestamp)) (a .digest .now) (missing (a .proof-timestamp)) (missing (a .last-timestamp)) proof last
     (rw (b .before .bit-unless-missing .ensures .0, b .bit-unless-missing2 .ensures .0)))
     (omega arith)
-    (then (then (then (then (c₁ .put-head .ensures) (c₂ .put-timestamp-and-digest .ensures)) (c₃ .put-prepared-unless-missing .ensures)) (c₄ .put-written-unless-missing .ensures)) (c₅ .put-signature .ensures))
+    (then (then (then (then (c₁ .put-head .ensures) (c₂ .put-timestamp-and-digest .ensures)) (c₃ .put-prepared-unless-missing .ensures)) (c₄ .put-written-unless-missing .ensures)) (c₅ .put-end .ensures))
 
 pub write-prepare-spec : {M : Type 1} → statement M
 write-prepare-spec =

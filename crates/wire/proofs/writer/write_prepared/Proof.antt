@@ -16,7 +16,7 @@ returns-2 c =
     let y = c .before .before in
     let x = y .before .before .before .before in
     let a = x .before .before .before .before .args in
-    wrote (body-unsigned (PREPARED (a .replica) (number (a .timestamp)) (a .digest .now))) (omega arith) (then (x .put-prepared-body .ensures) (y .put-signature .ensures))
+    wrote (body-unsigned (a .register) (PREPARED (a .replica) (number (a .timestamp)) (a .digest .now))) (omega arith) (then (x .put-prepared-body .ensures) (y .put-signature .ensures))
 
 pub write-prepared-spec : {M : Type 1} → statement M
 write-prepared-spec = tie.close (tie.spec returns (λ c κs. search needs) (λ c κs. search needs) (λ c. search needs) returns-2)

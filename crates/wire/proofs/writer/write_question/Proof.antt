@@ -15,8 +15,8 @@ returns-2 c =
     let c₂ = c₃ .before .before .before .before in
     let c₁ = c₂ .before .before .before .before in
     let a = c₁ .before .before .before .before .args in
-    wrote (question-parts (a .client) (a .kind) (a .nonce)) (omega arith)
-    (then (then (c₁ .put-head .ensures) (c₂ .put-nonce .ensures)) (c₃ .put-signature .ensures))
+    wrote (question-parts (a .register) (a .client) (a .kind) (a .nonce)) (omega arith)
+    (then (then (c₁ .put-head .ensures) (c₂ .put-nonce .ensures)) (c₃ .put-end .ensures))
 
 pub write-question-spec : {M : Type 1} → statement M
 write-question-spec =

@@ -5,7 +5,7 @@ use Rattle.wire.proofs.writer.write_read.Statement.{statement}
 use Rattle.wire.proofs.writer.write_read.Tie as tie
 
 returns : tie.Need-returns
-returns c = let a = c .before .before .before .before .before .args in rw (read-bytes (a .client) (a .nonce)) at (c .before .before .write-question .ensures)
+returns c = let a = c .before .before .before .before .before .args in rw (read-bytes (a .register) (a .client) (a .nonce)) at (c .before .before .write-question .ensures)
 
 pub write-read-spec : {M : Type 1} → statement M
 write-read-spec = tie.close (tie.spec (λ c κs. search needs) (λ c. search needs) returns)

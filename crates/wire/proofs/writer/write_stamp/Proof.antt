@@ -19,9 +19,9 @@ returns-2 c =
     let c₁ = c₂ .before .before .before .before in
     let b = c₁ .before .before in
     let a = b .before .before .before .args in
-    let map = 263 + b .bit-unless-missing .result in
+    let map = 775 + b .bit-unless-missing .result in
     let proof = keptPrepared (a .timestamp) (a .digest .now) (a .entry-count) (a .entries .now) in
-    wrote (stamp-parts (a .replica) map (a .nonce) (missing (a .timestamp)) proof (a .client) (rw (b .bit-unless-missing .ensures .0))) (omega arith)
+    wrote (stamp-parts (a .register) (a .replica) map (a .nonce) (missing (a .timestamp)) proof (a .client) (rw (b .bit-unless-missing .ensures .0))) (omega arith)
     (then (then (then (c₁ .put-head .ensures) (c₂ .put-nonce .ensures)) (c₃ .put-prepared-unless-missing .ensures)) (c₄ .put-addressed .ensures))
 
 pub write-stamp-spec : {M : Type 1} → statement M

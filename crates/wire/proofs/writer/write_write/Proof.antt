@@ -18,8 +18,8 @@ returns-2 c =
     let c₁ = c₂ .before .before .before .before in
     let a = c₁ .before .before .before .before .args in
     let proof = keptPrepared (a .timestamp) (a .digest .now) (a .entry-count) (a .entries .now) in
-    wrote (write-parts (a .client) (keptCard (a .card-length) (a .card .now)) proof) (omega arith)
-    (then (then (then (c₁ .put-head .ensures) (c₂ .put-card .ensures)) (c₃ .put-prepared .ensures)) (c₄ .put-signature .ensures))
+    wrote (write-parts (a .register) (a .client) (keptCard (a .card-length) (a .card .now)) proof) (omega arith)
+    (then (then (then (c₁ .put-head .ensures) (c₂ .put-card .ensures)) (c₃ .put-prepared .ensures)) (c₄ .put-end .ensures))
 
 pub write-write-spec : {M : Type 1} → statement M
 write-write-spec =

@@ -16,7 +16,7 @@ returns-2 c =
     let y = c .before .before in
     let x = y .before .before .before .before in
     let a = x .before .before .before .before .args in
-    wrote (body-unsigned (WRITTEN (a .replica) (number (a .timestamp)))) (omega arith) (then (x .put-written-body .ensures) (y .put-signature .ensures))
+    wrote (body-unsigned (a .register) (WRITTEN (a .replica) (number (a .timestamp)))) (omega arith) (then (x .put-written-body .ensures) (y .put-signature .ensures))
 
 pub write-written-spec : {M : Type 1} → statement M
 write-written-spec = tie.close (tie.spec returns (λ c κs. search needs) (λ c κs. search needs) (λ c. search needs) returns-2)

@@ -16,7 +16,7 @@ returns c =
     let y = x .before .before .before .before in
     let client = y .before .before .before .args .client in
     let small : client ≡ client % 256 = omega arith in
-    then {s = client % 256 ∷ []} (restated 1 (cc) (omega arith) (y .put-byte .ensures)) (x .put-signature .ensures)
+    then {s = client % 256 ∷ []} (restated 1 (cc) (omega arith) (y .put-byte .ensures)) (x .put-end .ensures)
 
 pub put-addressed-spec : {M : Type 1} → statement M
 put-addressed-spec =
