@@ -7,6 +7,8 @@ use lib.Dec.{leb}
 use lib.ListN.{length}
 use Rattle.base.specs.Outcome.{Outcome, refused}
 use Rattle.base.proofs.Outcome.{guard-passes, guard-refuses}
+use Rattle.base.specs.declared.party.RegisterId.{RegisterId}
+use Rattle.wire.specs.Decode.{registerIn}
 use Rattle.wire.specs.Message.{longest}
 use Rattle.protocol.specs.Client.{clientAnswers, beginWrite, beginRead, clientStep, beginWriteCall, beginReadCall, clientCall}
 use Rattle.protocol.specs.Replica.{replicaAnswers, withOutput, replicaStep, replicaCall}
@@ -26,24 +28,24 @@ module _ {A : Type 0} (old : List ℕ) (next : Outcome A) where
 
 module _ (replica : Replica) (bytes verdicts old : List ℕ) where
   -- A call whose output is long enough does what the step says.
-  pub replica-takes : longest ≤ length old → replicaCall replica bytes verdicts old ≡ replicaAnswers replica old (replicaStep replica bytes verdicts)
+  pub replica-takes : longest ≤ length old → replicaCall replica bytes verdicts old ≡ replicaAnswers (registerIn bytes) replica old (replicaStep replica bytes verdicts)
   unfolding replicaCall
-  replica-takes h = ap (replicaAnswers replica old) (long-output old (replicaStep replica bytes verdicts) h)
+  replica-takes h = ap (replicaAnswers (registerIn bytes) replica old) (long-output old (replicaStep replica bytes verdicts) h)
 
   pub replica-short : length old < longest → replicaCall replica bytes verdicts old ≡ record { answer = Refused 1; replica = replica; output = old }
   unfolding replicaCall
-  replica-short h = ap (replicaAnswers replica old) (short-output old (replicaStep replica bytes verdicts) h)
+  replica-short h = ap (replicaAnswers (registerIn bytes) replica old) (short-output old (replicaStep replica bytes verdicts) h)
 
 -- ---- A client, each of its three calls, and what a viewing client hears
 
 module _ (client : Client) (old : List ℕ) (long : longest ≤ length old) where
-  pub begin-write-takes : (card : List ℕ) → beginWriteCall client card old ≡ clientAnswers client old (beginWrite client card)
+  pub begin-write-takes : (register : RegisterId) (card : List ℕ) → beginWriteCall client register card old ≡ clientAnswers client old (beginWrite client register card)
   unfolding beginWriteCall
-  begin-write-takes card = ap (clientAnswers client old) (long-output old (beginWrite client card) long)
+  begin-write-takes register card = ap (clientAnswers client old) (long-output old (beginWrite client register card) long)
 
-  pub begin-read-takes : beginReadCall client old ≡ clientAnswers client old (beginRead client)
+  pub begin-read-takes : (register : RegisterId) → beginReadCall client register old ≡ clientAnswers client old (beginRead client register)
   unfolding beginReadCall
-  begin-read-takes = ap (clientAnswers client old) (long-output old (beginRead client) long)
+  begin-read-takes register = ap (clientAnswers client old) (long-output old (beginRead client register) long)
 
   pub client-step-takes : (bytes verdicts : List ℕ) → clientCall client bytes verdicts old ≡ clientAnswers client old (clientStep client bytes verdicts)
   unfolding clientCall

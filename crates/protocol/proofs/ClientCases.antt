@@ -5,39 +5,47 @@ use mathlib.Core.List.{List}
 use mathlib.Core.Option.{Option, some}
 use Prim.Native.Nat.{ℕ, _+_, _^_, _<_}
 use lib.Dec.{ltb}
-use Rattle.base.specs.Party.{isWriter, isReplica}
+use Rattle.base.specs.Party.{isWriter, isReplica, isRegister, registerPlace}
 use Rattle.base.specs.ReplicaSet.{empty, has, with, isQuorum}
 use Rattle.base.specs.Timestamp.{number, successor}
+use Rattle.base.specs.declared.party.RegisterId.{RegisterId}
 use Rattle.base.specs.declared.party.ReplicaId.{ReplicaId}
 use Rattle.base.specs.declared.replica_set.ReplicaSet.{ReplicaSet}
 use Rattle.base.specs.declared.timestamp.Timestamp.{Timestamp}
-use Rattle.wire.specs.Message.{Message, PREPARE, WRITE, STAMP, PREPARED, WRITTEN, CARD, Legal}
+use Rattle.wire.specs.Message.{Message, PREPARE, WRITE, STAMP, PREPARED, WRITTEN, CARD}
 use Rattle.wire.specs.Proof.{PreparedProof, WrittenProof, signerSet}
 use Rattle.wire.specs.Sha256.{sha256}
-use Rattle.protocol.specs.Client.{Answer, send, waits, done, ended, Turn, currentCard, bestOf, showedBy, AfterCards, afterCard}
+use Rattle.protocol.specs.Client.{Answer, send, waits, done, ended, Turn, currentCard, writtenAt, lastWritten, bestOf, showedBy, AfterCards, afterCard}
 use Rattle.protocol.specs.Viewer.{afterView}
 use Rattle.protocol.specs.Parts.{cardStands}
 use Rattle.protocol.specs.declared.client.Client.{Client}
 use Rattle.protocol.specs.declared.client.Phase.{Phase}
 use Rattle.protocol.specs.declared.client.Phase.the-variants.{Idle, Stamps, Prepareds, Writtens, Cards, WriteBack}
 use Rattle.protocol.proofs.Built.{Built}
-use Rattle.protocol.proofs.Fit.{ClientFits, TimestampFits}
+use Rattle.protocol.proofs.Fit.{ClientFits, TimestampFits, LegalMessage}
 use Rattle.wire.proofs.Passed.{Passed}
 use Rattle.wire.specs.Parts.{preparedTimestamp, preparedSigners}
 
--- What an operation's beginning does: it sends the question, with the next nonce.
-pub record Begun (before : Client) (question : Message) (phase : Phase) (card : List ℕ) (turn : Turn) : Type 0 where
+-- The written proofs of other registers than the operation's are as they were.
+abbrev pub OthersWritten : Client → Client → Type 0
+OthersWritten before after = (at : ℕ) → (at ≡ registerPlace (before .register) → ⊥) → writtenAt at after ≡ writtenAt at before
+
+-- What an operation's beginning does: it sends the question, with the next nonce, for the register that is named.
+pub record Begun (before : Client) (register : RegisterId) (question : Message) (phase : Phase) (card : List ℕ) (turn : Turn) : Type 0 where
+  pub registered : isRegister register ≡ true
   pub was-idle : before .phase ≡ Idle
   pub nonce-fits : before .«last_nonce» + 1 < 2 ^ 64
   pub sends : turn .answer ≡ send question
   pub same-f : turn .next .f ≡ before .f
   pub same-id : turn .next .id ≡ before .id
+  pub register-is : turn .next .register ≡ register
+  pub written-kept : turn .next .written ≡ before .written
   pub nonce : turn .next .«last_nonce» ≡ before .«last_nonce» + 1
   pub phase-is : turn .next .phase ≡ phase
   pub card-is : currentCard (turn .next) ≡ card
   pub no-signers : turn .next .signers ≡ empty
   pub fits : ClientFits (turn .next)
-  pub legal : Legal question
+  pub legal : LegalMessage question
 
 -- The answer and the phase that a step leaves.
 pub record Leaves (turn : Turn) (answer : Answer) (phase : Phase) : Type 0 where
@@ -71,7 +79,7 @@ pub data ClientCase (before : Client) (message : Message) (turn : Turn) : Type 0
       → message ≡ STAMP sender nonce proof (before .id) → before .phase ≡ Stamps nonce best counted → NewFrom before sender counted
       → isQuorum (before .f) (with counted sender) ≡ true → successor (bestOf best proof) (before .id) ≡ some next
       → currentCard (turn .next) ≡ currentCard before → turn .next .digest ≡ sha256 (currentCard before) → turn .next .signers ≡ empty
-      → preparedTimestamp shown ≡ number (bestOf best proof)
+      → preparedTimestamp shown ≡ number (bestOf best proof) → last ≡ lastWritten before
       → Leaves turn (send (PREPARE (before .id) (number next) (sha256 (currentCard before)) shown last)) (Prepareds next empty) → ClientCase before message turn
   stamps-ended : (sender : ReplicaId) (nonce : ℕ) (proof : Option PreparedProof) (best : Timestamp) (counted : ReplicaSet)
       → message ≡ STAMP sender nonce proof (before .id) → before .phase ≡ Stamps nonce best counted
@@ -122,7 +130,7 @@ pub data ClientCase (before : Client) (message : Message) (turn : Turn) : Type 0
 
 -- A message that a client sends is legal; what else it answers has no bytes.
 abbrev pub LegalAnswer : Answer → Type 0
-LegalAnswer (send message) = Legal message
+LegalAnswer (send message) = LegalMessage message
 LegalAnswer waits = Unit {0}
 LegalAnswer (done timestamp card signers) = Unit {0}
 LegalAnswer ended = Unit {0}
@@ -144,6 +152,8 @@ pub data Follows (before : Client) : AfterCards → Type 0 where
 pub record ClientFacts (before : Client) (verdicts : List ℕ) (message : Message) (turn : Turn) : Type 0 where
   pub same-f : turn .next .f ≡ before .f
   pub same-id : turn .next .id ≡ before .id
+  pub same-register : turn .next .register ≡ before .register
+  pub others-written : OthersWritten before (turn .next)
   pub same-nonce : turn .next .«last_nonce» ≡ before .«last_nonce»
   pub fits : ClientFits (turn .next)
   pub phase-fits : PhaseFits (turn .next .phase)

@@ -9,12 +9,13 @@ use lib.Dec.{ltb}
 use lib.ListN.{length}
 use Rattle.base.specs.BigEndian.{Bytes}
 use Rattle.base.specs.Outcome.{accepted}
-use Rattle.base.specs.Party.{isWriter}
+use Rattle.base.specs.Party.{isWriter, isRegister}
 use Rattle.base.specs.ReplicaSet.{empty}
 use Rattle.base.specs.Timestamp.{start}
+use Rattle.base.specs.declared.party.RegisterId.{RegisterId}
 use Rattle.base.proofs.Booleans.{and-true-both}
 use Rattle.wire.specs.Acceptance.{senderOf, inItsRange}
-use Rattle.wire.specs.Message.{Message, READ-STAMP, PREPARE, WRITE, READ, STAMP, PREPARED, WRITTEN, CARD, Fits, size, Legal, IsSignature}
+use Rattle.wire.specs.Message.{Message, READ-STAMP, PREPARE, WRITE, READ, STAMP, PREPARED, WRITTEN, CARD, Fits, size, IsSignature}
 use Rattle.protocol.specs.Client.{send, Turn, isIdle, mayBegin, beginning, beginWrite, beginRead, onReply}
 use Rattle.protocol.specs.Parts.{startCard}
 use Rattle.protocol.specs.Viewer.{onViewerReply}
@@ -26,7 +27,7 @@ use Rattle.protocol.proofs.ArrayLaws.{bytes-zeros, card-kept}
 use Rattle.wire.proofs.card.Digests.{card-short}
 use Rattle.protocol.proofs.ClientKept.{beginning-fits}
 use Rattle.protocol.proofs.ClientReplies.{stamp-facts, prepared-facts, written-facts, card-facts}
-use Rattle.protocol.proofs.Fit.{ClientFits}
+use Rattle.protocol.proofs.Fit.{ClientFits, LegalMessage}
 use Rattle.wire.proofs.Passed.{Passed}
 use Rattle.protocol.proofs.ClientCases.{Begun, PhaseFits, as-read, as-view, ClientFacts}
 
@@ -38,45 +39,50 @@ idle-phase (Writtens timestamp counted) e = let z : _≡_ {A = ℕ} 0 1 = cc in 
 idle-phase (Cards nonce best counted showed) e = let z : _≡_ {A = ℕ} 0 1 = cc in absurd (omega arith)
 idle-phase (WriteBack timestamp counted) e = let z : _≡_ {A = ℕ} 0 1 = cc in absurd (omega arith)
 
-begun : (before : Client) (question : Message) (phase : Phase) (card : List ℕ) → ClientFits before → mayBegin before ≡ true → Bytes card → length card ≤ 17
-    → (before .«last_nonce» + 1 < 2 ^ 64 → Legal question)
-    → Begun before question phase card (record { answer = send question; next = beginning (before .«last_nonce» + 1) phase card before })
-begun before question phase card fits may bytes short legal =
+begun : (before : Client) (register : RegisterId) (question : Message) (phase : Phase) (card : List ℕ) → ClientFits before → isRegister register ≡ true → mayBegin before ≡ true
+    → Bytes card → length card ≤ 17 → (before .«last_nonce» + 1 < 2 ^ 64 → LegalMessage question)
+    → Begun before register question phase card (record { answer = send question; next = beginning register (before .«last_nonce» + 1) phase card before })
+begun before register question phase card fits registered may bytes short legal =
     let both = and-true-both (isIdle (before .phase)) (ltb (before .«last_nonce» + 1) (2 ^ 64)) may in
     let small = ltb-true (before .«last_nonce» + 1) (2 ^ 64) (both .1) in
     record {
+      registered = registered;
       was-idle = idle-phase (before .phase) (both .0);
       nonce-fits = small;
       sends = refl;
       same-f = refl;
       same-id = refl;
+      register-is = refl;
+      written-kept = refl;
       nonce = refl;
       phase-is = refl;
       card-is = card-kept card short;
       no-signers = refl;
-      fits = beginning-fits (before .«last_nonce» + 1) phase card before small bytes fits;
+      fits = beginning-fits register (before .«last_nonce» + 1) phase card before small bytes fits;
       legal = legal small;
     }
 
-pub begins-write : (before : Client) (card : List ℕ) (turn : Turn) → ClientFits before → Bytes card → beginWrite before card ≡ accepted turn
-    → Begun before (READ-STAMP (before .id) (before .«last_nonce» + 1)) (Stamps (before .«last_nonce» + 1) start empty) card turn
-begins-write before card turn fits bytes e = outcome .holds turn e
+pub begins-write : (before : Client) (register : RegisterId) (card : List ℕ) (turn : Turn) → ClientFits before → Bytes card → beginWrite before register card ≡ accepted turn
+    → Begun before register (READ-STAMP (before .id) (before .«last_nonce» + 1)) (Stamps (before .«last_nonce» + 1) start empty) card turn
+begins-write before register card turn fits bytes e = outcome .holds turn e
   where
-    outcome : Accepts (Begun before (READ-STAMP (before .id) (before .«last_nonce» + 1)) (Stamps (before .«last_nonce» + 1) start empty) card) (beginWrite before card)
+    outcome : Accepts (Begun before register (READ-STAMP (before .id) (before .«last_nonce» + 1)) (Stamps (before .«last_nonce» + 1) start empty) card) (beginWrite before register card)
     outcome =
         unfold beginWrite Fits size in
-        by-guard 14 (λ is-card. by-guard 17 (λ may. by-value
-        (begun before _ _ card fits may bytes (card-short card is-card) (λ small. record { fits = (fits .id-fits, small); short = omega arith }))))
+        by-guard 20 (λ registered. by-guard 14 (λ is-card. by-guard 17 (λ may. by-value
+        (begun before register _ _ card fits registered may bytes (card-short card is-card)
+        (λ small any byte. record { register-fits = byte; fits = (fits .id-fits, small); short = omega arith })))))
 
-pub begins-read : (before : Client) (turn : Turn) → ClientFits before → beginRead before ≡ accepted turn
-    → Begun before (READ (before .id) (before .«last_nonce» + 1)) (Cards (before .«last_nonce» + 1) start empty empty) startCard turn
-begins-read before turn fits e = outcome .holds turn e
+pub begins-read : (before : Client) (register : RegisterId) (turn : Turn) → ClientFits before → beginRead before register ≡ accepted turn
+    → Begun before register (READ (before .id) (before .«last_nonce» + 1)) (Cards (before .«last_nonce» + 1) start empty empty) startCard turn
+begins-read before register turn fits e = outcome .holds turn e
   where
-    outcome : Accepts (Begun before (READ (before .id) (before .«last_nonce» + 1)) (Cards (before .«last_nonce» + 1) start empty empty) startCard) (beginRead before)
+    outcome : Accepts (Begun before register (READ (before .id) (before .«last_nonce» + 1)) (Cards (before .«last_nonce» + 1) start empty empty) startCard) (beginRead before register)
     outcome =
         unfold beginRead Fits size in
-        by-guard 17 (λ may. by-value
-        (begun before _ _ startCard fits may (bytes-zeros 2) (omega arith) (λ small. record { fits = (fits .id-fits, small); short = omega arith })))
+        by-guard 20 (λ registered. by-guard 17 (λ may. by-value
+        (begun before register _ _ startCard fits registered may (bytes-zeros 2) (omega arith)
+        (λ small any byte. record { register-fits = byte; fits = (fits .id-fits, small); short = omega arith }))))
 
 module _ (before : Client) (verdicts signature : List ℕ) (fits : ClientFits before) (phase-fits : PhaseFits (before .phase)) (signature-fits : IsSignature signature) where
   facts : (message : Message) → Fits message → inItsRange (before .f) (senderOf message) ≡ true → Passed (before .f) message verdicts → Accepts (ClientFacts before verdicts message) (onReply before signature message)

@@ -9,7 +9,7 @@ use borrow.Author.Tests.{eqb-true, not-true}
 use lib.Dec.{eqb}
 use lib.ListN.{length, replicate}
 use Rattle.base.specs.BigEndian.{Bytes}
-use Rattle.base.specs.Party.{isReplica, replicaCount}
+use Rattle.base.specs.Party.{isReplica, replicaCount, registerPlace}
 use Rattle.base.specs.ReplicaSet.{empty, has, with, isQuorum}
 use Rattle.base.specs.Same.{same}
 use Rattle.base.specs.Timestamp.{number, successor}
@@ -19,17 +19,19 @@ use Rattle.base.specs.declared.replica_set.ReplicaSet.{ReplicaSet}
 use Rattle.base.specs.declared.timestamp.Timestamp.{Timestamp}
 use Rattle.base.proofs.Booleans.{and-true-both}
 use Rattle.base.proofs.Range.{bounds}
+use Rattle.base.proofs.Registers.{place-below}
 use Rattle.base.proofs.Same.{same-equal}
 use Rattle.wire.specs.Card.{isCard}
-use Rattle.wire.specs.Message.{Message, PREPARE, WRITE, STAMP, PREPARED, WRITTEN, CARD, IsSignature, PreparedFits, WrittenFits, IfThere, Legal, Fits, size, writtenSize}
+use Rattle.wire.specs.Message.{Message, PREPARE, WRITE, STAMP, PREPARED, WRITTEN, CARD, IsSignature, PreparedFits, WrittenFits, IfThere, Fits, size, writtenSize}
 use Rattle.wire.specs.Proof.{PreparedProof, signerSet}
 use Rattle.wire.specs.Sha256.{sha256}
-use Rattle.protocol.specs.Client.{done, Turn, currentCard, bestProof, lastWritten, built, withSignature, withSignatures, withSigners, withPhase, withDigest, withLastWritten, enough, isNew, bestOf, showedBy, toPrepare, afterStamp, onStamp, afterPrepared, onPrepared, afterWritten, afterWriteBack, onWritten, AfterCards, afterCard, countCard, onCard}
+use Rattle.protocol.specs.Client.{done, Turn, currentCard, bestProof, writtenAt, writtenKept, lastWritten, built, withSignature, withSignatures, withSigners, withPhase, withDigest, withLastWritten, enough, isNew, bestOf, showedBy, toPrepare, afterStamp, onStamp, afterPrepared, onPrepared, afterWritten, afterWriteBack, onWritten, AfterCards, afterCard, countCard, onCard}
 use Rattle.protocol.specs.Viewer.{afterView}
 use Rattle.protocol.specs.Parts.{startCard, entriesKept, ifIssued, cardStands}
 use Rattle.protocol.specs.declared.client.Client.{Client}
 use Rattle.protocol.specs.declared.client.Phase.{Phase}
 use Rattle.protocol.specs.declared.client.Phase.the-variants.{Idle, Stamps, Prepareds, Writtens, Cards, WriteBack}
+use Rattle.protocol.specs.declared.client.Written.{Written}
 use Rattle.protocol.proofs.Accepts.{Accepts, by-value, by-refusal, by-guard, by-cases}
 use Rattle.protocol.proofs.ArrayLaws.{zeros-fit, card-in-bytes, card-in-short, entries-in-length, entries-in-fit, issued-there, issued-timestamp, issued-size}
 use Rattle.protocol.proofs.Built.{built as built-shape}
@@ -37,42 +39,50 @@ use Rattle.wire.proofs.card.Digests.{card-short}
 use Rattle.protocol.proofs.ClientArrays.{digest-fits, signature-put, built-fit, built-few, number-fits, best-fits, successor-fits}
 use Rattle.protocol.proofs.ClientCases.{Leaves, SameCard, NewFrom, betterCard, ClientCase, stamp-counted, stamps-enough, stamps-ended, prepared-counted, prepareds-enough, written-counted, writtens-enough, card-counted, cards-agree, cards-viewed, cards-differ, back-counted, back-enough, LegalAnswer, PhaseFits, Follows, as-read, as-view, ClientFacts}
 use Rattle.protocol.proofs.ClientKept.{Kept, itself-kept, phase-kept, digest-changed, signatures-changed, signers-changed, written-changed, Best, better-kept, better-card-kept}
-use Rattle.protocol.proofs.Fit.{Array, TimestampFits, ClientFits}
+use Rattle.protocol.proofs.Fit.{Array, TimestampFits, WrittenKeptFits, ClientFits, LegalMessage}
 use Rattle.wire.proofs.Passed.{Passed}
 
 -- ---- Messages that a client sends
 
+written-kept-fits : (written : Written) → WrittenKeptFits written → IfThere WrittenFits (writtenKept written)
+written-kept-fits written fits =
+    issued-there (number (written .timestamp)) _ WrittenFits
+    (number-fits (written .timestamp) (fits .timestamp-fits), entries-in-fit (written .entries) (written .«entry_count») (fits .entries-fit))
+
+written-kept-short : (written : Written) → writtenSize (writtenKept written) ≤ 721
+written-kept-short written = go (eqb (number (written .timestamp)) 0)
+  where
+    go : (b : Bool) → writtenSize (cond b none (some (record { timestamp = number (written .timestamp); entries = entriesKept (written .entries) (written .«entry_count») }))) ≤ 721
+    go true = omega arith
+    go false = omega (arith, entries-in-length (written .entries) (written .«entry_count»))
+
 module _ (client : Client) (fits : ClientFits client) where
   last-fits : IfThere WrittenFits (lastWritten client)
-  last-fits =
-      issued-there (number (client .written)) _ WrittenFits
-      (number-fits (client .written) (fits .written-fits), entries-in-fit (client .«written_entries») (client .«written_count») (fits .written-entries-fit))
+  last-fits = written-kept-fits (writtenAt (registerPlace (client .register)) client) (fits .written-fit (registerPlace (client .register)) (place-below (client .register)))
 
   last-short : writtenSize (lastWritten client) ≤ 721
-  last-short = go (eqb (number (client .written)) 0)
-    where
-      go : (b : Bool) → writtenSize (cond b none (some (record { timestamp = number (client .written); entries = entriesKept (client .«written_entries») (client .«written_count») }))) ≤ 721
-      go true = omega arith
-      go false = omega (arith, entries-in-length (client .«written_entries») (client .«written_count»))
+  last-short = written-kept-short (writtenAt (registerPlace (client .register)) client)
 
   module _ (best : Timestamp) (best-fit : TimestampFits best) where
     proof-fits : PreparedFits (bestProof client best)
     proof-fits = (number-fits best best-fit, fits .digest-fits, entries-in-fit (client .entries) (client .«entry_count») (fits .entries-fit))
 
     prepare-legal : (next : Timestamp) → TimestampFits next
-        → Legal (PREPARE (client .id) (number next) (sha256 (currentCard client)) (ifIssued (number best) (bestProof client best)) (lastWritten client))
+        → LegalMessage (PREPARE (client .id) (number next) (sha256 (currentCard client)) (ifIssued (number best) (bestProof client best)) (lastWritten client))
     unfolding Fits size
-    prepare-legal next next-fit =
+    prepare-legal next next-fit register small =
         record {
+          register-fits = small;
           fits = (fits .id-fits, number-fits next next-fit, digest-fits (currentCard client), issued-there (number best) (bestProof client best) PreparedFits proof-fits, last-fits);
           short = omega (arith, issued-size (number best) (bestProof client best), entries-in-length (client .entries) (client .«entry_count»), last-short);
         }
 
-  write-legal : (proof : PreparedProof) → PreparedFits proof → length (proof .entries) ≤ 11 → Legal (WRITE (client .id) (currentCard client) proof)
+  write-legal : (proof : PreparedProof) → PreparedFits proof → length (proof .entries) ≤ 11 → LegalMessage (WRITE (client .id) (currentCard client) proof)
   unfolding Fits size
-  write-legal proof h few =
+  write-legal proof h few register small =
       let short = card-in-short (client .card) (client .«card_length») in
       record {
+        register-fits = small;
         fits = (fits .id-fits, (omega arith, card-in-bytes (client .card) (client .«card_length») (fits .card-fits .1)), h);
         short = omega arith;
       }
@@ -104,6 +114,8 @@ module _ (before : Client) (verdicts : List ℕ) (message : Message) (passed : P
       record {
         same-f = kept .same-f;
         same-id = kept .same-id;
+        same-register = kept .same-register;
+        others-written = kept .others-written;
         same-nonce = kept .same-nonce;
         fits = kept .fits;
         phase-fits = phase-fits;
@@ -132,7 +144,7 @@ module _ (before : Client) (verdicts : List ℕ) (message : Message) (passed : P
         (prepare-legal client (after .kept .fits) (bestOf best proof) best-fit next next-fit)
         (stamps-enough sender nonce proof best counted next (ifIssued (number (bestOf best proof)) (bestProof client (bestOf best proof))) (lastWritten client)
         is-message at new quorum (rw (← after .kept .same-id) e) (after .card-is) (ap sha256 (after .card-is)) refl
-        (issued-timestamp (number (bestOf best proof)) (bestProof client (bestOf best proof)) refl)
+        (issued-timestamp (number (bestOf best proof)) (bestProof client (bestOf best proof)) refl) (after .last-is)
         (record { answer-is = cc; phase-is = refl })))
 
     after-stamp : Accepts (ClientFacts before verdicts message) (afterStamp nonce (bestOf best proof) (with counted sender) client)

@@ -9,9 +9,11 @@ use borrow.Author.Tests.{eq-eqb, ne-eqb, le-leb, lt-ltb, le-ltb}
 use lib.Dec.{leb}
 use Rattle.base.specs.BigEndian.{fromBytes}
 use Rattle.base.specs.Outcome.{Outcome, accepted, refused, guard, _>>=_}
+use Rattle.base.specs.Party.{isRegister}
 use Rattle.base.specs.Range.{within}
 use Rattle.base.specs.Timestamp.{number, ofNumber, successor}
 use Rattle.base.specs.declared.party.ClientId.{ClientId}
+use Rattle.base.specs.declared.party.RegisterId.{RegisterId}
 use Rattle.base.specs.declared.timestamp.Timestamp.{Timestamp}
 use Rattle.base.proofs.Timestamps.{ofNumber-number}
 use Rattle.wire.specs.Card.{table, readFields, goodCardMap, readCard}
@@ -46,26 +48,26 @@ module _ (client : ClientId) (timestamp : ℕ) (digest : List ℕ) (last : Optio
   unfolding afterPrepare guard
   prepare-refused e t = rw (e, t) refl
 
-prepare-tested : (replica : Replica) (verdicts : List ℕ) (client : ClientId) (timestamp : ℕ) (digest : List ℕ) (proof : Option PreparedProof) (last : Option WrittenProof)
-    (after : Outcome Slots) → Passes replica verdicts (PREPARE client timestamp digest proof last) → isOwn client last ≡ true
+prepare-tested : (replica : Replica) (register : RegisterId) (verdicts : List ℕ) (client : ClientId) (timestamp : ℕ) (digest : List ℕ) (proof : Option PreparedProof) (last : Option WrittenProof)
+    (after : Outcome Slots) → Passes replica register verdicts (PREPARE client timestamp digest proof last) → isOwn client last ≡ true
     → isTimestamp timestamp (successor (ofNumber (preparedTimestamp proof)) client) ≡ true → afterPrepare client timestamp digest last (replica .register .slots) ≡ after
-    → handed replica verdicts (PREPARE client timestamp digest proof last)
+    → handed replica register verdicts (PREPARE client timestamp digest proof last)
     ≡ (after >>= λ slots. answering (PREPARED (replica .id) timestamp digest) (withSlots replica slots))
 unfolding onRequest guard
-prepare-tested replica verdicts client timestamp digest proof last after passed own next e = rw (passed, own, next, e)
+prepare-tested replica register verdicts client timestamp digest proof last after passed own next e = rw (passed, own, next, e)
 
-write-tested : (replica : Replica) (verdicts : List ℕ) (client : ClientId) (card : List ℕ) (proof : PreparedProof)
-    → Passes replica verdicts (WRITE client card proof) → cardStands card (some proof) ≡ true
-    → handed replica verdicts (WRITE client card proof) ≡ answering (WRITTEN (replica .id) (proof .timestamp)) (withHeld replica (afterWrite card proof (replica .register .held)))
+write-tested : (replica : Replica) (register : RegisterId) (verdicts : List ℕ) (client : ClientId) (card : List ℕ) (proof : PreparedProof)
+    → Passes replica register verdicts (WRITE client card proof) → cardStands card (some proof) ≡ true
+    → handed replica register verdicts (WRITE client card proof) ≡ answering (WRITTEN (replica .id) (proof .timestamp)) (withHeld replica (afterWrite card proof (replica .register .held)))
 unfolding onRequest guard
-write-tested replica verdicts client card proof passed stands = rw (passed, stands)
+write-tested replica register verdicts client card proof passed stands = rw (passed, stands)
 
 -- ---- The slot 1.2 of client 2
 
-first-passed : (replica : Replica) (digest : List ℕ) → Passes replica oneGenuine (first digest)
+first-passed : (replica : Replica) (register : RegisterId) (digest : List ℕ) → isRegister register ≡ true → Passes replica register oneGenuine (first digest)
 unfolding oneEach all entriesOf within
-first-passed replica digest =
-    passed-admits (replica .f) oneGenuine (first digest) refl refl
+first-passed replica register digest registered =
+    passed-admits (replica .f) oneGenuine register (first digest) refl refl registered
     (record {
       one-each = refl;
       own = refl;
@@ -77,35 +79,35 @@ first-passed replica digest =
       written-issued = refl;
     })
 
-first-answered : (replica : Replica) (digest : List ℕ) (after : Outcome Slots) → afterPrepare two 1·2 digest none (replica .register .slots) ≡ after
-    → handed replica oneGenuine (first digest) ≡ (after >>= λ slots. answering (PREPARED (replica .id) 1·2 digest) (withSlots replica slots))
+first-answered : (replica : Replica) (register : RegisterId) (digest : List ℕ) (after : Outcome Slots) → isRegister register ≡ true → afterPrepare two 1·2 digest none (replica .register .slots) ≡ after
+    → handed replica register oneGenuine (first digest) ≡ (after >>= λ slots. answering (PREPARED (replica .id) 1·2 digest) (withSlots replica slots))
 unfolding within
-first-answered replica digest after e = prepare-tested replica oneGenuine two 1·2 digest none none after (first-passed replica digest) refl refl e
+first-answered replica register digest after registered e = prepare-tested replica register oneGenuine two 1·2 digest none none after (first-passed replica register digest registered) refl refl e
 
-module _ (replica : Replica) (a : List ℕ) (holds : SlotHolds (replica .register .slots) a) where
-  again : WrittenClientFits replica → handed replica oneGenuine (first a) ≡ answering (PREPARED (replica .id) 1·2 a) replica
+module _ (replica : Replica) (register : RegisterId) (registered : isRegister register ≡ true) (a : List ℕ) (holds : SlotHolds (replica .register .slots) a) where
+  again : WrittenClientFits replica → handed replica register oneGenuine (first a) ≡ answering (PREPARED (replica .id) 1·2 a) replica
   again fits =
       let old = replica .register .slots in
       let is : slotIs two 1·2 a old ≡ true = rw (eq-eqb (slotTimestamp old two) 1·2 (holds .timestamp), holds .digest-is) (same-itself a) in
-      first-answered replica a (accepted (withWritten (number (old .written)) old)) (prepare-again two 1·2 a none old is)
+      first-answered replica register a (accepted (withWritten (number (old .written)) old)) registered (prepare-again two 1·2 a none old is)
       ∙ ap (λ (written : Timestamp). answering (PREPARED (replica .id) 1·2 a) (withSlots replica (written-at written)))
       (ofNumber-number (old .written) fits)
     where
       written-at : Timestamp → Slots
       written-at written = record { counts = replica .register .slots .counts; digests = replica .register .slots .digests; written = written }
 
-  other-refused : (b : List ℕ) → (a ≡ b → ⊥) → handed replica oneGenuine (first b) ≡ refused 15
+  other-refused : (b : List ℕ) → (a ≡ b → ⊥) → handed replica register oneGenuine (first b) ≡ refused 15
   other-refused b apart =
       let old = replica .register .slots in
       let stands = holds .timestamp in
       let is : slotIs two 1·2 b old ≡ false = rw (eq-eqb (slotTimestamp old two) 1·2 stands, holds .digest-is) (same-differ a b apart) in
       let takes : slotTakes two 1·2 (number (old .written)) old ≡ false =
       rw (ne-eqb (slotCount old two) 0 (omega arith), le-ltb (slotTimestamp old two) 1·2 (omega arith)) (and-false (leb (slotTimestamp old two) (number (old .written)))) in
-      first-answered replica b (refused 15) (prepare-refused two 1·2 b none old is takes)
+      first-answered replica register b (refused 15) registered (prepare-refused two 1·2 b none old is takes)
 
   next-taken : Closed (replica .register .slots) → (digest : List ℕ) (proof : PreparedProof) (last : Option WrittenProof) (verdicts : List ℕ) → proof .timestamp / 256 ≡ 1
-      → Passes replica verdicts (PREPARE two 2·2 digest (some proof) last) → isOwn two last ≡ true
-      → handed replica verdicts (PREPARE two 2·2 digest (some proof) last)
+      → Passes replica register verdicts (PREPARE two 2·2 digest (some proof) last) → isOwn two last ≡ true
+      → handed replica register verdicts (PREPARE two 2·2 digest (some proof) last)
       ≡ answering (PREPARED (replica .id) 2·2 digest) (withSlots replica (withWritten (raised last (replica .register .slots)) (withSlot two 2·2 digest (replica .register .slots))))
   unfolding within
   next-taken closed digest proof last verdicts count passed own =
@@ -116,7 +118,7 @@ module _ (replica : Replica) (a : List ℕ) (holds : SlotHolds (replica .registe
       let is : slotIs two 2·2 digest old ≡ false = rw (ne-eqb (slotTimestamp old two) 2·2 (omega arith)) refl in
       let takes : slotTakes two 2·2 written old ≡ true =
       rw (ne-eqb (slotCount old two) 0 (omega arith), le-leb (slotTimestamp old two) written (omega arith), lt-ltb (slotTimestamp old two) 2·2 (omega arith)) refl in
-      prepare-tested replica verdicts two 2·2 digest (some proof) last (accepted (withWritten written (withSlot two 2·2 digest old))) passed own (rw count refl)
+      prepare-tested replica register verdicts two 2·2 digest (some proof) last (accepted (withWritten written (withSlot two 2·2 digest old))) passed own (rw count refl)
       (prepare-new two 2·2 digest last old is takes)
 
 held-kept : (card : List ℕ) (proof : PreparedProof) (held : Held) → proof .timestamp ≡ heldTimestamp held → afterWrite card proof held ≡ held
@@ -135,9 +137,9 @@ examples =
       F = refl;
       G = refl;
       H = (refl, refl);
-      I = λ replica a b apart fits holds is-open. (again replica a holds fits, other-refused replica a holds b apart);
-      J = λ replica a b apart holds closed. (next-taken replica a holds closed, other-refused replica a holds b apart);
-      K = λ replica client card proof verdicts passed stands held.
-          write-tested replica verdicts client card proof passed stands
+      I = λ replica register a b registered apart fits holds is-open. (again replica register registered a holds fits, other-refused replica register registered a holds b apart);
+      J = λ replica register a b registered apart holds closed. (next-taken replica register registered a holds closed, other-refused replica register registered a holds b apart);
+      K = λ replica register client card proof verdicts passed stands held.
+          write-tested replica register verdicts client card proof passed stands
           ∙ ap (λ (held : Held). answering (WRITTEN (replica .id) (proof .timestamp)) (withHeld replica held)) (held-kept card proof (replica .register .held) held);
     }

@@ -4,9 +4,12 @@ use mathlib.Core.List.{List}
 use Prim.Native.Nat.{ℕ, _^_, _<_}
 use lib.ListN.{length, getD}
 use Rattle.base.specs.BigEndian.{Bytes}
+use Rattle.base.specs.declared.party.RegisterId.{RegisterId}
 use Rattle.base.specs.declared.timestamp.Timestamp.{Timestamp}
-use Rattle.wire.specs.Message.{IsDigest}
+use Rattle.wire.specs.Message.{Message, IsDigest, Legal}
+use Rattle.protocol.specs.Client.{writtenAt}
 use Rattle.protocol.specs.declared.client.Client.{Client}
+use Rattle.protocol.specs.declared.client.Written.{Written}
 use Rattle.protocol.specs.declared.replica.Held.{Held}
 use Rattle.protocol.specs.declared.replica.Replica.{Replica}
 use Rattle.protocol.specs.declared.replica.Slots.{Slots}
@@ -35,6 +38,11 @@ pub record ReplicaFits (replica : Replica) : Type 0 where
   pub slots-fit : SlotsFit (replica .register .slots)
   pub held-fits : HeldFits (replica .register .held)
 
+-- A written proof as it is kept.
+pub record WrittenKeptFits (written : Written) : Type 0 where
+  pub timestamp-fits : TimestampFits (written .timestamp)
+  pub entries-fit : Array 715 (written .entries)
+
 pub record ClientFits (client : Client) : Type 0 where
   pub id-fits : client .id .0 < 256
   pub nonce-fits : client .«last_nonce» < 2 ^ 64
@@ -42,5 +50,9 @@ pub record ClientFits (client : Client) : Type 0 where
   pub digest-fits : IsDigest (client .digest)
   pub entries-fit : Array 715 (client .entries)
   pub signatures-fit : Array 1024 (client .signatures)
-  pub written-fits : TimestampFits (client .written)
-  pub written-entries-fit : Array 715 (client .«written_entries»)
+  pub written-long : length (client .written) ≡ 16
+  pub written-fit : (at : ℕ) → at < 16 → WrittenKeptFits (writtenAt at client)
+
+-- A message that is legal whatever register it is for.
+abbrev pub LegalMessage : Message → Type 0
+LegalMessage message = (register : RegisterId) → register .0 < 256 → Legal register message

@@ -1,5 +1,6 @@
 pub mod Accepts
 pub mod ArrayLaws
+pub mod BankFacts
 pub mod Built
 pub mod Calls
 pub mod ClientArrays
@@ -9,5 +10,8 @@ pub mod ClientKept
 pub mod ClientReplies
 pub mod Examples
 pub mod Fit
+pub mod LastWritten
 pub mod OperationMessages
+pub mod RegisterByte
 pub mod ReplicaFacts
+pub mod Towards

@@ -10,6 +10,7 @@ use lib.Dec.{leb}
 use Rattle.base.specs.Outcome.{Outcome, accepted, refused}
 use Rattle.base.specs.ReplicaSet.{with}
 use Rattle.base.specs.declared.party.ClientId.{ClientId}
+use Rattle.base.specs.declared.party.RegisterId.{RegisterId}
 use Rattle.base.specs.declared.party.ReplicaId.{ReplicaId}
 use Rattle.base.specs.declared.replica_set.ReplicaSet.{ReplicaSet}
 use Rattle.base.specs.declared.timestamp.Timestamp.{Timestamp}
@@ -18,8 +19,6 @@ use Rattle.wire.specs.Layout.{signature}
 use Rattle.wire.specs.Message.{Message, READ-STAMP, PREPARE, WRITE, READ, STAMP, PREPARED, WRITTEN, CARD}
 use Rattle.wire.specs.Proof.{PreparedProof}
 use Rattle.wire.specs.Writing.{roomy}
-use Rattle.wire.specs.declared.message.Party.the-variants.{Client as AtClient}
-use Rattle.wire.proofs.Admitted.{admitted-then}
 use Rattle.protocol.specs.Client.{Answer, send, waits, done, ended, Turn, answered, clientAnswers, enough, keepBetterCard, beginWrite, beginRead, toPrepare, afterStamp, onStamp, afterPrepared, onPrepared, afterWritten, afterWriteBack, onWritten, afterCard, countCard, onCard, onReply, clientStep, beginWriteCall, beginReadCall, clientCall}
 use Rattle.protocol.specs.Viewer.{afterView, onViewerReply, viewerStep, viewerCall}
 use Rattle.protocol.specs.OperationMessages.{Call, begins-write, begins-read, hears, sentBy, unlessBegun, Hearing, sentAfter, sentIn, OperationMessages}
@@ -29,6 +28,7 @@ use Rattle.protocol.specs.declared.client.ClientAnswer.the-variants.{Sen
 use Rattle.protocol.specs.declared.client.Phase.{Phase}
 use Rattle.protocol.specs.declared.client.Phase.the-variants.{Idle, Stamps, Prepareds, Writtens, Cards, WriteBack}
 use Rattle.protocol.proofs.Accepts.{Accepts, by-value, by-refusal, by-guard, by-cases}
+use Rattle.protocol.proofs.Towards.{client-takes, viewer-takes}
 
 -- The messages that an operation may still send, by its phase.
 abbrev remaining : Phase → ℕ
@@ -146,22 +146,16 @@ on-reply client own (WRITE sender card proof) = by-refusal
 on-reply client own (READ sender nonce) = by-refusal
 
 step-sends : (client : Client) (bytes verdicts : List ℕ) → Accepts (AtMost (remaining (client .phase))) (clientStep client bytes verdicts)
-unfolding clientStep
-step-sends client bytes verdicts =
-    record {
-      holds = λ turn e.
-          let taken = admitted-then AtClient (client .f) bytes verdicts (onReply client (signature bytes)) turn e in
-          on-reply client (signature bytes) (taken .0) .holds turn (taken .2);
-    }
+step-sends client bytes verdicts = record { holds = λ turn e. let taken = client-takes client bytes verdicts turn e in on-reply client (signature bytes) (taken .0) .holds turn (taken .2) }
 
 -- A beginning sends its question.
-write-begins : (client : Client) (card : List ℕ) → Accepts (AtMost 3) (beginWrite client card)
+write-begins : (client : Client) (register : RegisterId) (card : List ℕ) → Accepts (AtMost 3) (beginWrite client register card)
 unfolding beginWrite
-write-begins client card = by-guard 14 (λ good. by-guard 17 (λ may. at-most (omega arith)))
+write-begins client register card = by-guard 20 (λ registered. by-guard 14 (λ good. by-guard 17 (λ may. at-most (omega arith))))
 
-read-begins : (client : Client) → Accepts (AtMost 2) (beginRead client)
+read-begins : (client : Client) (register : RegisterId) → Accepts (AtMost 2) (beginRead client register)
 unfolding beginRead
-read-begins client = by-guard 17 (λ may. at-most (omega arith))
+read-begins client register = by-guard 20 (λ registered. by-guard 17 (λ may. at-most (omega arith)))
 
 -- ---- One call, refused or not
 
@@ -207,8 +201,10 @@ module _ (client : Client) (old : List ℕ) (most : ℕ) where
 after-sends : (client : Client) (calls : List Call) → sentAfter clientCall client calls ≤ remaining (client .phase)
 unfolding sentAfter beginWriteCall beginReadCall clientCall
 after-sends client [] = omega arith
-after-sends client (begins-write card old ∷ calls) = begins-again client old (remaining (client .phase)) clientCall (withOutput old (beginWrite client card)) calls (after-sends client calls)
-after-sends client (begins-read old ∷ calls) = begins-again client old (remaining (client .phase)) clientCall (withOutput old (beginRead client)) calls (after-sends client calls)
+after-sends client (begins-write register card old ∷ calls) =
+    begins-again client old (remaining (client .phase)) clientCall (withOutput old (beginWrite client register card)) calls (after-sends client calls)
+after-sends client (begins-read register old ∷ calls) =
+    begins-again client old (remaining (client .phase)) clientCall (withOutput old (beginRead client register)) calls (after-sends client calls)
 after-sends client (hears bytes verdicts old ∷ calls) =
     let step = clientStep client bytes verdicts in
     omega (
@@ -217,23 +213,23 @@ after-sends client (hears bytes verdicts old ∷ calls) =
       after-sends (clientAnswers client old (withOutput old step) .client) calls,
     )
 
-write-sends : (client : Client) (card old : List ℕ) (calls : List Call) → sentIn clientCall (beginWriteCall client card old) calls ≤ 3
+write-sends : (client : Client) (register : RegisterId) (card old : List ℕ) (calls : List Call) → sentIn clientCall (beginWriteCall client register card old) calls ≤ 3
 unfolding beginWriteCall
-write-sends client card old calls =
+write-sends client register card old calls =
     let low = phase-low (client .phase) in
     omega (
       arith,
-      call-sends client old 3 (beginWrite client card) (omega arith) (write-begins client card),
-      after-sends (clientAnswers client old (withOutput old (beginWrite client card)) .client) calls,
+      call-sends client old 3 (beginWrite client register card) (omega arith) (write-begins client register card),
+      after-sends (clientAnswers client old (withOutput old (beginWrite client register card)) .client) calls,
     )
 
-read-sends : (client : Client) (old : List ℕ) (calls : List Call) → sentIn clientCall (beginReadCall client old) calls ≤ 2
+read-sends : (client : Client) (register : RegisterId) (old : List ℕ) (calls : List Call) → sentIn clientCall (beginReadCall client register old) calls ≤ 2
 unfolding beginReadCall
-read-sends client old calls =
+read-sends client register old calls =
     omega (
       arith,
-      call-sends client old 2 (beginRead client) (phase-low (client .phase)) (read-begins client),
-      after-sends (clientAnswers client old (withOutput old (beginRead client)) .client) calls,
+      call-sends client old 2 (beginRead client register) (phase-low (client .phase)) (read-begins client register),
+      after-sends (clientAnswers client old (withOutput old (beginRead client register)) .client) calls,
     )
 
 -- ---- A view: nothing after its READ
@@ -264,7 +260,7 @@ reply-quiet client (WRITE sender card proof) = by-refusal
 reply-quiet client (READ sender nonce) = by-refusal
 
 hearing-quiet : (client : Client) (bytes verdicts old : List ℕ) → sentBy (viewerCall client bytes verdicts old .answer) ≡ 0
-unfolding viewerCall viewerStep
+unfolding viewerCall
 hearing-quiet client bytes verdicts old = go (withOutput old (viewerStep client bytes verdicts)) refl
   where
     answers : (answer : Answer) (next : Client) → sends answer ≡ 0 → sentBy (answered old answer next .answer) ≡ 0
@@ -276,18 +272,19 @@ hearing-quiet client bytes verdicts old = go (withOutput old (viewerStep client 
     go : (out : Outcome Turn) → withOutput old (viewerStep client bytes verdicts) ≡ out → sentBy (clientAnswers client old out .answer) ≡ 0
     go (refused number) e = refl
     go (accepted turn) e =
-        let taken = admitted-then AtClient (client .f) bytes verdicts (onViewerReply client) turn (guard-accepted 1 (roomy old) (viewerStep client bytes verdicts) turn e .1) in
+        let taken = viewer-takes client bytes verdicts turn (guard-accepted 1 (roomy old) (viewerStep client bytes verdicts) turn e .1) in
         answers (turn .answer) (turn .next) (reply-quiet client (taken .0) .holds turn (taken .2) .sends-none)
 
 after-view : (client : Client) (calls : List Call) → sentAfter viewerCall client calls ≤ 0
 unfolding sentAfter beginWriteCall beginReadCall
 after-view client [] = omega arith
-after-view client (begins-write card old ∷ calls) = begins-again client old 0 viewerCall (withOutput old (beginWrite client card)) calls (after-view client calls)
-after-view client (begins-read old ∷ calls) = begins-again client old 0 viewerCall (withOutput old (beginRead client)) calls (after-view client calls)
+after-view client (begins-write register card old ∷ calls) = begins-again client old 0 viewerCall (withOutput old (beginWrite client register card)) calls (after-view client calls)
+after-view client (begins-read register old ∷ calls) = begins-again client old 0 viewerCall (withOutput old (beginRead client register)) calls (after-view client calls)
 after-view client (hears bytes verdicts old ∷ calls) = omega (arith, hearing-quiet client bytes verdicts old, after-view (viewerCall client bytes verdicts old .client) calls)
 
-view-sends : (client : Client) (old : List ℕ) (n : ℕ) (calls : List Call) → beginReadCall client old .answer ≡ Send n → sentIn viewerCall (beginReadCall client old) calls ≡ 1
-view-sends client old n calls e = let none = after-view (beginReadCall client old .client) calls in rw e (omega arith)
+view-sends : (client : Client) (register : RegisterId) (old : List ℕ) (n : ℕ) (calls : List Call) → beginReadCall client register old .answer ≡ Send n
+    → sentIn viewerCall (beginReadCall client register old) calls ≡ 1
+view-sends client register old n calls e = let none = after-view (beginReadCall client register old .client) calls in rw e (omega arith)
 
 pub operation-messages : OperationMessages
 operation-messages = record { write = write-sends; read = read-sends; view = view-sends }

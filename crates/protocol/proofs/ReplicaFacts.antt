@@ -21,7 +21,7 @@ use Rattle.base.specs.declared.timestamp.Timestamp.{Timestamp}
 use Rattle.base.proofs.Booleans.{and-true-both}
 use Rattle.base.proofs.Range.{bounds}
 use Rattle.base.proofs.Same.{same-equal}
-use Rattle.wire.specs.Message.{Message, kindOf, READ-STAMP, PREPARE, WRITE, READ, STAMP, PREPARED, WRITTEN, CARD, IfThere, IsDigest, PreparedFits, WrittenFits, CardFits, Fits, preparedSize, size, Legal}
+use Rattle.wire.specs.Message.{Message, kindOf, READ-STAMP, PREPARE, WRITE, READ, STAMP, PREPARED, WRITTEN, CARD, IfThere, IsDigest, PreparedFits, WrittenFits, CardFits, Fits, preparedSize, size}
 use Rattle.wire.specs.Acceptance.{senderOf, maySend}
 use Rattle.wire.specs.Checks.{writtenOf, shaped}
 use Rattle.wire.specs.Proof.{PreparedProof, WrittenProof, signers}
@@ -32,7 +32,7 @@ use Rattle.protocol.specs.declared.replica.Replica.{Replica}
 use Rattle.protocol.specs.declared.replica.Slots.{Slots}
 use Rattle.protocol.proofs.ArrayLaws.{replaced-length, replaced-bytes, replaced-here, replaced-before, replaced-behind, filled-fits, card-in-bytes, card-in-short, entries-in-length, entries-in-fit, entries-kept, entries-filled, issued-there, issued-timestamp, issued-size}
 use Rattle.protocol.proofs.Accepts.{Accepts, by-test, by-value, by-refusal, by-guard, by-next}
-use Rattle.protocol.proofs.Fit.{SlotsFit, HeldFits, ReplicaFits}
+use Rattle.protocol.proofs.Fit.{SlotsFit, HeldFits, ReplicaFits, LegalMessage}
 use Rattle.wire.proofs.Passed.{Passed}
 use Rattle.wire.specs.Parts.{preparedTimestamp, preparedSigners}
 
@@ -61,7 +61,7 @@ pub record ReplicaFacts (before : Replica) (verdicts : List ℕ) (message : Mess
   pub same-f : reply .next .f ≡ before .f
   pub same-id : reply .next .id ≡ before .id
   pub fits : ReplicaFits (reply .next)
-  pub legal : Legal (reply .message)
+  pub legal : LegalMessage (reply .message)
   pub passed : Passed (before .f) message verdicts
   pub held-rises : heldTimestamp (before .register .held) ≤ heldTimestamp (reply .next .register .held)
   pub signers-held : SignersHeld (before .register .held) → SignersHeld (reply .next .register .held)
@@ -109,27 +109,28 @@ module _ (held : Held) (fits : HeldFits held) where
 -- ---- Replies are legal
 
 module _ (replica : Replica) (fits : ReplicaFits replica) (nonce : ℕ) (client : ClientId) (nonce-fits : nonce < 2 ^ 64) (client-fits : client .0 < 256) where
-  stamp-legal : Legal (STAMP (replica .id) nonce (heldProof (replica .register .held)) client)
+  stamp-legal : LegalMessage (STAMP (replica .id) nonce (heldProof (replica .register .held)) client)
   unfolding Fits size
-  stamp-legal =
-      record { fits = (fits .id-fits, nonce-fits, held-fits (replica .register .held) (fits .held-fits), client-fits); short = omega (arith, held-size (replica .register .held) (fits .held-fits)) }
+  stamp-legal register small =
+      record { register-fits = small; fits = (fits .id-fits, nonce-fits, held-fits (replica .register .held) (fits .held-fits), client-fits); short = omega (arith, held-size (replica .register .held) (fits .held-fits)) }
 
-  card-legal : Legal (CARD (replica .id) nonce (heldCard (replica .register .held)) (heldProof (replica .register .held)) client)
+  card-legal : LegalMessage (CARD (replica .id) nonce (heldCard (replica .register .held)) (heldProof (replica .register .held)) client)
   unfolding Fits size
-  card-legal =
+  card-legal register small =
       record {
+        register-fits = small;
         fits = (fits .id-fits, nonce-fits, held-card-fits (replica .register .held) (fits .held-fits), held-fits (replica .register .held) (fits .held-fits), client-fits);
         short =
             omega (arith, held-size (replica .register .held) (fits .held-fits), card-in-short (replica .register .held .card) (replica .register .held .«card_length»));
       }
 
-pub prepared-legal : (id : ReplicaId) (timestamp : ℕ) (digest : List ℕ) → id .0 < 256 → timestamp < 2 ^ 40 → IsDigest digest → Legal (PREPARED id timestamp digest)
+pub prepared-legal : (id : ReplicaId) (timestamp : ℕ) (digest : List ℕ) → id .0 < 256 → timestamp < 2 ^ 40 → IsDigest digest → LegalMessage (PREPARED id timestamp digest)
 unfolding Fits size
-prepared-legal id timestamp digest hi ht hd = record { fits = (hi, ht, hd); short = omega arith }
+prepared-legal id timestamp digest hi ht hd register small = record { register-fits = small; fits = (hi, ht, hd); short = omega arith }
 
-written-legal : (id : ReplicaId) (timestamp : ℕ) → id .0 < 256 → timestamp < 2 ^ 40 → Legal (WRITTEN id timestamp)
+written-legal : (id : ReplicaId) (timestamp : ℕ) → id .0 < 256 → timestamp < 2 ^ 40 → LegalMessage (WRITTEN id timestamp)
 unfolding Fits size
-written-legal id timestamp hi ht = record { fits = (hi, ht); short = omega arith }
+written-legal id timestamp hi ht register small = record { register-fits = small; fits = (hi, ht); short = omega arith }
 
 -- ---- READ-STAMP and READ
 

@@ -4,15 +4,16 @@ use mathlib.Core.List.{List, [], _∷_, _++_}
 use mathlib.Core.Option.{Option, none, some}
 use Prim.Native.Nat.{ℕ, zero, suc, _+_, _-_, _*_, _^_}
 use lib.Dec.{eqb, ltb}
-use lib.ListN.{length, take, drop, replicate}
+use lib.ListN.{length, getD, take, drop, set, replicate}
 use Rattle.base.specs.Counting.{replica}
 use Rattle.base.specs.Bytes.{filled}
 use Rattle.base.specs.Outcome.{Outcome, accepted, refused, guard, _>>=_}
-use Rattle.base.specs.Party.{replicaCount, clientSetup}
+use Rattle.base.specs.Party.{replicaCount, isRegister, registerPlace, clientSetup}
 use Rattle.base.specs.ReplicaSet.{empty, has, with, isQuorum}
 use Rattle.base.specs.Same.{same}
 use Rattle.base.specs.Timestamp.{number, ofNumber, start, successor}
 use Rattle.base.specs.declared.party.ClientId.{ClientId}
+use Rattle.base.specs.declared.party.RegisterId.{RegisterId}
 use Rattle.base.specs.declared.party.ReplicaId.{ReplicaId}
 use Rattle.base.specs.declared.replica_set.ReplicaSet.{ReplicaSet}
 use Rattle.base.specs.declared.timestamp.Timestamp.{Timestamp}
@@ -31,6 +32,7 @@ use Rattle.protocol.specs.declared.client.ClientAnswer.{ClientAnswer}
 use Rattle.protocol.specs.declared.client.ClientAnswer.the-variants.{Send, Counted, Done, Ended, Refused}
 use Rattle.protocol.specs.declared.client.Phase.{Phase}
 use Rattle.protocol.specs.declared.client.Phase.the-variants.{Idle, Stamps, Prepareds, Writtens, Cards, WriteBack}
+use Rattle.protocol.specs.declared.client.Written.{Written}
 use Rattle.wire.specs.Parts.{preparedTimestamp}
 
 -- ---- What a client's record holds
@@ -42,10 +44,23 @@ currentCard client = cardKept (client .card) (client .«card_length»)
 abbrev pub bestProof : Client → Timestamp → PreparedProof
 bestProof client best = record { timestamp = number best; digest = client .digest; entries = entriesKept (client .entries) (client .«entry_count») }
 
--- "the desk's last written proof, if any"
+-- What stands past the end of the sixteen written proofs, where nothing is read: numbers are 0 and arrays have no elements, as in the
+-- code's view.
+abbrev pub noWritten : Written
+noWritten = record { timestamp = start; «entry_count» = 0; entries = [] }
+
+abbrev pub writtenAt : ℕ → Client → Written
+writtenAt at client = getD (client .written) at noWritten
+
+-- A written proof that is kept, if there is one.
+abbrev pub writtenKept : Written → Option WrittenProof
+writtenKept written =
+    ifIssued (number (written .timestamp)) (record { timestamp = number (written .timestamp); entries = entriesKept (written .entries) (written .«entry_count») })
+
+-- "the desk's last written proof, if any"; document 02, #103: a desk "keeps its last written proof for each set". That of the operation's
+-- register.
 abbrev pub lastWritten : Client → Option WrittenProof
-lastWritten client =
-    ifIssued (number (client .written)) (record { timestamp = number (client .written); entries = entriesKept (client .«written_entries») (client .«written_count») })
+lastWritten client = writtenKept (writtenAt (registerPlace (client .register)) client)
 
 abbrev pub signatureAt : List ℕ → ReplicaId → List ℕ
 signatureAt signatures id = take 64 (drop (64 * (id .0 - 1)) signatures)
@@ -63,12 +78,17 @@ built client counted signatures = take 11 (gathered (replicaCount (client .f)) c
 abbrev pub withSignature : List ℕ → ReplicaId → List ℕ → List ℕ
 withSignature signatures id signature = take (64 * (id .0 - 1)) signatures ++ (signature ++ drop (64 * id .0) signatures)
 
+-- No proof of any register is kept yet.
+abbrev pub noneWritten : List Written
+noneWritten = replicate 16 (record { timestamp = start; «entry_count» = 0; entries = replicate 715 0 })
+
 -- A client with no operation, which used the nonces up to this one.
 abbrev pub idleClient : ℕ → ClientId → ℕ → Client
 idleClient f id lastNonce =
     record {
       f = f;
       id = id;
+      register = record { 0 = 0 };
       «last_nonce» = lastNonce;
       phase = Idle;
       «card_length» = 0;
@@ -78,9 +98,7 @@ idleClient f id lastNonce =
       «entry_count» = 0;
       entries = replicate 715 0;
       signatures = replicate 1024 0;
-      written = start;
-      «written_count» = 0;
-      «written_entries» = replicate 715 0;
+      written = noneWritten;
     }
 
 -- "a desk is made with its first nonce"
@@ -105,6 +123,7 @@ withPhase phase client =
     record {
       f = client .f;
       id = client .id;
+      register = client .register;
       «last_nonce» = client .«last_nonce»;
       phase = phase;
       «card_length» = client .«card_length»;
@@ -115,16 +134,15 @@ withPhase phase client =
       entries = client .entries;
       signatures = client .signatures;
       written = client .written;
-      «written_count» = client .«written_count»;
-      «written_entries» = client .«written_entries»;
     }
 
--- A new operation: its nonce, its card, no reply yet.
-abbrev pub beginning : ℕ → Phase → List ℕ → Client → Client
-beginning nonce phase card client =
+-- A new operation: its register, its nonce, its card, no reply yet.
+abbrev pub beginning : RegisterId → ℕ → Phase → List ℕ → Client → Client
+beginning register nonce phase card client =
     record {
       f = client .f;
       id = client .id;
+      register = register;
       «last_nonce» = nonce;
       phase = phase;
       «card_length» = length card;
@@ -135,8 +153,6 @@ beginning nonce phase card client =
       entries = replicate 715 0;
       signatures = replicate 1024 0;
       written = client .written;
-      «written_count» = client .«written_count»;
-      «written_entries» = client .«written_entries»;
     }
 
 -- A better reply's proof is kept; document 02, #102: and the set "with the best reply".
@@ -145,6 +161,7 @@ withProof proof client =
     record {
       f = client .f;
       id = client .id;
+      register = client .register;
       «last_nonce» = client .«last_nonce»;
       phase = client .phase;
       «card_length» = client .«card_length»;
@@ -155,8 +172,6 @@ withProof proof client =
       entries = filled 715 (entriesBytes (proof .entries));
       signatures = client .signatures;
       written = client .written;
-      «written_count» = client .«written_count»;
-      «written_entries» = client .«written_entries»;
     }
 
 abbrev pub withCard : List ℕ → Client → Client
@@ -164,6 +179,7 @@ withCard card client =
     record {
       f = client .f;
       id = client .id;
+      register = client .register;
       «last_nonce» = client .«last_nonce»;
       phase = client .phase;
       «card_length» = length card;
@@ -174,8 +190,6 @@ withCard card client =
       entries = client .entries;
       signatures = client .signatures;
       written = client .written;
-      «written_count» = client .«written_count»;
-      «written_entries» = client .«written_entries»;
     }
 
 abbrev pub withDigest : List ℕ → Client → Client
@@ -183,6 +197,7 @@ withDigest digest client =
     record {
       f = client .f;
       id = client .id;
+      register = client .register;
       «last_nonce» = client .«last_nonce»;
       phase = client .phase;
       «card_length» = client .«card_length»;
@@ -193,8 +208,6 @@ withDigest digest client =
       entries = replicate 715 0;
       signatures = client .signatures;
       written = client .written;
-      «written_count» = client .«written_count»;
-      «written_entries» = client .«written_entries»;
     }
 
 abbrev pub withSignatures : List ℕ → Client → Client
@@ -202,6 +215,7 @@ withSignatures signatures client =
     record {
       f = client .f;
       id = client .id;
+      register = client .register;
       «last_nonce» = client .«last_nonce»;
       phase = client .phase;
       «card_length» = client .«card_length»;
@@ -212,8 +226,6 @@ withSignatures signatures client =
       entries = client .entries;
       signatures = signatures;
       written = client .written;
-      «written_count» = client .«written_count»;
-      «written_entries» = client .«written_entries»;
     }
 
 -- Document 02, #102: desks keep the set "with the prepared proof that they build".
@@ -222,6 +234,7 @@ withSigners signers client =
     record {
       f = client .f;
       id = client .id;
+      register = client .register;
       «last_nonce» = client .«last_nonce»;
       phase = client .phase;
       «card_length» = client .«card_length»;
@@ -232,15 +245,15 @@ withSigners signers client =
       entries = client .entries;
       signatures = client .signatures;
       written = client .written;
-      «written_count» = client .«written_count»;
-      «written_entries» = client .«written_entries»;
     }
 
+-- A new written proof of the operation's register; those of the others stay.
 abbrev pub withLastWritten : Timestamp → List Entry → Client → Client
 withLastWritten timestamp entries client =
     record {
       f = client .f;
       id = client .id;
+      register = client .register;
       «last_nonce» = client .«last_nonce»;
       phase = client .phase;
       «card_length» = client .«card_length»;
@@ -250,9 +263,9 @@ withLastWritten timestamp entries client =
       «entry_count» = client .«entry_count»;
       entries = client .entries;
       signatures = client .signatures;
-      written = timestamp;
-      «written_count» = length entries;
-      «written_entries» = filled 715 (entriesBytes entries);
+      written =
+          set (client .written) (registerPlace (client .register))
+          (record { timestamp = timestamp; «entry_count» = length entries; entries = filled 715 (entriesBytes entries) });
     }
 
 -- ---- Answers
@@ -286,20 +299,24 @@ isIdle (WriteBack timestamp counted) = false
 abbrev pub mayBegin : Client → Bool
 mayBegin client = isIdle (client .phase) && ltb (client .«last_nonce» + 1) (2 ^ 64)
 
+-- Document 02, #103: "A desk names its set at each beginning". 20: "the set is not 1 to 16 .. at a beginning right after 1".
+
 -- "Beginning a write checks 1, of 14 only that the card keeps its table, then 17"
-unfoldable pub beginWrite : Client → List ℕ → Outcome Turn
-beginWrite client card =
-    guard 14 (isCard card)
+unfoldable pub beginWrite : Client → RegisterId → List ℕ → Outcome Turn
+beginWrite client register card =
+    guard 20 (isRegister register)
+    (guard 14 (isCard card)
     (guard 17 (mayBegin client)
     (let nonce = client .«last_nonce» + 1 in
-    turn (send (READ-STAMP (client .id) nonce)) (beginning nonce (Stamps nonce start empty) card client)))
+    turn (send (READ-STAMP (client .id) nonce)) (beginning register nonce (Stamps nonce start empty) card client))))
 
 -- "beginning a read 1, 17"
-unfoldable pub beginRead : Client → Outcome Turn
-beginRead client =
-    guard 17 (mayBegin client)
+unfoldable pub beginRead : Client → RegisterId → Outcome Turn
+beginRead client register =
+    guard 20 (isRegister register)
+    (guard 17 (mayBegin client)
     (let nonce = client .«last_nonce» + 1 in
-    turn (send (READ (client .id) nonce)) (beginning nonce (Cards nonce start empty empty) startCard client))
+    turn (send (READ (client .id) nonce)) (beginning register nonce (Cards nonce start empty empty) startCard client)))
 
 -- ---- Replies
 
@@ -442,9 +459,14 @@ onReply client signature (PREPARE sender timestamp digest proof last) = refused 
 onReply client signature (WRITE sender card proof) = refused 5
 onReply client signature (READ sender nonce) = refused 5
 
+-- Document 02, #103: "A reply for another set than awaited is 18." To such a reply a client is as an idle one, which awaits none; so 14
+-- comes first.
+abbrev pub towards : RegisterId → Client → Client
+towards register client = cond (eqb (register .0) (client .register .0)) client (withPhase Idle client)
+
 -- A client is handed bytes with verdicts.
 unfoldable pub clientStep : Client → List ℕ → List ℕ → Outcome Turn
-clientStep client bytes verdicts = admitted AtClient (client .f) bytes verdicts >>= onReply client (signature bytes)
+clientStep client bytes verdicts = admitted AtClient (client .f) bytes verdicts >>= λ sent. onReply (towards (sent .0) client) (signature bytes) (sent .1)
 
 -- ---- The calls
 
@@ -460,8 +482,9 @@ pub record ClientCall : Type 0 where
 abbrev pub call : ClientAnswer → List ℕ → Client → List ℕ → ClientCall
 call answer card client output = record { answer = answer; «card_length» = length card; card = filled 17 card; client = client; output = output }
 
+-- What it sends is for the register of its operation.
 abbrev pub answered : List ℕ → Answer → Client → ClientCall
-answered old (send message) next = call (Send (length (unsigned message))) [] next (inFront (unsigned message) old)
+answered old (send message) next = call (Send (length (unsigned (next .register) message))) [] next (inFront (unsigned (next .register) message) old)
 answered old waits next = call Counted [] next old
 answered old (done timestamp card signers) next = call (Done timestamp signers) card next old
 answered old ended next = call Ended [] next old
@@ -470,11 +493,11 @@ abbrev pub clientAnswers : Client → List ℕ → Outcome Turn → ClientCall
 clientAnswers client old (accepted turn) = answered old (turn .answer) (turn .next)
 clientAnswers client old (refused number) = call (Refused number) [] client old
 
-unfoldable pub beginWriteCall : Client → List ℕ → List ℕ → ClientCall
-beginWriteCall client card old = clientAnswers client old (withOutput old (beginWrite client card))
+unfoldable pub beginWriteCall : Client → RegisterId → List ℕ → List ℕ → ClientCall
+beginWriteCall client register card old = clientAnswers client old (withOutput old (beginWrite client register card))
 
-unfoldable pub beginReadCall : Client → List ℕ → ClientCall
-beginReadCall client old = clientAnswers client old (withOutput old (beginRead client))
+unfoldable pub beginReadCall : Client → RegisterId → List ℕ → ClientCall
+beginReadCall client register old = clientAnswers client old (withOutput old (beginRead client register))
 
 unfoldable pub clientCall : Client → List ℕ → List ℕ → List ℕ → ClientCall
 clientCall client bytes verdicts old = clientAnswers client old (withOutput old (clientStep client bytes verdicts))
@@ -494,13 +517,13 @@ clientOutcome (Done timestamp signers) size card output = accepted (finished tim
 clientOutcome Ended size card output = accepted noSuccessor
 clientOutcome (Refused number) size card output = refused number
 
--- The same of a step.
-abbrev pub meaning : Answer → Meaning
-meaning (send m) = message (unsigned m)
-meaning waits = nothing
-meaning (done timestamp card signers) = finished timestamp card signers
-meaning ended = noSuccessor
+-- The same of a step, in an operation of a register.
+abbrev pub meaning : RegisterId → Answer → Meaning
+meaning register (send m) = message (unsigned register m)
+meaning register waits = nothing
+meaning register (done timestamp card signers) = finished timestamp card signers
+meaning register ended = noSuccessor
 
 abbrev pub stepOutcome : Outcome Turn → Outcome Meaning
-stepOutcome (accepted turn) = accepted (meaning (turn .answer))
+stepOutcome (accepted turn) = accepted (meaning (turn .next .register) (turn .answer))
 stepOutcome (refused number) = refused number

@@ -5,12 +5,14 @@ use mathlib.Core.List.{List, [], _∷_}
 use mathlib.Core.Option.{Option, none, some}
 use Prim.Native.Nat.{ℕ, _/_, _≤_, _<_}
 use Rattle.base.specs.Outcome.{Outcome, accepted, refused, _>>=_}
-use Rattle.base.specs.Party.{replicaCount, quorumSize}
+use Rattle.base.specs.Party.{replicaCount, quorumSize, isRegister}
 use Rattle.base.specs.Timestamp.{number, successor}
 use Rattle.base.specs.declared.party.ClientId.{ClientId}
+use Rattle.base.specs.declared.party.RegisterId.{RegisterId}
 use Rattle.base.specs.declared.timestamp.Timestamp.{Timestamp}
 use Rattle.wire.specs.Acceptance.{admits}
 use Rattle.wire.specs.Card.{readCard, isCard}
+use Rattle.wire.specs.Decode.{forRegister}
 use Rattle.wire.specs.Message.{Message, PREPARE, WRITE, PREPARED, WRITTEN}
 use Rattle.wire.specs.Proof.{PreparedProof, WrittenProof}
 use Rattle.protocol.specs.Parts.{cardStands}
@@ -50,13 +52,13 @@ first digest = PREPARE two 1·2 digest none none
 abbrev pub oneGenuine : List ℕ
 oneGenuine = 1 ∷ []
 
--- A replica is handed a message: 6 to 11, and what follows.
-abbrev pub handed : Replica → List ℕ → Message → Outcome Reply
-handed replica verdicts message = admits (replica .f) verdicts message >>= onRequest replica
+-- A replica is handed a message for a register: 6 to 11, and what follows.
+abbrev pub handed : Replica → RegisterId → List ℕ → Message → Outcome Reply
+handed replica register verdicts message = admits (replica .f) verdicts (forRegister register message) >>= λ sent. onRequest replica (sent .1)
 
 -- A message that passes 6 to 11.
-abbrev pub Passes : Replica → List ℕ → Message → Type 0
-Passes replica verdicts message = admits (replica .f) verdicts message ≡ accepted message
+abbrev pub Passes : Replica → RegisterId → List ℕ → Message → Type 0
+Passes replica register verdicts message = admits (replica .f) verdicts (forRegister register message) ≡ accepted (forRegister register message)
 
 -- The written timestamp's client is a byte, as it is in the record of the code.
 abbrev pub WrittenClientFits : Replica → Type 0
@@ -79,17 +81,19 @@ pub record Examples : Type 0 where
   pub G : isCard (0x00 ∷ 0x01 ∷ 0x1C ∷ 0x20 ∷ []) ≡ false
   -- "`00 20 04` good, `00 20 05` bad."
   pub H : (isCard (0x00 ∷ 0x20 ∷ 0x04 ∷ []) ≡ true) × (isCard (0x00 ∷ 0x20 ∷ 0x05 ∷ []) ≡ false)
+  -- I to K hold of each of the sixteen registers (document 02, #103).
   -- "line 1.2 open with digest a: 1.2 a PREPARED, 1.2 b refused 15."
-  pub I : (replica : Replica) (a b : List ℕ) → (a ≡ b → ⊥) → WrittenClientFits replica → SlotHolds (replica .register .slots) a → Open (replica .register .slots)
-      → (handed replica oneGenuine (first a) ≡ answering (PREPARED (replica .id) 1·2 a) replica) × (handed replica oneGenuine (first b) ≡ refused 15)
+  pub I : (replica : Replica) (register : RegisterId) (a b : List ℕ) → isRegister register ≡ true → (a ≡ b → ⊥) → WrittenClientFits replica
+      → SlotHolds (replica .register .slots) a → Open (replica .register .slots)
+      → (handed replica register oneGenuine (first a) ≡ answering (PREPARED (replica .id) 1·2 a) replica) × (handed replica register oneGenuine (first b) ≡ refused 15)
   -- "the same line closed: 2.2 taken, 1.2 b still 15." 2.2 comes with a prepared proof of a timestamp of count 1, which passed 6 to 12.
-  pub J : (replica : Replica) (a b : List ℕ) → (a ≡ b → ⊥) → SlotHolds (replica .register .slots) a → Closed (replica .register .slots)
+  pub J : (replica : Replica) (register : RegisterId) (a b : List ℕ) → isRegister register ≡ true → (a ≡ b → ⊥) → SlotHolds (replica .register .slots) a → Closed (replica .register .slots)
       → ((digest : List ℕ) (proof : PreparedProof) (last : Option WrittenProof) (verdicts : List ℕ) → proof .timestamp / 256 ≡ 1
-      → Passes replica verdicts (PREPARE two 2·2 digest (some proof) last) → isOwn two last ≡ true
-      → handed replica verdicts (PREPARE two 2·2 digest (some proof) last)
+      → Passes replica register verdicts (PREPARE two 2·2 digest (some proof) last) → isOwn two last ≡ true
+      → handed replica register verdicts (PREPARE two 2·2 digest (some proof) last)
       ≡ answering (PREPARED (replica .id) 2·2 digest) (withSlots replica (withWritten (raised last (replica .register .slots)) (withSlot two 2·2 digest (replica .register .slots)))))
-      × (handed replica oneGenuine (first b) ≡ refused 15)
+      × (handed replica register oneGenuine (first b) ≡ refused 15)
   -- "WRITE of the held stamp: WRITTEN, record kept." From any client, with a proof and a card that passed 6 to 11 and 14.
-  pub K : (replica : Replica) (client : ClientId) (card : List ℕ) (proof : PreparedProof) (verdicts : List ℕ)
-      → Passes replica verdicts (WRITE client card proof) → cardStands card (some proof) ≡ true → proof .timestamp ≡ heldTimestamp (replica .register .held)
-      → handed replica verdicts (WRITE client card proof) ≡ answering (WRITTEN (replica .id) (proof .timestamp)) replica
+  pub K : (replica : Replica) (register : RegisterId) (client : ClientId) (card : List ℕ) (proof : PreparedProof) (verdicts : List ℕ)
+      → Passes replica register verdicts (WRITE client card proof) → cardStands card (some proof) ≡ true → proof .timestamp ≡ heldTimestamp (replica .register .held)
+      → handed replica register verdicts (WRITE client card proof) ≡ answering (WRITTEN (replica .id) (proof .timestamp)) replica

@@ -1,3 +1,4 @@
+pub mod Bank
 pub mod Client
 pub mod Examples
 pub mod OperationMessages

@@ -3,16 +3,18 @@
 use mathlib.Core.List.{List, [], _∷_}
 use mathlib.Core.Path.{_≡_}
 use Prim.Native.Nat.{ℕ, _+_, _≤_}
+use Rattle.base.specs.declared.party.RegisterId.{RegisterId}
 use Rattle.protocol.specs.Client.{ClientCall, beginWriteCall, beginReadCall, clientCall}
 use Rattle.protocol.specs.Viewer.{viewerCall}
 use Rattle.protocol.specs.declared.client.Client.{Client}
 use Rattle.protocol.specs.declared.client.ClientAnswer.{ClientAnswer}
 use Rattle.protocol.specs.declared.client.ClientAnswer.the-variants.{Send, Counted, Done, Ended, Refused}
 
--- A call of a client: it begins a write of a card, begins a read, or is handed bytes with verdicts; last, what stood in the output.
+-- A call of a client: it begins a write of a card to a register, begins a read of a register, or is handed bytes with verdicts; last, what
+-- stood in the output.
 pub data Call : Type 0 where
-  begins-write : List ℕ → List ℕ → Call
-  begins-read : List ℕ → Call
+  begins-write : RegisterId → List ℕ → List ℕ → Call
+  begins-read : RegisterId → List ℕ → Call
   hears : List ℕ → List ℕ → List ℕ → Call
 
 -- The messages that an answer sends.
@@ -38,8 +40,10 @@ Hearing = Client → List ℕ → List ℕ → List ℕ → ClientCall
 -- What an operation sends in the calls that follow its beginning, up to the beginning of the next one.
 unfoldable pub sentAfter : Hearing → Client → List Call → ℕ
 sentAfter hear client [] = 0
-sentAfter hear client (begins-write card old ∷ calls) = unlessBegun (beginWriteCall client card old .answer) (sentAfter hear (beginWriteCall client card old .client) calls)
-sentAfter hear client (begins-read old ∷ calls) = unlessBegun (beginReadCall client old .answer) (sentAfter hear (beginReadCall client old .client) calls)
+sentAfter hear client (begins-write register card old ∷ calls) =
+    unlessBegun (beginWriteCall client register card old .answer) (sentAfter hear (beginWriteCall client register card old .client) calls)
+sentAfter hear client (begins-read register old ∷ calls) =
+    unlessBegun (beginReadCall client register old .answer) (sentAfter hear (beginReadCall client register old .client) calls)
 sentAfter hear client (hears bytes verdicts old ∷ calls) = sentBy (hear client bytes verdicts old .answer) + sentAfter hear (hear client bytes verdicts old .client) calls
 
 -- What an operation sends in all: in the call that begins it, and in those that follow.
@@ -49,8 +53,9 @@ sentIn hear begun calls = sentBy (begun .answer) + sentAfter hear (begun .client
 -- For a record of any value, and calls of any bytes, verdicts and outputs, refused ones among them.
 pub record OperationMessages : Type 0 where
   -- "a write at most three"
-  pub write : (client : Client) (card old : List ℕ) (calls : List Call) → sentIn clientCall (beginWriteCall client card old) calls ≤ 3
+  pub write : (client : Client) (register : RegisterId) (card old : List ℕ) (calls : List Call) → sentIn clientCall (beginWriteCall client register card old) calls ≤ 3
   -- "A read sends at most two messages"
-  pub read : (client : Client) (old : List ℕ) (calls : List Call) → sentIn clientCall (beginReadCall client old) calls ≤ 2
+  pub read : (client : Client) (register : RegisterId) (old : List ℕ) (calls : List Call) → sentIn clientCall (beginReadCall client register old) calls ≤ 2
   -- "READ, then q CARDs, then done .. and no write-back"
-  pub view : (client : Client) (old : List ℕ) (n : ℕ) (calls : List Call) → beginReadCall client old .answer ≡ Send n → sentIn viewerCall (beginReadCall client old) calls ≡ 1
+  pub view : (client : Client) (register : RegisterId) (old : List ℕ) (n : ℕ) (calls : List Call) → beginReadCall client register old .answer ≡ Send n
+      → sentIn viewerCall (beginReadCall client register old) calls ≡ 1

@@ -1,4 +1,4 @@
--- Document 01, "A holder": what a replica makes of a message.
+-- Document 01, "A holder": what a replica makes of a message, with one register. `Bank` has the sixteen.
 use mathlib.Core.Bool.{Bool, true, false, _&&_, _||_, cond}
 use mathlib.Core.List.{List, _++_}
 use mathlib.Core.Option.{Option, none, some}
@@ -7,14 +7,15 @@ use lib.Dec.{eqb, leb, ltb}
 use lib.ListN.{length, getD, take, drop, set, replicate}
 use Rattle.base.specs.Bytes.{filled}
 use Rattle.base.specs.Outcome.{Outcome, accepted, refused, guard, _>>=_}
-use Rattle.base.specs.Party.{replicaSetup}
 use Rattle.base.specs.ReplicaSet.{empty}
 use Rattle.base.specs.Same.{same}
 use Rattle.base.specs.Timestamp.{number, ofNumber, start, successor}
 use Rattle.base.specs.declared.party.ClientId.{ClientId}
+use Rattle.base.specs.declared.party.RegisterId.{RegisterId}
 use Rattle.base.specs.declared.party.ReplicaId.{ReplicaId}
 use Rattle.base.specs.declared.timestamp.Timestamp.{Timestamp}
 use Rattle.wire.specs.Acceptance.{admitted}
+use Rattle.wire.specs.Decode.{registerIn}
 use Rattle.wire.specs.Message.{Message, READ-STAMP, PREPARE, WRITE, READ, STAMP, PREPARED, WRITTEN, CARD}
 use Rattle.wire.specs.Proof.{PreparedProof, WrittenProof, signerSet, entriesBytes}
 use Rattle.wire.specs.Writing.{unsigned, roomy, inFront}
@@ -71,17 +72,9 @@ freshRegister =
 abbrev pub freshReplica : ℕ → ReplicaId → Replica
 freshReplica f id = record { f = f; id = id; register = freshRegister }
 
--- Where setting up is refused there is no replica: this record stands in its place.
+-- The record of no replica.
 abbrev pub noReplica : Replica
 noReplica = freshReplica 0 (record { 0 = 0 })
-
-abbrev pub replicaIfSetUp : Outcome (Unit {0}) → Replica → Replica
-replicaIfSetUp (accepted done) replica = replica
-replicaIfSetUp (refused number) replica = noReplica
-
--- 16: "A party is set up with f, number or first nonce (0) out of range."
-unfoldable pub madeReplica : ℕ → ReplicaId → Replica
-madeReplica f id = replicaIfSetUp (replicaSetup f id) (freshReplica f id)
 
 -- ---- What a register does
 
@@ -195,7 +188,7 @@ onRequest replica (CARD sender nonce card proof client) = refused 5
 
 -- A replica is handed bytes with verdicts.
 unfoldable pub replicaStep : Replica → List ℕ → List ℕ → Outcome Reply
-replicaStep replica bytes verdicts = admitted AtReplica (replica .f) bytes verdicts >>= onRequest replica
+replicaStep replica bytes verdicts = admitted AtReplica (replica .f) bytes verdicts >>= λ sent. onRequest replica (sent .1)
 
 -- ---- The call
 
@@ -210,20 +203,21 @@ abbrev pub answerOutcome : ReplicaAnswer → Outcome ℕ
 answerOutcome (Send n) = accepted n
 answerOutcome (Refused number) = refused number
 
--- The length of the message that a reply sends.
-abbrev pub sentLength : Outcome Reply → Outcome ℕ
-sentLength (accepted reply) = accepted (length (unsigned (reply .message)))
-sentLength (refused number) = refused number
+-- The length of the message that a reply sends, for the register that was asked for.
+abbrev pub sentLength : RegisterId → Outcome Reply → Outcome ℕ
+sentLength register (accepted reply) = accepted (length (unsigned register (reply .message)))
+sentLength register (refused number) = refused number
 
 -- "A refusal is its number alone; record and lent bytes keep their old contents."
-abbrev pub replicaAnswers : Replica → List ℕ → Outcome Reply → ReplicaCall
-replicaAnswers replica old (accepted reply) =
-    record { answer = Send (length (unsigned (reply .message))); replica = reply .next; output = inFront (unsigned (reply .message)) old }
-replicaAnswers replica old (refused number) = record { answer = Refused number; replica = replica; output = old }
+abbrev pub replicaAnswers : RegisterId → Replica → List ℕ → Outcome Reply → ReplicaCall
+replicaAnswers register replica old (accepted reply) =
+    record { answer = Send (length (unsigned register (reply .message))); replica = reply .next; output = inFront (unsigned register (reply .message)) old }
+replicaAnswers register replica old (refused number) = record { answer = Refused number; replica = replica; output = old }
 
--- 1: "The output is shorter than 1,579 bytes."
+-- 1: "The output is shorter than" the longest message, which has 1,580 bytes (document 02, #103).
 abbrev pub withOutput : {A : Type 0} → List ℕ → Outcome A → Outcome A
 withOutput old next = guard 1 (roomy old) next
 
+-- The reply is for the register that the message was for.
 unfoldable pub replicaCall : Replica → List ℕ → List ℕ → List ℕ → ReplicaCall
-replicaCall replica bytes verdicts old = replicaAnswers replica old (withOutput old (replicaStep replica bytes verdicts))
+replicaCall replica bytes verdicts old = replicaAnswers (registerIn bytes) replica old (withOutput old (replicaStep replica bytes verdicts))

@@ -8,7 +8,7 @@ use Rattle.base.specs.declared.party.ClientId.{ClientId}
 use Rattle.wire.specs.Acceptance.{admitted}
 use Rattle.wire.specs.Message.{Message, READ-STAMP, PREPARE, WRITE, READ, STAMP, PREPARED, WRITTEN, CARD}
 use Rattle.wire.specs.declared.message.Party.the-variants.{Client as AtClient}
-use Rattle.protocol.specs.Client.{freshClient, clientIfSetUp, done, Turn, turn, currentCard, withPhase, AfterCards, onCard, unawaited, ClientCall, clientAnswers}
+use Rattle.protocol.specs.Client.{freshClient, clientIfSetUp, done, Turn, turn, currentCard, withPhase, AfterCards, onCard, unawaited, towards, ClientCall, clientAnswers}
 use Rattle.protocol.specs.Parts.{cardStands}
 use Rattle.protocol.specs.Replica.{withOutput}
 use Rattle.protocol.specs.declared.client.Client.{Client}
@@ -37,7 +37,7 @@ onViewerReply client (READ sender nonce) = refused 5
 
 -- A viewing client is handed bytes with verdicts.
 unfoldable pub viewerStep : Client → List ℕ → List ℕ → Outcome Turn
-viewerStep client bytes verdicts = admitted AtClient (client .f) bytes verdicts >>= onViewerReply client
+viewerStep client bytes verdicts = admitted AtClient (client .f) bytes verdicts >>= λ sent. onViewerReply (towards (sent .0) client) (sent .1)
 
 unfoldable pub viewerCall : Client → List ℕ → List ℕ → List ℕ → ClientCall
 viewerCall client bytes verdicts old = clientAnswers client old (withOutput old (viewerStep client bytes verdicts))

@@ -1,5 +1,7 @@
 // A client's record (document 01: a desk's).
 use base::party::ClientId;
+use base::party::REGISTERS;
+use base::party::RegisterId;
 use base::replica_set::ReplicaSet;
 use base::timestamp::Timestamp;
 use wire::layout::CARD_ROOM;
@@ -22,9 +24,18 @@ pub enum Phase {
     WriteBack(Timestamp, ReplicaSet),
 }
 
+// A written proof, as it is kept; 0.0 for none.
+pub struct Written {
+    pub timestamp: Timestamp,
+    pub entry_count: u8,
+    pub entries: [u8; ENTRIES_ROOM],
+}
+
 pub struct Client {
     pub f: u8,
     pub id: ClientId,
+    // The register of the last operation; 0 before the first.
+    pub register: RegisterId,
     // The nonce of the last operation.
     pub last_nonce: u64,
     pub phase: Phase,
@@ -39,10 +50,8 @@ pub struct Client {
     pub entries: [u8; ENTRIES_ROOM],
     // The signatures counted in this phase, replica r's at 64 (r - 1).
     pub signatures: [u8; SIGNATURES_ROOM],
-    // The last written proof; 0.0 for none.
-    pub written: Timestamp,
-    pub written_count: u8,
-    pub written_entries: [u8; ENTRIES_ROOM],
+    // The last written proof of each register, register x's at x - 1.
+    pub written: [Written; REGISTERS],
 }
 
 // The answer of a call of a client. Done has the card's timestamp and signers; the card stands beside it.

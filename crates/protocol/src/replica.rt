@@ -1,4 +1,5 @@
-// A replica's record (document 01: a holder's).
+// A replica's record (document 01: a holder's): one register's part, and above it the bank of sixteen.
+use base::party::REGISTERS;
 use base::party::ReplicaId;
 use base::replica_set::ReplicaSet;
 use base::timestamp::Timestamp;
@@ -39,11 +40,20 @@ pub struct Register {
     pub held: Held,
 }
 
+// One register's part of a replica: what the single register's step works on.
 #[repr(C)]
 pub struct Replica {
     pub f: u8,
     pub id: ReplicaId,
     pub register: Register,
+}
+
+// A replica whole (document 02, #103: a holder keeps 16 registers), register x's at x - 1.
+#[repr(C)]
+pub struct Bank {
+    pub f: u8,
+    pub id: ReplicaId,
+    pub registers: [Register; REGISTERS],
 }
 
 // The answer of a call of a replica.

@@ -13,6 +13,7 @@ use Rattle.base.specs.Outcome.{Outcome, accepted, refused}
 use Rattle.base.specs.Range.{within}
 use Rattle.base.specs.Timestamp.{number, ofNumber}
 use Rattle.base.specs.declared.party.ClientId.{ClientId}
+use Rattle.base.specs.declared.party.RegisterId.{RegisterId}
 use Rattle.base.specs.declared.replica_set.ReplicaSet.{ReplicaSet}
 use Rattle.base.specs.declared.timestamp.Timestamp.{Timestamp}
 use Rattle.base.proofs.Booleans.{and-true-both}
@@ -20,13 +21,14 @@ use Rattle.base.proofs.Range.{bounds}
 use Rattle.base.proofs.Timestamps.{number-ofNumber}
 use Rattle.wire.specs.Acceptance.{acceptance}
 use Rattle.wire.specs.Checks.{ifThere, issued}
+use Rattle.wire.specs.Decode.{registerIn}
 use Rattle.wire.specs.Message.{Message, longest}
 use Rattle.wire.specs.Parts.{partAt, cardAt, preparedPart, writtenPart, preparedTimestamp, writtenTimestamp, timestampPart}
 use Rattle.wire.specs.Proof.{PreparedProof, WrittenProof, preparedFrom}
 use Rattle.wire.specs.declared.message.Fields.{Fields}
 use Rattle.wire.specs.declared.message.Party.the-variants.{Replica as AtReplica}
 use Rattle.wire.proofs.Admitted.{acceptance-refused}
-use Rattle.wire.proofs.Handed.{Handed, handed-read-stamp, handed-prepare, handed-write, handed-read, request-kind, proof-whole, shown, last-shown}
+use Rattle.wire.proofs.Handed.{Handed, handed-read-stamp, handed-prepare, handed-write, handed-read, request-kind, register-is, proof-whole, shown, last-shown}
 use Rattle.protocol.specs.Replica.{afterPrepare, Reply, onReadStamp, onPrepare, onWrite, onRead, onRequest, replicaStep, ReplicaCall, answerOutcome, sentLength, replicaAnswers, withOutput, replicaCall}
 use Rattle.protocol.specs.declared.replica.Replica.{Replica}
 use Rattle.protocol.specs.declared.replica.ReplicaAnswer.the-variants.{Refused}
@@ -103,15 +105,19 @@ module _ (replica : Replica) (bytes verdicts : List ℕ) where
     pub prepare-sender : fields .kind ≡ 2 → (1 ≤ fields .sender) × (fields .sender ≤ 64)
     prepare-sender k = bounds 1 64 (fields .sender) (handed-prepare (replica .f) bytes verdicts fields e k .may-send)
 
--- A call whose step is this outcome, whichever verdicts let its message through.
+-- A call whose step is this outcome, whichever verdicts let its message through; the reply is for the register among the fields.
 pub answers : (replica : Replica) (bytes : List ℕ) (fields : Fields) (old : List ℕ) (stepped : Stepped) (new : List ℕ) (outcome : Outcome Reply)
     → ((verdicts : List ℕ) (signers : ReplicaSet) → acceptance AtReplica (replica .f) bytes verdicts ≡ accepted (fields, signers) → replicaStep replica bytes verdicts ≡ outcome)
-    → Leaves replica (replicaAnswers replica old outcome) stepped new → Answers replica bytes fields old stepped new
+    → Leaves replica (replicaAnswers (fields .register) replica old outcome) stepped new → Answers replica bytes fields old stepped new
 answers replica bytes fields old stepped new outcome same l =
-    record { leaves = λ verdicts signers e. subst (λ (o : Outcome Reply). Leaves replica (replicaAnswers replica old o) stepped new) (sym (same verdicts signers e)) l }
+    record {
+      leaves = λ verdicts signers e.
+          subst (λ (o : Outcome Reply). Leaves replica (replicaAnswers (registerIn bytes) replica old o) stepped new) (sym (same verdicts signers e))
+          (subst (λ (register : RegisterId). Leaves replica (replicaAnswers register replica old outcome) stepped new) (register-is AtReplica (replica .f) bytes verdicts fields e) l);
+    }
 
 module _ (replica : Replica) (bytes verdicts old : List ℕ) (stepped : Stepped) where
-  answered : (outcome : Outcome Reply) → answerOutcome (replicaAnswers replica old outcome .answer) ≡ sentLength outcome
+  answered : (outcome : Outcome Reply) → answerOutcome (replicaAnswers (registerIn bytes) replica old outcome .answer) ≡ sentLength (registerIn bytes) outcome
   answered (accepted reply) = refl
   answered (refused number) = refl
 
@@ -127,11 +133,11 @@ module _ (replica : Replica) (bytes verdicts old : List ℕ) (stepped : Stepped)
     l .changes,
   )
 
-  pub steps-long : (new : List ℕ) → longest ≤ length old → Leaves replica (replicaAnswers replica old (replicaStep replica bytes verdicts)) stepped new → Steps replica bytes verdicts old (stepped .answer) (stepped .replica) new × Changes replica stepped
+  pub steps-long : (new : List ℕ) → longest ≤ length old → Leaves replica (replicaAnswers (registerIn bytes) replica old (replicaStep replica bytes verdicts)) stepped new → Steps replica bytes verdicts old (stepped .answer) (stepped .replica) new × Changes replica stepped
   unfolding replicaCall
   steps-long new h l =
       let same : withOutput old (replicaStep replica bytes verdicts) ≡ replicaStep replica bytes verdicts = long-output old (replicaStep replica bytes verdicts) h in
-      steps new (subst (λ (o : Outcome Reply). Leaves replica (replicaAnswers replica old o) stepped new) (sym same) l)
+      steps new (subst (λ (o : Outcome Reply). Leaves replica (replicaAnswers (registerIn bytes) replica old o) stepped new) (sym same) l)
 
   pub steps-short : length old < longest → stepped ≡ keeping (Refused 1) replica → Steps replica bytes verdicts old (stepped .answer) (stepped .replica) old × Changes replica stepped
   steps-short h r = steps old (subst (λ (c : ReplicaCall). Leaves replica c stepped old) (sym (replica-short replica bytes verdicts old h)) (rw r (record { answer = refl; next = refl; output = refl; changes = unchanged replica (Refused 1) })))

@@ -1,4 +1,4 @@
 pub mod Asked
-pub mod RawPart
+pub mod Cells
 pub mod Replies
 pub mod Slots

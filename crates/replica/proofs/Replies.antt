@@ -11,6 +11,7 @@ use Rattle.base.specs.Outcome.{Outcome, accepted, refused, guard}
 use Rattle.base.specs.Same.{same}
 use Rattle.base.specs.Timestamp.{number, ofNumber, successor, successorOf}
 use Rattle.base.specs.declared.party.ClientId.{ClientId}
+use Rattle.base.specs.declared.party.RegisterId.{RegisterId}
 use Rattle.base.specs.declared.timestamp.Successor.{Successor}
 use Rattle.base.specs.declared.timestamp.Successor.the-variants.{Next, Missing}
 use Rattle.base.specs.declared.timestamp.Timestamp.{Timestamp}
@@ -40,15 +41,15 @@ answer-sends : (answer : ReplicaAnswer) (n : ℕ) → answerOutcome answer ≡ a
 answer-sends (Send m) n e = cc
 answer-sends (Refused number) n e = let z : _≡_ {A = ℕ} 0 1 = cc in absurd (omega arith)
 
--- A message that was written into an output that is long enough.
-pub sends : (replica : Replica) (old new : List ℕ) (outcome : Outcome Reply) (message : Message) (next : Replica) (encoded : Encoded) (stepped : Stepped)
-    → outcome ≡ answering message next → longest ≤ length old → Wrote old (unsigned message) encoded new
-    → answerOutcome (stepped .answer) ≡ encodedOutcome encoded → stepped .replica ≡ next → Changes replica stepped → Leaves replica (replicaAnswers replica old outcome) stepped new
-sends replica old new outcome message next encoded stepped o enough wrote e same changes =
+-- A message that was written, for some register, into an output that is long enough.
+pub sends : (register : RegisterId) (replica : Replica) (old new : List ℕ) (outcome : Outcome Reply) (message : Message) (next : Replica) (encoded : Encoded) (stepped : Stepped)
+    → outcome ≡ answering message next → longest ≤ length old → Wrote old (unsigned register message) encoded new
+    → answerOutcome (stepped .answer) ≡ encodedOutcome encoded → stepped .replica ≡ next → Changes replica stepped → Leaves replica (replicaAnswers register replica old outcome) stepped new
+sends register replica old new outcome message next encoded stepped o enough wrote e same changes =
     let roomy = le-leb longest (length old) enough in
     rw o
     (record {
-      answer = answer-sends (stepped .answer) (length (unsigned message)) (e ∙ wrote .answered ∙ guard-passes 1 (leb longest (length old)) (accepted (length (unsigned message))) roomy);
+      answer = answer-sends (stepped .answer) (length (unsigned register message)) (e ∙ wrote .answered ∙ guard-passes 1 (leb longest (length old)) (accepted (length (unsigned register message))) roomy);
       next = same;
       output = wrote .holds ∙ rw roomy;
       changes = changes;
@@ -58,16 +59,16 @@ sends replica old new outcome message next encoded stepped o enough wrote e same
 pub unchanged : (replica : Replica) (answer : ReplicaAnswer) → Changes replica (keeping answer replica)
 unchanged replica answer = record { only = refl; first = omega arith; last = omega arith }
 
-pub sends-keeping : (replica : Replica) (old new : List ℕ) (outcome : Outcome Reply) (message : Message) (next : Replica) (encoded : Encoded) (answer : ReplicaAnswer) (stepped : Stepped)
-    → outcome ≡ answering message next → longest ≤ length old → Wrote old (unsigned message) encoded new
-    → answerOutcome answer ≡ encodedOutcome encoded → replica ≡ next → stepped ≡ keeping answer replica → Leaves replica (replicaAnswers replica old outcome) stepped new
-sends-keeping replica old new outcome message next encoded answer stepped o enough wrote e same s =
-    rw s (sends replica old new outcome message next encoded (keeping answer replica) o enough wrote e same (unchanged replica answer))
+pub sends-keeping : (register : RegisterId) (replica : Replica) (old new : List ℕ) (outcome : Outcome Reply) (message : Message) (next : Replica) (encoded : Encoded) (answer : ReplicaAnswer) (stepped : Stepped)
+    → outcome ≡ answering message next → longest ≤ length old → Wrote old (unsigned register message) encoded new
+    → answerOutcome answer ≡ encodedOutcome encoded → replica ≡ next → stepped ≡ keeping answer replica → Leaves replica (replicaAnswers register replica old outcome) stepped new
+sends-keeping register replica old new outcome message next encoded answer stepped o enough wrote e same s =
+    rw s (sends register replica old new outcome message next encoded (keeping answer replica) o enough wrote e same (unchanged replica answer))
 
 -- A refusal: its number alone.
-pub refuses : (replica : Replica) (old : List ℕ) (outcome : Outcome Reply) (number : ℕ) (stepped : Stepped)
-    → outcome ≡ refused number → stepped ≡ keeping (Refused number) replica → Leaves replica (replicaAnswers replica old outcome) stepped old
-refuses replica old outcome number stepped e s = rw (e, s) (record { answer = refl; next = refl; output = refl; changes = unchanged replica (Refused number) })
+pub refuses : (register : RegisterId) (replica : Replica) (old : List ℕ) (outcome : Outcome Reply) (number : ℕ) (stepped : Stepped)
+    → outcome ≡ refused number → stepped ≡ keeping (Refused number) replica → Leaves replica (replicaAnswers register replica old outcome) stepped old
+refuses register replica old outcome number stepped e s = rw (e, s) (record { answer = refl; next = refl; output = refl; changes = unchanged replica (Refused number) })
 
 -- What the digest of a card says of test 14.
 module _ (card digest : List ℕ) (made : CardDigest) (e : made ≡ cardDigest card) where

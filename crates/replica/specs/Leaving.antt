@@ -8,6 +8,7 @@ use Rattle.base.specs.Outcome.{accepted}
 use Rattle.base.specs.Timestamp.{start}
 use Rattle.base.specs.declared.replica_set.ReplicaSet.{ReplicaSet}
 use Rattle.wire.specs.Acceptance.{acceptance}
+use Rattle.wire.specs.Decode.{registerIn}
 use Rattle.wire.specs.declared.message.Fields.{Fields}
 use Rattle.wire.specs.declared.message.Party.the-variants.{Replica as AtReplica}
 use Rattle.protocol.specs.Replica.{replicaStep, ReplicaCall, replicaAnswers, freshRegister}
@@ -40,4 +41,4 @@ pub record Passes (replica : Replica) (bytes : List ℕ) (fields : Fields) (sign
 -- What a call on such a message leaves, whichever verdicts let it through.
 pub record Answers (replica : Replica) (bytes : List ℕ) (fields : Fields) (old : List ℕ) (stepped : Stepped) (new : List ℕ) : Type 0 where
   pub leaves : (verdicts : List ℕ) (signers : ReplicaSet) → acceptance AtReplica (replica .f) bytes verdicts ≡ accepted (fields, signers)
-      → Leaves replica (replicaAnswers replica old (replicaStep replica bytes verdicts)) stepped new
+      → Leaves replica (replicaAnswers (registerIn bytes) replica old (replicaStep replica bytes verdicts)) stepped new

@@ -1,4 +1,3 @@
-pub mod Exported
 pub mod Kinds
 pub mod Leaving
 pub mod Stepping

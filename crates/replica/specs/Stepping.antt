@@ -4,7 +4,10 @@ use mathlib.Core.Bool.{cond}
 use mathlib.Core.List.{List, _++_}
 use Prim.Native.Nat.{ℕ, _-_, _*_, _≤_}
 use lib.ListN.{take, drop, set}
+use Rattle.base.specs.declared.party.ReplicaId.{ReplicaId}
+use Rattle.wire.specs.Decode.{registerIn}
 use Rattle.protocol.specs.Replica.{replicaStep, answerOutcome, sentLength, withOutput, withSlots, withHeld, replicaCall}
+use Rattle.protocol.specs.declared.replica.Register.{Register}
 use Rattle.protocol.specs.declared.replica.Replica.{Replica}
 use Rattle.protocol.specs.declared.replica.ReplicaAnswer.{ReplicaAnswer}
 use Rattle.protocol.specs.declared.replica.Slots.{Slots}
@@ -31,10 +34,14 @@ pub record Changes (replica : Replica) (stepped : Stepped) : Type 0 where
   pub first : 1 ≤ stepped .prepared .client .0
   pub last : stepped .prepared .client .0 ≤ 64
 
--- The contract of a step, by value and on a lent record alike: its answer, and the record and the output afterwards.
+-- One register's part of a replica, made of its numbers and the register.
+abbrev pub partOf : ℕ → ReplicaId → Register → Replica
+partOf f id register = record { f = f; id = id; register = register }
+
+-- The contract of a step, by value and on a lent register alike: its answer, and the record and the output afterwards.
 -- `outcome` says the answer by document 01's numbers: the length of the message to send, or the refusal.
 pub record Steps (replica : Replica) (bytes verdicts old : List ℕ) (answered : ReplicaAnswer) (left : Replica) (new : List ℕ) : Type 0 where
   pub answer : answered ≡ replicaCall replica bytes verdicts old .answer
-  pub outcome : answerOutcome answered ≡ sentLength (withOutput old (replicaStep replica bytes verdicts))
+  pub outcome : answerOutcome answered ≡ sentLength (registerIn bytes) (withOutput old (replicaStep replica bytes verdicts))
   pub next : left ≡ replicaCall replica bytes verdicts old .replica
   pub output : new ≡ replicaCall replica bytes verdicts old .output

@@ -1,4 +1,4 @@
-// The four requests on plain values, each with its reply in the output.
+// The four requests on plain values, each with its reply in the output, for the register that was asked for.
 use crate::Prepared;
 use crate::Stepped;
 use crate::fresh_held;
@@ -10,6 +10,7 @@ use crate::register::slot_admits;
 use crate::register::slot_is;
 use base::bytes::same;
 use base::party::ClientId;
+use base::party::RegisterId;
 use base::refusal::BAD_CARD;
 use base::refusal::NOT_OWN;
 use base::refusal::NOT_SUCCESSOR;
@@ -107,15 +108,22 @@ fn with_held(replica: Replica, held: Held) -> Replica
 }
 
 // READ-STAMP
-pub(super) fn read_stamp(replica: Replica, client: ClientId, nonce: u64, out: &mut [u8]) -> Stepped
+pub(super) fn read_stamp(
+    replica: Replica,
+    register: RegisterId,
+    client: ClientId,
+    nonce: u64,
+    out: &mut [u8],
+) -> Stepped
     requires { ⌜ longest ≤ length (now out) ⌝ }
-    ensures { λ r. ⌜ Leaves replica (replicaAnswers replica (now (out .entry)) (onReadStamp replica client nonce)) r (now (out .exit)) ⌝ }
+    ensures { λ r. ⌜ Leaves replica (replicaAnswers register replica (now (out .entry)) (onReadStamp replica client nonce)) r (now (out .exit)) ⌝ }
 {
     let proof = replica.register.held;
     let digest = proof.digest;
     let entries = proof.entries;
     let encoded = wire::writer::write_stamp(
         out,
+        register,
         replica.id,
         nonce,
         proof.timestamp,
@@ -128,9 +136,15 @@ pub(super) fn read_stamp(replica: Replica, client: ClientId, nonce: u64, out: &m
 }
 
 // READ
-pub(super) fn read(replica: Replica, client: ClientId, nonce: u64, out: &mut [u8]) -> Stepped
+pub(super) fn read(
+    replica: Replica,
+    register: RegisterId,
+    client: ClientId,
+    nonce: u64,
+    out: &mut [u8],
+) -> Stepped
     requires { ⌜ longest ≤ length (now out) ⌝ }
-    ensures { λ r. ⌜ Leaves replica (replicaAnswers replica (now (out .entry)) (onRead replica client nonce)) r (now (out .exit)) ⌝ }
+    ensures { λ r. ⌜ Leaves replica (replicaAnswers register replica (now (out .entry)) (onRead replica client nonce)) r (now (out .exit)) ⌝ }
 {
     let held = replica.register.held;
     let card = held.card;
@@ -138,6 +152,7 @@ pub(super) fn read(replica: Replica, client: ClientId, nonce: u64, out: &mut [u8
     let entries = held.entries;
     let encoded = wire::writer::write_card(
         out,
+        register,
         replica.id,
         nonce,
         &card,
@@ -174,6 +189,7 @@ fn is_successor(timestamp: Timestamp, shown: Timestamp, client: ClientId) -> boo
 // PREPARE
 pub(super) fn prepare(
     replica: Replica,
+    register: RegisterId,
     client: ClientId,
     timestamp: Timestamp,
     digest: &[u8; DIGEST],
@@ -182,7 +198,7 @@ pub(super) fn prepare(
     out: &mut [u8],
 ) -> Stepped
     requires { ⌜ ((1 ≤ client .0) × (client .0 ≤ 64)) × (longest ≤ length (now out)) ⌝ }
-    ensures { λ r. ⌜ Leaves replica (replicaAnswers replica (now (out .entry)) (prepareWith replica client (number timestamp) (now (digest .entry)) (number shown) (number last))) r (now (out .exit)) ⌝ }
+    ensures { λ r. ⌜ Leaves replica (replicaAnswers register replica (now (out .entry)) (prepareWith replica client (number timestamp) (now (digest .entry)) (number shown) (number last))) r (now (out .exit)) ⌝ }
 {
     if !is_own(client, last) {
         return refuse(replica, NOT_OWN);
@@ -200,7 +216,7 @@ pub(super) fn prepare(
         // A refused PREPARE leaves the written timestamp too as it was.
         return refuse(replica, NOT_TAKEN);
     }
-    let encoded = wire::writer::write_prepared(out, replica.id, timestamp, digest);
+    let encoded = wire::writer::write_prepared(out, register, replica.id, timestamp, digest);
     let answer = answer_of(encoded);
     if is_kept(again, before, written) {
         return keep(replica, answer);
@@ -238,19 +254,20 @@ fn stands_for(card: &[u8], digest: &[u8]) -> bool
 // WRITE
 pub(super) fn write(
     replica: Replica,
+    register: RegisterId,
     card: &[u8],
     proof: &[u8],
     signers: ReplicaSet,
     out: &mut [u8],
 ) -> Stepped
     requires { ⌜ Whole (now proof) × (signers ≡ signerSet (preparedFrom (now proof) .entries)) × (longest ≤ length (now out)) ⌝ }
-    ensures { λ r. ⌜ Leaves replica (replicaAnswers replica (now (out .entry)) (onWrite replica (now (card .entry)) (preparedFrom (now (proof .entry))))) r (now (out .exit)) ⌝ }
+    ensures { λ r. ⌜ Leaves replica (replicaAnswers register replica (now (out .entry)) (onWrite replica (now (card .entry)) (preparedFrom (now (proof .entry))))) r (now (out .exit)) ⌝ }
 {
     if !stands_for(card, parts::digest(proof)) {
         return refuse(replica, BAD_CARD);
     }
     let timestamp = parts::timestamp(proof);
-    let encoded = wire::writer::write_written(out, replica.id, timestamp);
+    let encoded = wire::writer::write_written(out, register, replica.id, timestamp);
     let answer = answer_of(encoded);
     let current = replica.register.held.timestamp;
     if !current.is_before(timestamp) {

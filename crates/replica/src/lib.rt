@@ -1,13 +1,10 @@
-// The replica engine (document 01: a holder): setting up, the step by value, and the thin step over a borrowed record.
-pub mod exported;
+// The replica engine (document 01: a holder) of one register: a fresh one, the step by value, and the thin step on a lent register.
 mod kinds;
 mod register;
 mod requests;
 
 use base::party::ClientId;
 use base::party::ReplicaId;
-use base::party::Setup;
-use base::party::replica_setup;
 use base::refusal::OUTPUT_TOO_SHORT;
 use base::replica_set::ReplicaSet;
 use base::timestamp::Timestamp;
@@ -26,15 +23,8 @@ use wire::layout::ENTRIES_ROOM;
 use wire::layout::LONGEST_MESSAGE;
 use wire::message::Party;
 ghost use mathlib.Core.Path.{_≡_};
-ghost use Rattle.base.specs.Party.{replicaSetup, setupOutcome};
-ghost use Rattle.protocol.specs.Replica.{freshRegister, freshReplica, madeReplica};
-ghost use Rattle.replica.specs.Stepping.{Steps, Changes};
-
-// A replica as it is set up. Where that is refused its record is a fresh one of replica 0, for f = 0.
-pub struct NewReplica {
-    pub setup: Setup,
-    pub replica: Replica,
-}
+ghost use Rattle.protocol.specs.Replica.{freshRegister};
+ghost use Rattle.replica.specs.Stepping.{partOf, Steps, Changes};
 
 // What a PREPARE puts: its client's slot, and the written timestamp.
 pub struct Prepared {
@@ -69,7 +59,7 @@ fn fresh_held() -> Held
     }
 }
 
-fn fresh_register() -> Register
+pub fn fresh_register() -> Register
     ensures { λ r. ⌜ r ≡ freshRegister ⌝ }
 {
     Register {
@@ -79,33 +69,6 @@ fn fresh_register() -> Register
             written: Timestamp::start(),
         },
         held: fresh_held(),
-    }
-}
-
-fn fresh_replica(f: u8, id: ReplicaId) -> Replica
-    ensures { λ r. ⌜ r ≡ freshReplica f id ⌝ }
-{
-    Replica {
-        f: f,
-        id: id,
-        register: fresh_register(),
-    }
-}
-
-// The replica with these numbers, or refusal 16.
-pub fn fresh(f: u8, id: ReplicaId) -> NewReplica
-    ensures { λ r. ⌜ (setupOutcome (r .setup) ≡ replicaSetup f id) × (r .replica ≡ madeReplica f id) ⌝ }
-{
-    let setup = replica_setup(f, id);
-    let Setup::Good = setup else {
-        return NewReplica {
-            setup: setup,
-            replica: fresh_replica(0, ReplicaId(0)),
-        };
-    };
-    NewReplica {
-        setup: Setup::Good,
-        replica: fresh_replica(f, id),
     }
 }
 
@@ -124,21 +87,27 @@ pub fn step(replica: Replica, message: &[u8], verdicts: &[u8], out: &mut [u8]) -
     }
 }
 
-// The same on a record that is lent: the step by value, and what it changed stored.
-pub fn step_in_place(
-    replica: &mut Replica,
+// The same on a register that is lent, with f and id beside it: the step by value, and what it changed stored.
+pub fn register_in_place(
+    f: u8,
+    id: ReplicaId,
+    register: &mut Register,
     message: &[u8],
     verdicts: &[u8],
     out: &mut [u8],
 ) -> ReplicaAnswer
-    ensures { λ r. ⌜ Steps (now (replica .entry)) (now (message .entry)) (now (verdicts .entry)) (now (out .entry)) r (now (replica .exit)) (now (out .exit)) ⌝ }
+    ensures { λ r. ⌜ Steps (partOf f id (now (register .entry))) (now (message .entry)) (now (verdicts .entry)) (now (out .entry)) r (partOf f id (now (register .exit))) (now (out .exit)) ⌝ }
 {
-    let before = *replica;
+    let before = Replica {
+        f: f,
+        id: id,
+        register: *register,
+    };
     let stepped = step(before, message, verdicts, out);
     if stepped.holds {
-        replica.register.held = stepped.held;
+        register.held = stepped.held;
     } else if stepped.prepares {
-        replica.register.slots = register::put_slot(replica.register.slots, stepped.prepared);
+        register.slots = register::put_slot(register.slots, stepped.prepared);
     }
     stepped.answer
 }

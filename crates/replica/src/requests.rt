@@ -17,6 +17,7 @@ fn on_prepare(replica: Replica, message: &[u8], fields: Fields, out: &mut [u8]) 
     requires { ⌜ ((signers : ReplicaSet) × Passes replica (now message) fields signers) × (fields .kind ≡ 2) × (longest ≤ length (now out)) ⌝ }
     ensures { λ r. ⌜ Answers replica (now (message .entry)) fields (now (out .entry)) r (now (out .exit)) ⌝ }
 {
+    let register = fields.register;
     let client = ClientId(fields.sender);
     let timestamp = fields.timestamp;
     let digest_at = fields.digest;
@@ -26,7 +27,16 @@ fn on_prepare(replica: Replica, message: &[u8], fields: Fields, out: &mut [u8]) 
     // 0.0 where the proof is missing.
     let shown = parts::timestamp(parts::part(message, prepared_at));
     let last = parts::timestamp(parts::part(message, written_at));
-    kinds::prepare(replica, client, timestamp, &digest, shown, last, out)
+    kinds::prepare(
+        replica,
+        register,
+        client,
+        timestamp,
+        &digest,
+        shown,
+        last,
+        out,
+    )
 }
 
 fn on_write(
@@ -39,10 +49,12 @@ fn on_write(
     requires { ⌜ Passes replica (now message) fields signers × (fields .kind ≡ 3) × (longest ≤ length (now out)) ⌝ }
     ensures { λ r. ⌜ Answers replica (now (message .entry)) fields (now (out .entry)) r (now (out .exit)) ⌝ }
 {
+    let register = fields.register;
     let card_at = fields.card;
     let proof_at = fields.prepared;
     kinds::write(
         replica,
+        register,
         parts::card(message, card_at),
         parts::part(message, proof_at),
         signers,
@@ -62,10 +74,23 @@ pub(super) fn on_message(
     ensures { λ r. ⌜ Answers replica (now (message .entry)) fields (now (out .entry)) r (now (out .exit)) ⌝ }
 {
     let kind = fields.kind;
+    let register = fields.register;
     match kind {
-        1 => kinds::read_stamp(replica, ClientId(fields.sender), fields.nonce, out),
+        1 => kinds::read_stamp(
+            replica,
+            register,
+            ClientId(fields.sender),
+            fields.nonce,
+            out,
+        ),
         2 => on_prepare(replica, message, fields, out),
         3 => on_write(replica, message, fields, signers, out),
-        _ => kinds::read(replica, ClientId(fields.sender), fields.nonce, out),
+        _ => kinds::read(
+            replica,
+            register,
+            ClientId(fields.sender),
+            fields.nonce,
+            out,
+        ),
     }
 }

@@ -4,6 +4,7 @@ use native.Mathlib.Omega.{arith}
 use borrow.Author.Needs.{needs}
 use Rattle.base.specs.Outcome.{accepted, refused}
 use Rattle.wire.specs.Acceptance.{acceptance}
+use Rattle.wire.specs.Decode.{registerIn}
 use Rattle.wire.specs.declared.message.Party.the-variants.{Replica as AtReplica}
 use Rattle.replica.proofs.Asked.{step-refused, steps-long, steps-short}
 use Rattle.replica.proofs.Replies.{refuses}
@@ -40,7 +41,7 @@ returns-3 c =
     let x = c .before .before .before .before .before .before .before .before .before .args in
     let e = step-refused (x .replica) (x .message .now) (x .verdicts .now) _ (turned-down (c .before .before)) in
     steps-long (x .replica) (x .message .now) (x .verdicts .now) (x .out .now) (c .refuse2 .result) _ (omega (arith, c .before .before .before .before .before .if1 .left))
-    (refuses (x .replica) (x .out .now) _ _ (c .refuse2 .result) e (c .refuse2 .ensures))
+    (refuses (registerIn (x .message .now)) (x .replica) (x .out .now) _ _ (c .refuse2 .result) e (c .refuse2 .ensures))
 
 pub step-spec : {M : Type 1} → statement M
 step-spec =

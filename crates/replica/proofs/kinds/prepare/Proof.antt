@@ -35,7 +35,7 @@ asked c = rw (c .before .slot-is .ensures, c .before .before .before .before .be
 returns : tie.Need-returns
 returns c =
     let a = c .before .before .before .before .args in
-    refuses (a .replica) (a .out .now) _ 12 _
+    refuses (a .register) (a .replica) (a .out .now) _ 12 _
     (not-own (a .replica) (a .client) (number (a .timestamp)) (a .digest .now) (number (a .shown)) (number (a .last)) (sym (c .before .before .is-own .ensures) ∙ not-true _ (c .before .if1 .taken)))
     (c .refuse .ensures)
 
@@ -43,7 +43,7 @@ returns-2 : tie.Need-returns-2
 returns-2 c =
     let a = c .before .before .before .before .before .before .args in
     let x = c .before .before in
-    refuses (a .replica) (a .out .now) _ 13 _
+    refuses (a .register) (a .replica) (a .out .now) _ 13 _
     (not-successor (a .replica) (a .client) (number (a .timestamp)) (a .digest .now) (number (a .shown)) (number (a .last)) (own (x .before)) (sym (x .is-successor .ensures) ∙ not-true _ (c .before .if2 .taken)))
     (c .refuse2 .ensures)
 
@@ -52,7 +52,7 @@ returns-3 c =
     let x = c .before .before in
     let s = start x in
     let a = s .args in
-    refuses (a .replica) (a .out .now) _ 15 _
+    refuses (a .register) (a .replica) (a .out .now) _ 15 _
     (not-taken (a .replica) (a .client) (number (a .timestamp)) (a .digest .now) (number (a .shown)) (number (a .last)) (own (x .before .before .before .before .before .before .before .before .before)) (follows (x .before .before .before .before .before .before .before)) (s .pre .0 .0) (omega (arith, s .pre .0 .1)) (x .slot-admits .result) (asked x) (not-true _ (c .before .if3 .taken)))
     (c .refuse3 .ensures)
 
@@ -65,7 +65,7 @@ returns-4 c =
     let a = s .args in
     let is-kept = rw (x .before .slot-is .ensures, x .before .before .before .before .before .later .ensures) at (c .before .before .is-kept .ensures) in
     let same = kept (a .client) (number (a .timestamp)) (a .digest .now) (a .replica .register .slots) (s .pre .0 .0) (omega (arith, s .pre .0 .1)) (max (number (a .replica .register .slots .written)) (number (a .last))) (omega (arith, s .good .0)) (sym is-kept ∙ c .before .if4 .taken) in
-    sends-keeping (a .replica) (a .out .now) _ _ _ _ _ _ _
+    sends-keeping (a .register) (a .replica) (a .out .now) _ _ _ _ _ _ _
     (is-taken (a .replica) (a .client) (number (a .timestamp)) (a .digest .now) (number (a .shown)) (number (a .last)) (own (x .before .before .before .before .before .before .before .before .before)) (follows (x .before .before .before .before .before .before .before)) (s .pre .0 .0) (omega (arith, s .pre .0 .1)) (x .slot-admits .result) (asked x) (not-false _ (w .before .before .if3 .left)))
     (s .pre .1) (w .write-prepared .ensures) (c .before .before .before .answer-of .ensures) (ap (withSlots (a .replica)) same) (c .keep .ensures)
 
@@ -77,9 +77,9 @@ returns-5 c =
     let s = start x in
     let a = s .args in
     let slots = c .before .before .put-slot .ensures in
-    let count : number (a .timestamp) / 256 ≡ a .timestamp .count = omega (arith, s .good .1 .1 .0) in
+    let count : number (a .timestamp) / 256 ≡ a .timestamp .count = omega (arith, s .good .1 .1 .1 .0) in
     let written : ofNumber (max (number (a .replica .register .slots .written)) (number (a .last))) ≡ x .before .before .before .before .before .later .result = rw (← x .before .before .before .before .before .later .ensures) (ofNumber-number (x .before .before .before .before .before .later .result) (omega (arith, x .before .before .before .before .before .later .ok))) in
-    sends (a .replica) (a .out .now) _ _ _ _ _ _
+    sends (a .register) (a .replica) (a .out .now) _ _ _ _ _ _
     (is-taken (a .replica) (a .client) (number (a .timestamp)) (a .digest .now) (number (a .shown)) (number (a .last)) (own (x .before .before .before .before .before .before .before .before .before)) (follows (x .before .before .before .before .before .before .before)) (s .pre .0 .0) (omega (arith, s .pre .0 .1)) (x .slot-admits .result) (asked x) (not-false _ (w .before .before .if3 .left)))
     (s .pre .1) (w .write-prepared .ensures) (c .before .before .before .before .before .before .answer-of .ensures)
     (c .before .with-slots .ensures ∙ rw (slots, written, count))

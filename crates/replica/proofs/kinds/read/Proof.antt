@@ -9,7 +9,7 @@ use Rattle.replica.proofs.kinds.read.Tie as tie
 returns : tie.Need-returns
 returns c =
     let a = c .before .before .before .before .before .before .before .before .before .before .before .before .before .before .args in
-    sends-keeping (a .replica) (a .out .now) _ _ _ (a .replica) _ _ _ refl (omega (arith, c .before .before .before .before .before .before .before .before .before .before .before .before .before .before .pre)) (c .before .before .before .before .write-card .ensures) (c .before .answer-of .ensures) refl (c .keep .ensures)
+    sends-keeping (a .register) (a .replica) (a .out .now) _ _ _ (a .replica) _ _ _ refl (omega (arith, c .before .before .before .before .before .before .before .before .before .before .before .before .before .before .pre)) (c .before .before .before .before .write-card .ensures) (c .before .answer-of .ensures) refl (c .keep .ensures)
 
 pub read-spec : {M : Type 1} → statement M
 read-spec = tie.close (tie.spec (λ c κs. search needs) (λ c κs. search needs) (λ c κs. search needs) (λ c. search needs) returns)

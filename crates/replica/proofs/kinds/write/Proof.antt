@@ -34,7 +34,7 @@ returns : tie.Need-returns
 returns c =
     let x = c .before .before in
     let a = x .before .before .before .before .before .args in
-    refuses (a .replica) (a .out .now) _ 14 _ (wrong-card (a .replica) (a .card .now) (preparedFrom (a .proof .now)) (asked x ∙ not-true _ (c .before .if1 .taken))) (c .refuse .ensures)
+    refuses (a .register) (a .replica) (a .out .now) _ 14 _ (wrong-card (a .replica) (a .card .now) (preparedFrom (a .proof .now)) (asked x ∙ not-true _ (c .before .if1 .taken))) (c .refuse .ensures)
 
 -- Test 14 is passed: WRITTEN with the timestamp that the code wrote.
 right : (c : tie.After-timestamp) → standsFor (c .before .before .before .before .before .before .before .args .card .now) (preparedFrom (c .before .before .before .before .before .before .before .args .proof .now) .digest) ≡ true
@@ -57,7 +57,7 @@ returns-2 c =
     let s = x .before .before .before .before .before .before .before in
     let a = s .args in
     let later = ap (ltb (heldTimestamp (a .replica .register .held))) (stamp x) ∙ sym (c .before .before .is-before .ensures .by-number) ∙ not-true _ (c .before .if2 .taken) in
-    sends-keeping (a .replica) (a .out .now) _ _ _ _ _ _ _ (replies x) (s .pre .2) (w .write-written .ensures) (c .before .before .before .before .answer-of .ensures)
+    sends-keeping (a .register) (a .replica) (a .out .now) _ _ _ _ _ _ _ (replies x) (s .pre .2) (w .write-written .ensures) (c .before .before .before .before .answer-of .ensures)
     (sym (not-later (a .replica) (a .card .now) (preparedFrom (a .proof .now)) later)) (c .keep .ensures)
 
 holding-requires : tie.Need-holding-requires
@@ -73,7 +73,7 @@ returns-3 c =
     let s = x .before .before .before .before .before .before .before in
     let a = s .args in
     let later = ap (ltb (heldTimestamp (a .replica .register .held))) (stamp x) ∙ sym (c .before .before .before .before .is-before .ensures .by-number) ∙ not-false _ (c .before .before .before .if2 .left) in
-    sends (a .replica) (a .out .now) _ _ _ _ _ _ (replies x) (s .pre .2) (w .write-written .ensures) (c .before .before .before .before .before .before .answer-of .ensures)
+    sends (a .register) (a .replica) (a .out .now) _ _ _ _ _ _ (replies x) (s .pre .2) (w .write-written .ensures) (c .before .before .before .before .before .before .answer-of .ensures)
     (c .before .with-held .ensures ∙ ap (withHeld (a .replica)) (c .before .before .holding .ensures ∙ sym (is-later (a .replica) (a .card .now) (preparedFrom (a .proof .now)) later)))
     (record { only = c .before .with-held .ensures; first = rw (c .nothing-prepared .ensures) (omega arith); last = rw (c .nothing-prepared .ensures) (omega arith) })
 

@@ -10,7 +10,7 @@ use Rattle.replica.proofs.requests.on_prepare.Statement.{statement}
 use Rattle.replica.proofs.requests.on_prepare.Tie as tie
 
 abbrev start : tie.After-prepare-arg → tie.Start
-start c = c .before .before .before .before .before .before .before .before .before .before .before .before .before .before
+start c = c .before .before .before .before .before .before .before .before .before .before .before .before .before .before .before
 
 prepare-requires : tie.Need-prepare-requires
 prepare-requires c κs =

@@ -11,7 +11,7 @@ use Rattle.replica.proofs.requests.on_write.Statement.{statement}
 use Rattle.replica.proofs.requests.on_write.Tie as tie
 
 abbrev start : tie.After-write-arg → tie.Start
-start c = c .before .before .before .before .before .before .before
+start c = c .before .before .before .before .before .before .before .before
 
 write-requires : tie.Need-write-requires
 write-requires c κs =

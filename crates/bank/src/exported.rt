@@ -3,12 +3,12 @@ use crate::fresh;
 use crate::step_in_place;
 use base::party::ReplicaId;
 use base::party::Setup;
-use protocol::replica::Replica;
+use protocol::replica::Bank;
 use protocol::replica::ReplicaAnswer;
 ghost use mathlib.Core.Path.{_≡_};
 ghost use Rattle.base.specs.Party.{replicaSetup};
-ghost use Rattle.protocol.specs.Replica.{madeReplica};
-ghost use Rattle.replica.specs.Exported.{inNumbers, isGood, StepsInNumbers};
+ghost use Rattle.protocol.specs.Bank.{madeBank};
+ghost use Rattle.bank.specs.Exported.{inNumbers, isGood, StepsInNumbers};
 
 // An answer: the length of the message to send if `sent`, and the refusal's number otherwise.
 #[repr(C)]
@@ -19,9 +19,9 @@ pub struct NumberedAnswer {
 
 // A replica as it is set up. If that is refused, which is refusal 16, `good` is false.
 #[repr(C)]
-pub struct MadeReplica {
+pub struct MadeBank {
     pub good: bool,
-    pub replica: Replica,
+    pub bank: Bank,
 }
 
 fn in_numbers(answer: ReplicaAnswer) -> NumberedAnswer
@@ -40,33 +40,33 @@ fn in_numbers(answer: ReplicaAnswer) -> NumberedAnswer
 }
 
 #[no_mangle]
-pub extern "C" fn replica_fresh(f: u8, id: ReplicaId) -> MadeReplica
-    ensures { λ r. ⌜ (r .good ≡ isGood (replicaSetup f id)) × (r .replica ≡ madeReplica f id) ⌝ }
+pub extern "C" fn bank_fresh(f: u8, id: ReplicaId) -> MadeBank
+    ensures { λ r. ⌜ (r .good ≡ isGood (replicaSetup f id)) × (r .bank ≡ madeBank f id) ⌝ }
 {
     let made = fresh(f, id);
     let setup = made.setup;
-    let replica = made.replica;
+    let bank = made.bank;
     let Setup::Good = setup else {
-        return MadeReplica {
+        return MadeBank {
             good: false,
-            replica: replica,
+            bank: bank,
         };
     };
-    MadeReplica {
+    MadeBank {
         good: true,
-        replica: replica,
+        bank: bank,
     }
 }
 
 #[no_mangle]
-pub extern "C" fn replica_step(
-    replica: &mut Replica,
+pub extern "C" fn bank_step(
+    bank: &mut Bank,
     message: &[u8],
     verdicts: &[u8],
     out: &mut [u8],
 ) -> NumberedAnswer
-    ensures { λ r. ⌜ StepsInNumbers (now (replica .entry)) (now (message .entry)) (now (verdicts .entry)) (now (out .entry)) r (now (replica .exit)) (now (out .exit)) ⌝ }
+    ensures { λ r. ⌜ StepsInNumbers (now (bank .entry)) (now (message .entry)) (now (verdicts .entry)) (now (out .entry)) r (now (bank .exit)) (now (out .exit)) ⌝ }
 {
-    let answer = step_in_place(replica, message, verdicts, out);
+    let answer = step_in_place(bank, message, verdicts, out);
     in_numbers(answer)
 }

@@ -4,11 +4,11 @@ use mathlib.Core.Bool.{Bool, true, false}
 use mathlib.Core.List.{List}
 use Prim.Native.Nat.{ℕ}
 use Rattle.base.specs.Outcome.{Outcome, accepted, refused}
-use Rattle.protocol.specs.Replica.{replicaCall}
-use Rattle.protocol.specs.declared.replica.Replica.{Replica}
+use Rattle.protocol.specs.Bank.{bankCall}
+use Rattle.protocol.specs.declared.replica.Bank.{Bank}
 use Rattle.protocol.specs.declared.replica.ReplicaAnswer.{ReplicaAnswer}
 use Rattle.protocol.specs.declared.replica.ReplicaAnswer.the-variants.{Send, Refused}
-use Rattle.replica.specs.declared.exported.NumberedAnswer.{NumberedAnswer}
+use Rattle.bank.specs.declared.exported.NumberedAnswer.{NumberedAnswer}
 
 -- An answer in numbers: whether a message is sent, with its length or the refusal's number.
 abbrev pub inNumbers : ReplicaAnswer → NumberedAnswer
@@ -20,8 +20,8 @@ abbrev pub isGood : Outcome (Unit {0}) → Bool
 isGood (accepted done) = true
 isGood (refused number) = false
 
--- The contract of a step: what `Steps` says, with the answer in numbers.
-pub record StepsInNumbers (replica : Replica) (bytes verdicts old : List ℕ) (answered : NumberedAnswer) (left : Replica) (new : List ℕ) : Type 0 where
-  pub answer : answered ≡ inNumbers (replicaCall replica bytes verdicts old .answer)
-  pub next : left ≡ replicaCall replica bytes verdicts old .replica
-  pub output : new ≡ replicaCall replica bytes verdicts old .output
+-- The contract of a step: what `BankSteps` says, with the answer in numbers.
+pub record StepsInNumbers (bank : Bank) (bytes verdicts old : List ℕ) (answered : NumberedAnswer) (left : Bank) (new : List ℕ) : Type 0 where
+  pub answer : answered ≡ inNumbers (bankCall bank bytes verdicts old .answer)
+  pub next : left ≡ bankCall bank bytes verdicts old .bank
+  pub output : new ≡ bankCall bank bytes verdicts old .output

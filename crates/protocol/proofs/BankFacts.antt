@@ -1,0 +1,170 @@
+-- What a call leaves of a bank: the other registers as they were, the message's as its own step says; and where the message's may be
+-- looked for. Assumes nothing.
+use mathlib.Core.Path.{_≡_, refl, sym, ap, subst, _∙_}
+use mathlib.Core.Bool.{Bool, true, false, cond}
+use mathlib.Core.List.{List}
+use Prim.Native.Nat.{ℕ, _<_}
+use native.Mathlib.Omega.{arith}
+use lib.ListN.{length, length-set, getD-replicate}
+use lib.Seq.{set-getD, getD-set-same, getD-set-other}
+use Rattle.base.specs.Outcome.{Outcome, accepted, refused, guard}
+use Rattle.base.specs.Party.{isRegister, registerPlace}
+use Rattle.base.specs.declared.party.RegisterId.{RegisterId}
+use Rattle.base.specs.declared.party.ReplicaId.{ReplicaId}
+use Rattle.base.proofs.Registers.{place-below, place-injective}
+use Rattle.wire.specs.Acceptance.{admitted}
+use Rattle.wire.specs.Decode.{registerIn}
+use Rattle.wire.specs.Message.{Message}
+use Rattle.wire.specs.Writing.{roomy}
+use Rattle.wire.specs.declared.message.Party.the-variants.{Replica as AtReplica}
+use Rattle.wire.proofs.Admitted.{admitted-passed}
+use Rattle.wire.proofs.Parsed.{decode-splits}
+use Rattle.protocol.specs.Bank.{noRegister, partAt, withPartAt, freshBank, placeIn, BankCall, putBack, bankCallAt, bankCall}
+use Rattle.protocol.specs.Replica.{Reply, freshRegister, freshReplica, replicaStep, ReplicaCall, replicaAnswers, withOutput, replicaCall}
+use Rattle.protocol.specs.declared.replica.Bank.{Bank}
+use Rattle.protocol.specs.declared.replica.Register.{Register}
+use Rattle.protocol.specs.declared.replica.Replica.{Replica}
+use Rattle.protocol.specs.declared.replica.ReplicaAnswer.the-variants.{Refused}
+use Rattle.protocol.proofs.RegisterByte.{lastRegister, register-last}
+
+-- ---- Parts
+
+-- Each part of a fresh bank is fresh.
+pub fresh-part : (f : ℕ) (id : ReplicaId) (at : ℕ) → at < 16 → partAt at (freshBank f id) ≡ freshReplica f id
+fresh-part f id at inside = ap (λ (register : Register). record { f = f; id = id; register = register }) (getD-replicate 16 at freshRegister noRegister inside)
+
+module _ (bank : Bank) (at : ℕ) where
+  -- A part that is put back leaves the bank,
+  pub part-itself : withPartAt at (partAt at bank) bank ≡ bank
+  part-itself = ap (λ (registers : List Register). record { f = bank .f; id = bank .id; registers = registers }) (set-getD (bank .registers) at noRegister)
+
+  -- any other the parts at other places,
+  pub part-elsewhere : (part : Replica) (other : ℕ) → (other ≡ at → ⊥) → partAt other (withPartAt at part bank) ≡ partAt other bank
+  part-elsewhere part other apart =
+      ap (λ (register : Register). record { f = bank .f; id = bank .id; register = register }) (getD-set-other (bank .registers) at other (part .register) noRegister apart)
+
+  -- and is there itself.
+  pub part-there : (part : Replica) → at < length (bank .registers) → partAt at (withPartAt at part bank) .register ≡ part .register
+  part-there part inside = getD-set-same (bank .registers) at (part .register) noRegister inside
+
+-- ---- Which register a message is for
+
+module _ (bytes verdicts : List ℕ) where
+  -- A message that is let through is for a register, and the last byte before its signature says which.
+  pub let-through : (f : ℕ) (register : RegisterId) (message : Message) → admitted AtReplica f bytes verdicts ≡ accepted (register, message)
+      → (isRegister (registerIn bytes) ≡ true) × (registerIn bytes ≡ lastRegister bytes)
+  let-through f register message e =
+      let passed = admitted-passed AtReplica f bytes verdicts register message e in
+      let is = decode-splits AtReplica bytes register message (passed .decodes) .0 in
+      (ap isRegister is ∙ passed .registered, register-last AtReplica bytes register message (passed .decodes))
+
+  -- One that is not is refused whatever the register holds.
+  pub refused-alike : (replica : Replica) (n : ℕ) → admitted AtReplica (replica .f) bytes verdicts ≡ refused n → replicaStep replica bytes verdicts ≡ refused n
+  unfolding replicaStep
+  refused-alike replica n e = rw e
+
+  -- 2 to 11 let a message through, or not.
+  data Judged (f : ℕ) : Type 0 where
+    passes : isRegister (registerIn bytes) ≡ true → registerIn bytes ≡ lastRegister bytes → Judged f
+    fails : (n : ℕ) → admitted AtReplica f bytes verdicts ≡ refused n → Judged f
+
+  judged : (f : ℕ) → Judged f
+  judged f = go (admitted AtReplica f bytes verdicts) refl
+    where
+      go : (o : Outcome (RegisterId × Message)) → admitted AtReplica f bytes verdicts ≡ o → Judged f
+      go (accepted (register, message)) e = let both = let-through f register message e in passes (both .0) (both .1)
+      go (refused n) e = fails n e
+
+-- ---- Refused calls
+
+-- The number of a refusal with an output: 1 comes first.
+refused-output : (old : List ℕ) (n : ℕ) → withOutput {A = Reply} old (refused n) ≡ refused (cond (roomy old) n 1)
+unfolding guard
+refused-output old n = go (roomy old)
+  where
+    go : (b : Bool) → guard {A = Reply} 1 b (refused n) ≡ refused (cond b n 1)
+    go true = refl
+    go false = refl
+
+module _ (bank : Bank) (bytes verdicts old : List ℕ) where
+  -- A refusal leaves bank and output as they were, wherever it is judged.
+  refused-back : (at n : ℕ) → putBack at bank (replicaAnswers (registerIn bytes) (partAt at bank) old (refused n)) ≡ record { answer = Refused n; bank = bank; output = old }
+  refused-back at n = ap (λ (left : Bank). record { answer = Refused n; bank = left; output = old }) (part-itself bank at)
+
+  refused-at : (at n : ℕ) → replicaStep (partAt at bank) bytes verdicts ≡ refused n → bankCallAt at bank bytes verdicts old ≡ record { answer = Refused (cond (roomy old) n 1); bank = bank; output = old }
+  unfolding replicaCall
+  refused-at at n e =
+      ap (λ (step : Outcome Reply). putBack at bank (replicaAnswers (registerIn bytes) (partAt at bank) old (withOutput old step))) e
+      ∙ ap (λ (step : Outcome Reply). putBack at bank (replicaAnswers (registerIn bytes) (partAt at bank) old step)) (refused-output old n)
+      ∙ refused-back at (cond (roomy old) n 1)
+
+  -- So a bank may look for the register in the last byte before the signature, without a test: it makes the same call.
+  pub call-by-last-byte : bankCallAt (registerPlace (lastRegister bytes)) bank bytes verdicts old ≡ bankCall bank bytes verdicts old
+  unfolding bankCall
+  call-by-last-byte = go (judged bytes verdicts (bank .f))
+    where
+      go : Judged bytes verdicts (bank .f) → bankCallAt (registerPlace (lastRegister bytes)) bank bytes verdicts old ≡ bankCallAt (placeIn bytes) bank bytes verdicts old
+      go (passes registered last) = ap (λ (register : RegisterId). bankCallAt (registerPlace register) bank bytes verdicts old) (sym last)
+      go (fails n e) =
+          refused-at (registerPlace (lastRegister bytes)) n (refused-alike bytes verdicts (partAt (registerPlace (lastRegister bytes)) bank) n e)
+          ∙ sym (refused-at (placeIn bytes) n (refused-alike bytes verdicts (partAt (placeIn bytes) bank) n e))
+
+  -- ---- What a call leaves
+
+  abbrev left : Bank
+  left = bankCall bank bytes verdicts old .bank
+
+  abbrev single : ReplicaCall
+  single = replicaCall (partAt (placeIn bytes) bank) bytes verdicts old
+
+  pub f-kept : left .f ≡ bank .f
+  unfolding bankCall
+  f-kept = refl
+
+  pub id-kept : left .id ≡ bank .id
+  unfolding bankCall
+  id-kept = refl
+
+  -- As many registers as before: 16, since a bank begins with 16.
+  pub length-kept : length (left .registers) ≡ length (bank .registers)
+  unfolding bankCall
+  length-kept = length-set (bank .registers) (placeIn bytes) (single .replica .register)
+
+  -- "A message for one set leaves the other fifteen registers as they were": all places but the message's,
+  pub others-kept : (at : ℕ) → (at ≡ placeIn bytes → ⊥) → partAt at left ≡ partAt at bank
+  unfolding bankCall
+  others-kept at other = part-elsewhere bank (placeIn bytes) (single .replica) at other
+
+  -- and all registers but the message's, which may be for none.
+  pub other-registers-kept : (register : RegisterId) → isRegister register ≡ true → (register ≡ registerIn bytes → ⊥) → partAt (registerPlace register) left ≡ partAt (registerPlace register) bank
+  unfolding bankCall
+  other-registers-kept register registered other = go (judged bytes verdicts (bank .f))
+    where
+      go : Judged bytes verdicts (bank .f) → partAt (registerPlace register) left ≡ partAt (registerPlace register) bank
+      go (passes known last) = others-kept (registerPlace register) (λ e. other (place-injective register (registerIn bytes) registered known e))
+      go (fails n e) =
+          ap (λ (call : BankCall). partAt (registerPlace register) (call .bank)) (refused-at (placeIn bytes) n (refused-alike bytes verdicts (partAt (placeIn bytes) bank) n e))
+
+  -- The message's register is what its own step says, and so are answer and output.
+  pub register-stepped : length (bank .registers) ≡ 16 → partAt (placeIn bytes) left .register ≡ single .replica .register
+  unfolding bankCall
+  register-stepped sixteen = part-there bank (placeIn bytes) (single .replica) (subst (λ (n : ℕ). placeIn bytes < n) (sym sixteen) (place-below (registerIn bytes)))
+
+  pub answer-stepped : bankCall bank bytes verdicts old .answer ≡ single .answer
+  unfolding bankCall
+  answer-stepped = refl
+
+  pub output-stepped : bankCall bank bytes verdicts old .output ≡ single .output
+  unfolding bankCall
+  output-stepped = refl
+
+  -- A refusal leaves all as it was.
+  pub refusal-keeps : (n : ℕ) → bankCall bank bytes verdicts old .answer ≡ Refused n → (left ≡ bank) × (bankCall bank bytes verdicts old .output ≡ old)
+  unfolding bankCall replicaCall
+  refusal-keeps n e = go (withOutput old (replicaStep (partAt (placeIn bytes) bank) bytes verdicts)) e
+    where
+      go : (o : Outcome Reply) → replicaAnswers (registerIn bytes) (partAt (placeIn bytes) bank) old o .answer ≡ Refused n
+          → (withPartAt (placeIn bytes) (replicaAnswers (registerIn bytes) (partAt (placeIn bytes) bank) old o .replica) bank ≡ bank)
+          × (replicaAnswers (registerIn bytes) (partAt (placeIn bytes) bank) old o .output ≡ old)
+      go (accepted reply) e = let z : _≡_ {A = ℕ} 0 1 = cc in absurd (omega arith)
+      go (refused k) e = (part-itself bank (placeIn bytes), refl)
