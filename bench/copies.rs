@@ -1,13 +1,13 @@
 //! Lists the copies that each step of `steps` makes, proved and plain, by size: the calls of memcpy, memmove and memset.
-//! Fails if the proved replica copies its slots in a step that is no PREPARE. Run by `bench/run`.
+//! Fails if the proved replica copies slots in a step that is no PREPARE, or more than a register in any. Run by `bench/run`.
 //!
 //! The three functions are defined here, so that the linker takes them and not the C library's. Copies of up to about a
 //! hundred bytes of known length are no calls, and are not counted: the compiler writes them out.
-mod plain_replica;
+#[path = "../rust/bank.rs"]
+mod bank;
+mod plain_bank;
 #[path = "../model/sha256.rs"]
 mod plain_sha256;
-#[path = "../rust/replica.rs"]
-mod replica;
 mod steps;
 
 use std::collections::BTreeMap;
@@ -63,11 +63,12 @@ fn sizes<R: Served>(step: &Step) -> Vec<usize> {
         .collect()
 }
 
-/// Bytes of all slots' counts, and of what a record holds beside the slots.
+/// Bytes of a register: of all slots' counts, of what it holds beside the slots, and of all.
 const COUNTS: usize = 256;
 const HELD: usize = 776;
+const REGISTER: usize = 3_088;
 
-/// Whether a copy of this size has some of the slots in it: no other part of the record is as large.
+/// Whether a copy of this size has some of the slots in it: no other part of a register is as large.
 fn has_slots(size: usize) -> bool {
     size == COUNTS || size > HELD
 }
@@ -86,11 +87,15 @@ fn listed(sizes: &[usize]) -> String {
 fn main() -> ExitCode {
     let mut good = true;
     for step in steps::all() {
-        let proved = sizes::<replica::Replica>(&step);
-        let plain = sizes::<plain_replica::Replica>(&step);
+        let proved = sizes::<bank::Bank>(&step);
+        let plain = sizes::<plain_bank::Bank>(&step);
         println!("{}\t{}\t{}", step.name, listed(&proved), listed(&plain));
         if !step.name.starts_with("PREPARE") && proved.iter().copied().any(has_slots) {
             eprintln!("copies: the slots are copied in {}", step.name);
+            good = false;
+        }
+        if proved.iter().any(|&size| size > REGISTER) {
+            eprintln!("copies: more than a register is copied in {}", step.name);
             good = false;
         }
     }

@@ -1,13 +1,14 @@
-//! The steps that are measured, and the replicas that take them: the proved one, through its Rust wrapper, and the plain
-//! one. All at f = 5, with a card of 17 bytes and proofs of 11 entries.
+//! The steps that are measured, and the replicas that take them, with their banks of sixteen registers: the proved one, through
+//! its Rust wrapper, and the plain one. All at f = 5, with a card of 17 bytes and proofs of 11 entries.
 use crate::plain_sha256::sha256;
-use crate::{plain_replica, replica};
+use crate::{bank, plain_bank};
 use std::hint::black_box;
 use std::ops::RangeInclusive;
 
 const F: u8 = 5;
 pub const QUORUM: u8 = 2 * F + 1;
-pub const OUTPUT: usize = replica::LONGEST_MESSAGE;
+pub const OUTPUT: usize = bank::LONGEST_MESSAGE;
+const REGISTERS: u8 = bank::REGISTERS as u8;
 
 /// A card with all fields, 17 bytes, each as large as it may be: one bit more is a bad card.
 pub const CARD: [u8; 17] = [
@@ -19,31 +20,33 @@ pub const CARD: [u8; 17] = [
 pub trait Served {
     fn made() -> Self;
     fn hand(&mut self, request: &Request, out: &mut [u8]) -> Result<usize, u8>;
-    /// Of the held proof, replica r as bit r - 1.
-    fn held_signers(&self) -> u16;
+    /// Of each register's held proof, replica r as bit r - 1.
+    fn held_signers(&self) -> [u16; bank::REGISTERS];
 }
 
-impl Served for replica::Replica {
+impl Served for bank::Bank {
     fn made() -> Self {
-        replica::Replica::fresh(F, replica::ReplicaId(1)).unwrap()
+        bank::Bank::fresh(F, bank::ReplicaId(1)).unwrap()
     }
 
     #[inline(always)]
     fn hand(&mut self, request: &Request, out: &mut [u8]) -> Result<usize, u8> {
         match self.step(&request.message, &request.verdicts, out) {
-            replica::Answer::Send(length) => Ok(length),
-            replica::Answer::Refused(number) => Err(number),
+            bank::Answer::Send(length) => Ok(length),
+            bank::Answer::Refused(number) => Err(number),
         }
     }
 
-    fn held_signers(&self) -> u16 {
-        self.signers()
+    fn held_signers(&self) -> [u16; bank::REGISTERS] {
+        self.registers()
+            .each_ref()
+            .map(|register| register.held.signers.0)
     }
 }
 
-impl Served for plain_replica::Replica {
+impl Served for plain_bank::Bank {
     fn made() -> Self {
-        plain_replica::Replica::fresh(F, 1).unwrap()
+        plain_bank::Bank::fresh(F, 1).unwrap()
     }
 
     #[inline(always)]
@@ -51,8 +54,10 @@ impl Served for plain_replica::Replica {
         self.step(&request.message, &request.verdicts, out)
     }
 
-    fn held_signers(&self) -> u16 {
-        self.signers()
+    fn held_signers(&self) -> [u16; bank::REGISTERS] {
+        self.registers()
+            .each_ref()
+            .map(plain_bank::Register::signers)
     }
 }
 
@@ -63,12 +68,22 @@ pub struct Request {
     pub verdicts: Vec<u8>,
 }
 
-/// A message with `entries` entries in its proofs, and all signatures genuine.
+impl Request {
+    /// Makes it a request for a register: that is the byte before the signature.
+    #[inline(always)]
+    pub fn set_register(&mut self, register: u8) {
+        let at = self.message.len() - 65;
+        self.message[at] = register;
+    }
+}
+
+/// A message for register 1 with `entries` entries in its proofs, and all signatures genuine.
 pub fn request(map: u16, kind: u8, sender: u8, fields: &[&[u8]], entries: u8) -> Request {
-    let parts: [&[u8]; 4] = [
+    let parts: [&[u8]; 5] = [
         &map.to_be_bytes(),
         &[kind, sender],
         &fields.concat(),
+        &[1],
         &[0; 64],
     ];
     Request {
@@ -104,17 +119,17 @@ pub fn written_proof(count: u32, client: u8) -> Vec<u8> {
 }
 
 pub fn read_stamp(client: u8) -> Request {
-    request(0x07, 1, client, &[&7u64.to_be_bytes()], 0)
+    request(0x207, 1, client, &[&7u64.to_be_bytes()], 0)
 }
 
 pub fn read(client: u8) -> Request {
-    request(0x07, 4, client, &[&7u64.to_be_bytes()], 0)
+    request(0x207, 4, client, &[&7u64.to_be_bytes()], 0)
 }
 
 pub fn write(count: u32, client: u8, card: &[u8]) -> Request {
     let proof = prepared_proof(count, client, sha256(card));
     let fields: [&[u8]; 3] = [&[card.len() as u8], card, &proof];
-    request(0x63, 3, client, &fields, QUORUM)
+    request(0x263, 3, client, &fields, QUORUM)
 }
 
 /// A PREPARE with both proofs, as a client's second and later writes send it.
@@ -126,14 +141,15 @@ fn prepare(count: u32) -> Request {
         &prepared_proof(count - 1, 1, digest),
         &written_proof(count - 1, 1),
     ];
-    request(0xdb, 2, 1, &fields, 2 * QUORUM)
+    request(0x2db, 2, 1, &fields, 2 * QUORUM)
 }
 
 /// Where the timestamps' counts stand in a WRITE of the card, and in a PREPARE with both proofs.
 const WRITE_COUNT: usize = 4 + 1 + CARD.len();
 const PREPARE_COUNTS: [usize; 3] = [4, 41, 41 + 38 + 65 * QUORUM as usize];
 
-/// A request that is handed again and again to a replica which has taken those of `before`.
+/// A request that is handed again and again, for one register after the other, to a replica which has taken those of `before`
+/// for each: no side has a register at hand that the other has to fetch.
 pub struct Step {
     pub name: &'static str,
     before: Vec<Request>,
@@ -154,7 +170,7 @@ pub fn all() -> Vec<Step> {
         refused: None,
     };
     let mut unknown_bit = read(1);
-    unknown_bit.message[0] = 0x80;
+    unknown_bit.message[0] |= 0x80;
     let mut not_genuine = held.clone();
     not_genuine.verdicts[usize::from(QUORUM)] = 0;
     vec![
@@ -186,6 +202,7 @@ pub struct Taking<'a, R> {
     step: &'a Step,
     replica: R,
     request: Request,
+    register: u8,
     out: [u8; OUTPUT],
 }
 
@@ -194,13 +211,18 @@ impl<'a, R: Served> Taking<'a, R> {
         let mut replica = R::made();
         let mut out = [0; OUTPUT];
         for request in &step.before {
-            replica.hand(request, &mut out).unwrap();
+            let mut request = request.clone();
+            for register in 1..=REGISTERS {
+                request.set_register(register);
+                replica.hand(&request, &mut out).unwrap();
+            }
         }
-        assert_eq!(replica.held_signers(), SIGNER_SET);
+        assert_eq!(replica.held_signers(), [SIGNER_SET; bank::REGISTERS]);
         Taking {
             step,
             replica,
             request: step.request.clone(),
+            register: REGISTERS,
             out,
         }
     }
@@ -210,6 +232,8 @@ impl<'a, R: Served> Taking<'a, R> {
         for &at in &self.step.rising {
             raise(&mut self.request.message[at..at + 4]);
         }
+        self.register = self.register % REGISTERS + 1;
+        self.request.set_register(self.register);
         let answer = measured_step(
             &mut self.replica,
             black_box(&self.request),

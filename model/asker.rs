@@ -62,6 +62,8 @@ pub struct Asker {
     next_nonce: Option<u64>,
     /// The nonce of the operation begun last.
     nonce: u64,
+    /// Its register; 0 before the first.
+    pub register: u8,
 }
 
 impl Asker {
@@ -74,26 +76,29 @@ impl Asker {
             id,
             next_nonce: Some(first_nonce),
             nonce: 0,
+            register: 0,
         })
     }
 
-    /// Test 17, and the nonce of the operation that begins.
-    pub fn take_nonce(&mut self, busy: bool) -> Result<(), Refusal> {
+    /// Test 17, and the nonce of the operation that begins. Nonces and operations are counted over all registers.
+    pub fn begin(&mut self, register: u8, busy: bool) -> Result<(), Refusal> {
         refuse_if(17, busy)?;
         self.nonce = self.next_nonce.ok_or(17)?;
         self.next_nonce = self.nonce.checked_add(1);
+        self.register = register;
         Ok(())
     }
 
     pub fn ask(&self, kind: u8) -> Answer {
         let question = Message {
             nonce: Some(self.nonce),
-            ..Message::new(kind, self.id)
+            ..Message::new(kind, self.id, self.register)
         };
         Answer::Sent(question.encode())
     }
 
-    /// Tests 1 to 11 and 14.
+    /// Tests 1 to 11, with 20, then 14, and of 18 that the reply is for the register of the operation begun last: an idle
+    /// party awaits none, for whichever register.
     pub fn check_reply(
         &self,
         bytes: &[u8],
@@ -103,10 +108,11 @@ impl Asker {
         check_room(room)?;
         let reply = Receiver::Client.check(bytes, verdicts, self.f)?;
         reply.check_card()?;
+        refuse_if(18, reply.register() != self.register)?;
         Ok(reply)
     }
 
-    /// Of test 18: whether a reply of this kind is awaited from its replica, after these replies.
+    /// Of test 18: whether a reply for this register is awaited from its replica in this kind, after these replies.
     pub fn awaits(&self, kind: u8, replies: &[Shown], reply: &Message) -> bool {
         reply.kind == kind
             && reply.nonce == Some(self.nonce)

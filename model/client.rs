@@ -34,8 +34,8 @@ enum Phase {
 #[derive(Clone)]
 pub struct Client {
     asker: Asker,
-    /// Of the client's own last finished write.
-    written: Option<WrittenProof>,
+    /// Of the client's own last finished write of each register.
+    written: BTreeMap<u8, WrittenProof>,
     phase: Phase,
 }
 
@@ -51,15 +51,21 @@ impl Client {
     pub fn new(f: u8, id: u8, first_nonce: u64) -> Result<Client, Refusal> {
         Ok(Client {
             asker: Asker::new(f, id, WRITERS, first_nonce)?,
-            written: None,
+            written: BTreeMap::new(),
             phase: Phase::Idle,
         })
     }
 
-    pub fn begin_write(&mut self, card: &[u8], room: usize) -> Result<Answer, Refusal> {
+    pub fn begin_write(
+        &mut self,
+        register: u8,
+        card: &[u8],
+        room: usize,
+    ) -> Result<Answer, Refusal> {
         check_room(room)?;
+        check_register(register)?;
         refuse_if(14, !keeps_table(card))?;
-        self.take_nonce()?;
+        self.begin(register)?;
         self.phase = Phase::ReadTimestamps {
             card: card.to_vec(),
             replies: Vec::new(),
@@ -67,18 +73,19 @@ impl Client {
         Ok(self.asker.ask(READ_TIMESTAMP))
     }
 
-    pub fn begin_read(&mut self, room: usize) -> Result<Answer, Refusal> {
+    pub fn begin_read(&mut self, register: u8, room: usize) -> Result<Answer, Refusal> {
         check_room(room)?;
-        self.take_nonce()?;
+        check_register(register)?;
+        self.begin(register)?;
         self.phase = Phase::Read {
             replies: Vec::new(),
         };
         Ok(self.asker.ask(READ))
     }
 
-    fn take_nonce(&mut self) -> Result<(), Refusal> {
+    fn begin(&mut self, register: u8) -> Result<(), Refusal> {
         let busy = !matches!(self.phase, Phase::Idle);
-        self.asker.take_nonce(busy)
+        self.asker.begin(register, busy)
     }
 
     pub fn receive(
@@ -92,7 +99,7 @@ impl Client {
         Ok(self.take(reply))
     }
 
-    /// Test 18.
+    /// Test 18, but for the register.
     fn awaits(&self, reply: &Message) -> bool {
         let sender = reply.sender;
         match &self.phase {
@@ -174,15 +181,20 @@ impl Client {
                 answer
             }
             Phase::Write { done, replies } => {
-                self.written = Some(WrittenProof {
+                let proof = WrittenProof {
                     timestamp: done.timestamp,
                     entries: entries(replies),
-                });
+                };
+                self.written.insert(self.asker.register, proof);
                 Answer::Done(done)
             }
             Phase::Read { replies } => self.finish_read(replies),
             Phase::WriteBack { done, .. } => Answer::Done(done),
         }
+    }
+
+    fn request(&self, kind: u8) -> Message {
+        Message::new(kind, self.asker.id, self.asker.register)
     }
 
     fn send_prepare(&mut self, card: Vec<u8>, latest: Shown) -> Answer {
@@ -193,8 +205,8 @@ impl Client {
             timestamp: Some(timestamp),
             digest: Some(sha256(&card)),
             prepared: latest.proof,
-            written: self.written.clone(),
-            ..Message::new(PREPARE, self.asker.id)
+            written: self.written.get(&self.asker.register).cloned(),
+            ..self.request(PREPARE)
         };
         self.phase = Phase::Prepare {
             card,
@@ -208,7 +220,7 @@ impl Client {
         let request = Message {
             card: Some(card.to_vec()),
             prepared: Some(proof),
-            ..Message::new(WRITE, self.asker.id)
+            ..self.request(WRITE)
         };
         Answer::Sent(request.encode())
     }

@@ -1,4 +1,4 @@
-//! Messages, their parts, and the tests 1 to 11, 14 and 19, which need no record.
+//! Messages, their parts, and the tests 1 to 11, 14, 19 and 20, which need no record.
 use super::card::{keeps_table, STARTING_CARD};
 use super::sha256::sha256;
 use std::collections::BTreeSet;
@@ -10,13 +10,15 @@ pub type Signature = [u8; 64];
 /// The number of a test under "Turned down".
 pub type Refusal = u8;
 
-pub const LONGEST_MESSAGE: usize = 1579;
+pub const LONGEST_MESSAGE: usize = 1580;
 /// The numbers of the clients that write (desks), which timestamps name.
 pub const WRITERS: RangeInclusive<u8> = 1..=64;
 /// The numbers of the viewing clients (viewing desks of document 02).
 pub const VIEWERS: RangeInclusive<u8> = 65..=96;
 /// The numbers of all clients, which senders and addressed clients have.
 pub const CLIENTS: RangeInclusive<u8> = 1..=96;
+/// The numbers of the registers (sets of document 02).
+pub const REGISTERS: RangeInclusive<u8> = 1..=16;
 /// The fault bounds f (the allowance).
 pub const FAULT_BOUNDS: RangeInclusive<u8> = 1..=5;
 
@@ -115,6 +117,8 @@ pub struct Message {
     pub written: Option<WrittenProof>,
     /// The client that a reply is for (desk addressed).
     pub addressed: Option<u8>,
+    /// The register that the message is for (set).
+    pub register: Option<u8>,
     pub signature: Signature,
 }
 
@@ -149,16 +153,21 @@ pub fn check_room(room: usize) -> Result<(), Refusal> {
     refuse_if(1, room < LONGEST_MESSAGE)
 }
 
+/// Test 20.
+pub fn check_register(register: u8) -> Result<(), Refusal> {
+    refuse_if(20, !REGISTERS.contains(&register))
+}
+
 /// The bits that a kind must have and those that it may have.
 fn bits_of_kind(kind: u8) -> (u16, u16) {
     match kind {
-        READ_TIMESTAMP | READ => (0b0_0000_0111, 0),
-        PREPARE => (0b0_0001_1011, 0b0_1100_0000),
-        WRITE => (0b0_0110_0011, 0),
-        TIMESTAMP => (0b1_0000_0111, 0b0_0100_0000),
-        PREPARED => (0b0_0001_1011, 0),
-        WRITTEN => (0b0_0000_1011, 0),
-        CARD => (0b1_0010_0111, 0b0_0100_0000),
+        READ_TIMESTAMP | READ => (0b10_0000_0111, 0),
+        PREPARE => (0b10_0001_1011, 0b00_1100_0000),
+        WRITE => (0b10_0110_0011, 0),
+        TIMESTAMP => (0b11_0000_0111, 0b00_0100_0000),
+        PREPARED => (0b10_0001_1011, 0),
+        WRITTEN => (0b10_0000_1011, 0),
+        CARD => (0b11_0010_0111, 0b00_0100_0000),
         _ => (u16::MAX, 0),
     }
 }
@@ -237,6 +246,7 @@ impl Reader<'_> {
             prepared: self.field(has(6), Self::prepared)?,
             written: self.field(has(7), Self::written)?,
             addressed: self.field(has(8), Self::byte)?,
+            register: self.field(has(9), Self::byte)?,
             signature: self.bytes()?,
         })
     }
@@ -256,8 +266,8 @@ fn put_entries(out: &mut Vec<u8>, entries: &[Entry]) {
 }
 
 impl Message {
-    /// A message with no field but kind and sender, and with zeros for its signature, as parties send it.
-    pub fn new(kind: u8, sender: u8) -> Message {
+    /// A message with no field but kind, sender and register, and with zeros for its signature, as parties send it.
+    pub fn new(kind: u8, sender: u8, register: u8) -> Message {
         Message {
             kind,
             sender,
@@ -268,6 +278,7 @@ impl Message {
             prepared: None,
             written: None,
             addressed: None,
+            register: Some(register),
             signature: [0; 64],
         }
     }
@@ -282,7 +293,7 @@ impl Message {
     pub fn decode_any_length(bytes: &[u8]) -> Result<Message, Refusal> {
         refuse_if(2, bytes.len() < 2)?;
         let map = u16::from_be_bytes([bytes[0], bytes[1]]);
-        refuse_if(3, map & 0b11 != 0b11 || map >> 9 != 0)?;
+        refuse_if(3, map & 0b11 != 0b11 || map >> 10 != 0)?;
         let mut reader = Reader(&bytes[2..]);
         let message = reader.message(map).ok_or(4)?;
         refuse_if(4, !reader.0.is_empty())?;
@@ -311,6 +322,7 @@ impl Message {
             put_entries(&mut out, &proof.entries);
         }
         out.extend(self.addressed);
+        out.extend(self.register);
         out.extend(self.signature);
         out
     }
@@ -324,6 +336,7 @@ impl Message {
             self.prepared.is_some(),
             self.written.is_some(),
             self.addressed.is_some(),
+            self.register.is_some(),
         ];
         let set = optional
             .into_iter()
@@ -354,6 +367,11 @@ impl Message {
         self.prepared
             .as_ref()
             .map_or(Timestamp::START, |proof| proof.timestamp)
+    }
+
+    /// The register that it is for, of a message that has passed 5.
+    pub fn register(&self) -> u8 {
+        self.register.expect("a field of every kind")
     }
 
     fn has_bits_of_kind(&self) -> bool {
@@ -415,12 +433,13 @@ impl Receiver {
         Ok(message)
     }
 
-    /// Tests 2 to 11, with 19 behind 6.
+    /// Tests 2 to 11, with 19 and 20 behind 6.
     pub fn check(self, bytes: &[u8], verdicts: &[u8], f: u8) -> Result<Message, Refusal> {
         let message = self.read(bytes)?;
         refuse_if(6, !self.senders(f).contains(&message.sender))?;
         let views = self == Receiver::Replica && VIEWERS.contains(&message.sender);
         refuse_if(19, views && message.kind != READ)?;
+        check_register(message.register())?;
         refuse_if(
             7,
             verdicts.len() != message.signatures() || verdicts.iter().any(|&verdict| verdict > 1),

@@ -1,4 +1,4 @@
-//! An independent model of the register, written from the specification and not from the proved code: replicas, clients,
+//! An independent model of the registers, written from the specification and not from the proved code: replicas, clients,
 //! viewing clients, messages, cards and digests, and what a script of calls prints. The comparisons in tests/ and the bench
 //! rest on it.
 pub mod asker;

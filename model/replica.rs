@@ -1,43 +1,38 @@
-//! The model of a replica (a holder of document 01).
+//! The model of a replica (a holder of document 01): sixteen registers, and above them the replica that keeps them.
 use super::card::STARTING_CARD;
 use super::message::*;
 use std::collections::{BTreeMap, BTreeSet};
 
 /// What a replica prepared last for a client (a line of document 01).
 #[derive(Clone, PartialEq)]
-struct Slot {
-    timestamp: Timestamp,
-    digest: Digest,
+pub struct Slot {
+    pub timestamp: Timestamp,
+    pub digest: Digest,
 }
 
 #[derive(Clone)]
-struct Held {
-    card: Vec<u8>,
-    proof: PreparedProof,
+pub struct Held {
+    pub card: Vec<u8>,
+    pub proof: PreparedProof,
 }
 
+/// A register's own record.
 #[derive(Clone)]
-pub struct Replica {
-    f: u8,
-    id: u8,
+pub struct Register {
     /// `None` stands for 0.0 with the starting card.
-    held: Option<Held>,
-    written: Timestamp,
+    pub held: Option<Held>,
+    pub written: Timestamp,
     /// By client; an unused slot is missing.
-    slots: BTreeMap<u8, Slot>,
+    pub slots: BTreeMap<u8, Slot>,
 }
 
-impl Replica {
-    pub fn new(f: u8, id: u8) -> Result<Replica, Refusal> {
-        refuse_if(16, !FAULT_BOUNDS.contains(&f))?;
-        refuse_if(16, !(1..=replicas(f)).contains(&id))?;
-        Ok(Replica {
-            f,
-            id,
+impl Register {
+    fn new() -> Register {
+        Register {
             held: None,
             written: Timestamp::START,
             slots: BTreeMap::new(),
-        })
+        }
     }
 
     /// The held timestamp.
@@ -47,6 +42,13 @@ impl Replica {
             .map_or(Timestamp::START, |held| held.proof.timestamp)
     }
 
+    /// The held card.
+    pub fn card(&self) -> Vec<u8> {
+        self.held
+            .as_ref()
+            .map_or(STARTING_CARD.to_vec(), |held| held.card.clone())
+    }
+
     /// The replicas that vouch for the held card; none at 0.0.
     pub fn signers(&self) -> BTreeSet<u8> {
         self.held
@@ -54,45 +56,31 @@ impl Replica {
             .map_or_else(BTreeSet::new, |held| held.proof.signers())
     }
 
-    pub fn receive(
-        &mut self,
-        bytes: &[u8],
-        verdicts: &[u8],
-        room: usize,
-    ) -> Result<Answer, Refusal> {
-        check_room(room)?;
-        let message = Receiver::Replica.check(bytes, verdicts, self.f)?;
-        let reply = match message.kind {
-            READ_TIMESTAMP => self.show_timestamp(&message),
-            PREPARE => self.prepare(&message)?,
-            WRITE => self.write(message)?,
-            _ => self.show_card(&message),
-        };
-        Ok(Answer::Sent(reply.encode()))
+    /// The reply of replica `id` to a request that has passed 1 to 11.
+    fn answer(&mut self, id: u8, request: Message) -> Result<Message, Refusal> {
+        let register = request.register();
+        let reply = |kind| Message::new(kind, id, register);
+        match request.kind {
+            READ_TIMESTAMP => Ok(self.show(&request, reply(TIMESTAMP))),
+            PREPARE => self.prepare(&request, reply(PREPARED)),
+            WRITE => self.write(request, reply(WRITTEN)),
+            _ => Ok(Message {
+                card: Some(self.card()),
+                ..self.show(&request, reply(CARD))
+            }),
+        }
     }
 
-    fn show_timestamp(&self, request: &Message) -> Message {
+    fn show(&self, request: &Message, reply: Message) -> Message {
         Message {
             nonce: request.nonce,
             addressed: Some(request.sender),
             prepared: self.held.as_ref().map(|held| held.proof.clone()),
-            ..Message::new(TIMESTAMP, self.id)
+            ..reply
         }
     }
 
-    fn show_card(&self, request: &Message) -> Message {
-        let card = self
-            .held
-            .as_ref()
-            .map_or(STARTING_CARD.to_vec(), |held| held.card.clone());
-        Message {
-            kind: CARD,
-            card: Some(card),
-            ..self.show_timestamp(request)
-        }
-    }
-
-    fn prepare(&mut self, request: &Message) -> Result<Message, Refusal> {
+    fn prepare(&mut self, request: &Message, reply: Message) -> Result<Message, Refusal> {
         let client = request.sender;
         let shown = request
             .written
@@ -114,7 +102,7 @@ impl Replica {
         Ok(Message {
             timestamp: Some(new.timestamp),
             digest: Some(new.digest),
-            ..Message::new(PREPARED, self.id)
+            ..reply
         })
     }
 
@@ -125,7 +113,7 @@ impl Replica {
         }
     }
 
-    fn write(&mut self, request: Message) -> Result<Message, Refusal> {
+    fn write(&mut self, request: Message, reply: Message) -> Result<Message, Refusal> {
         request.check_card()?;
         let timestamp = request.prepared_timestamp();
         let is_later = timestamp > self.timestamp();
@@ -134,7 +122,43 @@ impl Replica {
         }
         Ok(Message {
             timestamp: Some(timestamp),
-            ..Message::new(WRITTEN, self.id)
+            ..reply
         })
+    }
+}
+
+#[derive(Clone)]
+pub struct Replica {
+    f: u8,
+    id: u8,
+    /// All sixteen, by number.
+    pub registers: BTreeMap<u8, Register>,
+}
+
+impl Replica {
+    pub fn new(f: u8, id: u8) -> Result<Replica, Refusal> {
+        refuse_if(16, !FAULT_BOUNDS.contains(&f))?;
+        refuse_if(16, !(1..=replicas(f)).contains(&id))?;
+        Ok(Replica {
+            f,
+            id,
+            registers: REGISTERS
+                .map(|register| (register, Register::new()))
+                .collect(),
+        })
+    }
+
+    pub fn receive(
+        &mut self,
+        bytes: &[u8],
+        verdicts: &[u8],
+        room: usize,
+    ) -> Result<Answer, Refusal> {
+        check_room(room)?;
+        let request = Receiver::Replica.check(bytes, verdicts, self.f)?;
+        let register = self.registers.get_mut(&request.register());
+        let register = register.expect("a number that has passed 20");
+        let reply = register.answer(self.id, request)?;
+        Ok(Answer::Sent(reply.encode()))
     }
 }

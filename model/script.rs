@@ -1,10 +1,11 @@
 //! Plays a script by the model: what the proved program has to print, line by line.
 use super::client::Client;
 use super::message::{bits_of, Answer, Done, Message, Refusal, Timestamp};
-use super::replica::Replica;
+use super::replica::{Register, Replica};
 use super::viewer::Viewer;
 use std::collections::BTreeMap;
 use std::fmt;
+use std::str::FromStr;
 
 /// A script may name the first messages alone by their number.
 pub const KEPT_MESSAGES: usize = 200;
@@ -70,6 +71,9 @@ pub fn unhex(word: &str) -> Option<Vec<u8>> {
     if word == "-" {
         return Some(Vec::new());
     }
+    if word.is_empty() {
+        return None;
+    }
     let value = |digit: u8| match digit {
         b'0'..=b'9' => Some(digit - b'0'),
         b'A'..=b'F' => Some(digit - b'A' + 10),
@@ -79,6 +83,12 @@ pub fn unhex(word: &str) -> Option<Vec<u8>> {
     pairs
         .map(|pair| Some(value(*pair.first()?)? << 4 | value(*pair.get(1)?)?))
         .collect()
+}
+
+/// A decimal number, of digits alone.
+fn number<T: FromStr>(word: &str) -> Option<T> {
+    let digits = word.bytes().all(|byte| byte.is_ascii_digit());
+    word.parse().ok().filter(|_| digits)
 }
 
 /// One verdict 1 per signature; a single one for a message that cannot be laid out.
@@ -92,7 +102,7 @@ pub fn lent(line: &str) -> Option<(&str, usize)> {
         return Some((line, FULL_OUTPUT));
     };
     let (room, call) = words.split_once(' ')?;
-    let room = room.parse().ok().filter(|room| *room <= FULL_OUTPUT)?;
+    let room = number(room).filter(|room| *room <= FULL_OUTPUT)?;
     Some((call, room))
 }
 
@@ -123,17 +133,17 @@ impl<T: Clone> Parties<T> {
     }
 
     fn get(&mut self, id: &str) -> Option<&mut T> {
-        self.present.get_mut(&id.parse().ok()?)
+        self.present.get_mut(&number(id)?)
     }
 
     fn keep(&mut self, id: &str) -> Option<Output> {
-        let id = id.parse().ok()?;
+        let id = number(id)?;
         self.kept.insert(id, self.present.get(&id)?.clone());
         Some(Output::Kept)
     }
 
     fn restore(&mut self, id: &str) -> Option<Output> {
-        let id = id.parse().ok()?;
+        let id = number(id)?;
         self.present.insert(id, self.kept.get(&id)?.clone());
         Some(Output::Restored)
     }
@@ -168,15 +178,15 @@ impl Player {
                 Some(Output::New)
             }
             ["replica", f, id] => {
-                let (f, id) = (f.parse().ok()?, id.parse().ok()?);
+                let (f, id) = (number(f)?, number(id)?);
                 Some(self.replicas.set_up(id, Replica::new(f, id)))
             }
             ["client", f, id, nonce] => {
-                let (f, id, nonce) = (f.parse().ok()?, id.parse().ok()?, nonce.parse().ok()?);
+                let (f, id, nonce) = (number(f)?, number(id)?, number(nonce)?);
                 Some(self.clients.set_up(id, Client::new(f, id, nonce)))
             }
             ["viewer", f, id, nonce] => {
-                let (f, id, nonce) = (f.parse().ok()?, id.parse().ok()?, nonce.parse().ok()?);
+                let (f, id, nonce) = (number(f)?, number(id)?, number(nonce)?);
                 Some(self.viewers.set_up(id, Viewer::new(f, id, nonce)))
             }
             ["keep", "replica", id] => self.replicas.keep(id),
@@ -193,9 +203,12 @@ impl Player {
     fn call(&mut self, call: &str, room: usize) -> Option<Output> {
         let words: Vec<&str> = call.split(' ').collect();
         let answer = match *words {
-            ["write", id, card] => self.clients.get(id)?.begin_write(&unhex(card)?, room),
-            ["read", id] => self.clients.get(id)?.begin_read(room),
-            ["view", id] => self.viewers.get(id)?.begin_view(room),
+            ["write", id, register, card] => {
+                let (register, card) = (number(register)?, unhex(card)?);
+                self.clients.get(id)?.begin_write(register, &card, room)
+            }
+            ["read", id, register] => self.clients.get(id)?.begin_read(number(register)?, room),
+            ["view", id, register] => self.viewers.get(id)?.begin_view(number(register)?, room),
             ["to-replica", id, message, verdicts] => {
                 let (message, verdicts) = self.delivery(message, verdicts)?;
                 self.replicas.get(id)?.receive(&message, &verdicts, room)
@@ -224,12 +237,11 @@ impl Player {
     }
 
     fn message(&mut self, word: &str) -> Option<Vec<u8>> {
-        let Some(number) = word.strip_prefix('@') else {
+        let Some(digits) = word.strip_prefix('@') else {
             return unhex(word);
         };
-        let number: usize = number.parse().ok()?;
-        let kept = self.sent.iter().take(KEPT_MESSAGES);
-        kept.skip(number.checked_sub(1)?).next().cloned()
+        let place = number::<usize>(digits)?.checked_sub(1)?;
+        self.sent.iter().take(KEPT_MESSAGES).nth(place).cloned()
     }
 
     fn output(&mut self, answer: Result<Answer, Refusal>) -> Output {
@@ -249,18 +261,27 @@ impl Player {
         self.replicas.present.get(&id)
     }
 
-    /// What the replicas hold.
-    pub fn held(&self) -> Vec<Timestamp> {
+    pub fn client(&self, id: u8) -> Option<&Client> {
+        self.clients.present.get(&id)
+    }
+
+    pub fn viewer(&self, id: u8) -> Option<&Viewer> {
+        self.viewers.present.get(&id)
+    }
+
+    /// What the replicas hold in a register.
+    pub fn held(&self, register: u8) -> Vec<Timestamp> {
         let replicas = self.replicas.present.values();
-        replicas.map(Replica::timestamp).collect()
+        replicas
+            .filter_map(|replica| replica.registers.get(&register))
+            .map(Register::timestamp)
+            .collect()
     }
 
     /// The line with a message named by its number written out in hex.
     pub fn spelled_out(&self, line: &str) -> String {
         let spell = |word: &str| {
-            let number: Option<usize> = word
-                .strip_prefix('@')
-                .and_then(|number| number.parse().ok());
+            let number: Option<usize> = word.strip_prefix('@').and_then(number);
             let sent = number.and_then(|number| self.sent.get(number.wrapping_sub(1)));
             sent.map_or(word.to_string(), |message| hex(message))
         };

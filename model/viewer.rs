@@ -17,9 +17,10 @@ impl Viewer {
         })
     }
 
-    pub fn begin_view(&mut self, room: usize) -> Result<Answer, Refusal> {
+    pub fn begin_view(&mut self, register: u8, room: usize) -> Result<Answer, Refusal> {
         check_room(room)?;
-        self.asker.take_nonce(self.replies.is_some())?;
+        check_register(register)?;
+        self.asker.begin(register, self.replies.is_some())?;
         self.replies = Some(Vec::new());
         Ok(self.asker.ask(READ))
     }

@@ -201,7 +201,8 @@ function sends(client,    i, hex) {
 }
 
 function begins(client,    what, i) {
-    what = call == "write" ? "write " in_words(text) : call
+    what = call (asked == 1 ? "" : " register " asked)
+    if (call == "write") what = what (asked == 1 ? " " : ": ") in_words(text)
     box(says == "refused" ? "wrong" : "begin", client, what (says == "refused" ? ": " said : ""))
     if (says != "sent") return
     reading[client] = call == "read"

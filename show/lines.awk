@@ -1,5 +1,5 @@
-# Prints a script with the answer beside each line. A message is its number, kind, timestamp, sender and receiver; with
-# whole=1 it is its bytes.
+# Prints a script with the answer beside each line. A message is its number, kind, timestamp, register if it is another than 1,
+# sender and receiver; with whole=1 it is its bytes.
 
 # Long hex words, shortened.
 function short(s,    word, words, i, out) {

@@ -45,10 +45,17 @@ function shown(hex,    map, k, at) {
     return bit(map, 6) ? timestamp(hex, at) : "0.0"
 }
 
-# Kind and timestamp of a message.
-function named(hex) {
+# The register that a message is for, the byte before its signature; none for one without that field.
+function register(hex,    bytes) {
+    bytes = length(hex) / 2
+    return bytes > 64 && bit(value(hex, 0, 2), 9) ? value(hex, bytes - 65, 1) : ""
+}
+
+# Kind and timestamp of a message, and its register if that is another than 1.
+function named(hex,    r) {
     if (!kind(hex)) return "bytes"
-    return kind_name[kind(hex)] (shown(hex) == "" ? "" : " " shown(hex))
+    r = register(hex)
+    return kind_name[kind(hex)] (shown(hex) == "" ? "" : " " shown(hex)) (r == "" || r == 1 ? "" : " for register " r)
 }
 
 # The party that sent a message, by what it says itself.
@@ -59,8 +66,8 @@ function begins_operation(call) { return call == "write" || call == "read" || ca
 # A viewing client stands among the clients: its number tells it from a writer.
 function role(name) { return name == "viewer" ? "client" : name }
 
-# Takes a line apart: call and whom it is about, the card of a write (text), the message that is handed over; and its answer.
-# Remembers what was sent.
+# Takes a line apart: call and whom it is about, the register of a beginning (asked), the card of a write (text), the message
+# that is handed over; and its answer. Remembers what was sent.
 function take(n,    word, from) {
     split(line[n], word, " ")
     from = word[1] == "lent" ? 2 : 0
@@ -77,7 +84,8 @@ function take(n,    word, from) {
         whom = "client " word[from + 2]
     else if (call == "keep" || call == "restore")
         whom = role(word[from + 2]) " " word[from + 3]
-    text = call == "write" ? word[from + 3] : ""
+    asked = begins_operation(call) ? word[from + 3] : ""
+    text = call == "write" ? word[from + 4] : ""
     said = answer[n]
     split(said, word, " ")
     says = word[1]

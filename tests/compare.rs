@@ -169,14 +169,19 @@ fn compare_script(program: &str, seed: u64, script: Script, tally: &mut Tally) -
 fn compare(program: &str, seed: u64, calls: usize) -> io::Result<bool> {
     let mut random = random::Random::new(seed);
     let mut tally = Tally::default();
-    let mut script = generate::every_sender(&mut random);
-    while compare_script(program, seed, script, &mut tally)? {
-        if tally.calls >= calls {
-            return Ok(occurred_enough(&tally, seed));
+    for fixed in [generate::every_sender, generate::every_register] {
+        let script = fixed(&mut random);
+        if !compare_script(program, seed, script, &mut tally)? {
+            return Ok(false);
         }
-        script = generate::script(&mut random);
     }
-    Ok(false)
+    while tally.calls < calls {
+        let script = generate::script(&mut random);
+        if !compare_script(program, seed, script, &mut tally)? {
+            return Ok(false);
+        }
+    }
+    Ok(occurred_enough(&tally, seed))
 }
 
 fn occurred_enough(tally: &Tally, seed: u64) -> bool {

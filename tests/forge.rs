@@ -20,7 +20,19 @@ pub fn room(random: &mut Random) -> usize {
     let near = 1560 + random.below(41);
     let any = random.below(1601);
     let tiny = random.below(4);
-    random.pick(&[1579, 1579, 1579, 1578, near, near, near, near, any, tiny])
+    random.pick(&[1580, 1580, 1580, 1579, near, near, near, near, any, tiny])
+}
+
+/// Mostly 1 or 2, so that registers meet; the last one too.
+pub fn good_register(random: &mut Random) -> u8 {
+    let any = 1 + random.below(16) as u8;
+    random.pick(&[1, 1, 1, 1, 2, 2, 2, 2, 16, any])
+}
+
+/// None of the registers: mostly a number beside them.
+pub fn bad_register(random: &mut Random) -> u8 {
+    let above = 17 + random.below(239) as u8;
+    random.pick(&[0, 0, 17, 17, 255, above])
 }
 
 /// A card with these bits: all values in their ranges, except that the field of bit `wrong.0` has the value `wrong.1`.
@@ -132,8 +144,8 @@ pub fn trimmed(full: Message) -> Message {
     }
 }
 
-/// A message that breaks none of 2 to 14, but for its sender's number.
-pub fn sound(random: &mut Random, kind: u8, sender: u8, f: u8) -> Message {
+/// A message that breaks none of 2 to 14, but for its sender's number and its register.
+pub fn sound(random: &mut Random, kind: u8, sender: u8, register: u8, f: u8) -> Message {
     let shows = kind == WRITE || random.percent(60);
     let card = if shows {
         good_card(random)
@@ -161,7 +173,7 @@ pub fn sound(random: &mut Random, kind: u8, sender: u8, f: u8) -> Message {
         written: Some(written_proof(random, own, f)).filter(|_| random.percent(50)),
         addressed: Some(random.pick(&[1, 64, 65, 96])),
         signature: random.bytes(),
-        ..Message::new(kind, sender)
+        ..Message::new(kind, sender, register)
     })
 }
 
@@ -169,7 +181,7 @@ pub fn sound(random: &mut Random, kind: u8, sender: u8, f: u8) -> Message {
 type Spoiler = fn(&mut Random, &mut Message, u8) -> bool;
 
 /// Those that need a proof or a card stand twice, as many messages have none.
-const SPOILERS: [Spoiler; 20] = [
+const SPOILERS: [Spoiler; 22] = [
     spoil_kind,
     drop_field,
     add_field,
@@ -190,6 +202,8 @@ const SPOILERS: [Spoiler; 20] = [
     change_digest,
     change_nonce,
     change_addressed,
+    spoil_register,
+    change_register,
 ];
 
 fn spoil_kind(random: &mut Random, message: &mut Message, _: u8) -> bool {
@@ -198,14 +212,15 @@ fn spoil_kind(random: &mut Random, message: &mut Message, _: u8) -> bool {
 }
 
 fn drop_field(random: &mut Random, message: &mut Message, _: u8) -> bool {
-    match random.below(7) {
+    match random.below(8) {
         0 => message.nonce.take().is_some(),
         1 => message.timestamp.take().is_some(),
         2 => message.digest.take().is_some(),
         3 => message.card.take().is_some(),
         4 => message.prepared.take().is_some(),
         5 => message.written.take().is_some(),
-        _ => message.addressed.take().is_some(),
+        6 => message.addressed.take().is_some(),
+        _ => message.register.take().is_some(),
     }
 }
 
@@ -214,7 +229,7 @@ fn add_field(random: &mut Random, message: &mut Message, f: u8) -> bool {
         count: 1,
         client: message.sender,
     };
-    match random.below(7) {
+    match random.below(8) {
         0 => message.nonce = Some(1),
         1 => message.timestamp = Some(timestamp),
         2 => message.digest = Some(random.bytes()),
@@ -227,7 +242,8 @@ fn add_field(random: &mut Random, message: &mut Message, f: u8) -> bool {
             message.prepared = Some(prepared_proof(random, timestamp, digest, f));
         }
         5 => message.written = Some(written_proof(random, timestamp, f)),
-        _ => message.addressed = Some(1),
+        6 => message.addressed = Some(1),
+        _ => message.register = Some(1),
     }
     true
 }
@@ -412,6 +428,16 @@ fn change_addressed(random: &mut Random, message: &mut Message, _: u8) -> bool {
     true
 }
 
+fn spoil_register(random: &mut Random, message: &mut Message, _: u8) -> bool {
+    message.register = Some(bad_register(random));
+    true
+}
+
+fn change_register(random: &mut Random, message: &mut Message, _: u8) -> bool {
+    message.register = Some(good_register(random));
+    true
+}
+
 fn spoil_verdicts(random: &mut Random, verdicts: &mut Vec<u8>) {
     let at = random.below(verdicts.len() + 1);
     match (random.below(10), verdicts.get_mut(at)) {
@@ -442,8 +468,8 @@ fn spoil_bytes(random: &mut Random, bytes: &mut Vec<u8>) {
         (7, _) => bytes
             .iter_mut()
             .take(1)
-            .for_each(|byte| *byte ^= 2 << random.below(7)),
-        _ => bytes.resize(random.pick(&[0, 1, 2, 67, 68, 1579, 1580]), 0),
+            .for_each(|byte| *byte ^= 4 << random.below(6)),
+        _ => bytes.resize(random.pick(&[0, 1, 2, 68, 69, 1580, 1581]), 0),
     }
     bytes.truncate(LONGEST_SCRIPTED);
 }
@@ -480,11 +506,11 @@ pub fn spoiled(random: &mut Random, mut message: Message, f: u8) -> Delivery {
 pub fn garbage(random: &mut Random) -> Delivery {
     let any = random.below(200);
     let length = random.pick(&[
-        0, 1, 2, 3, 66, 67, 68, 69, any, any, any, 1578, 1579, 1580, 2000,
+        0, 1, 2, 3, 67, 68, 69, 70, any, any, any, 1579, 1580, 1581, 2000,
     ]);
     let mut message = random.some_bytes(length);
     if length >= 2 && random.percent(60) {
-        message[0] &= 1;
+        message[0] &= 3;
         message[1] |= 3;
     }
     let verdicts = random.pick(&[vec![], vec![1], vec![0], vec![1, 1]]);

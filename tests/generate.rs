@@ -5,6 +5,7 @@ use crate::model::message::*;
 use crate::model::random::Random;
 use crate::model::script::{all_genuine, hex, Output, Player, KEPT_MESSAGES};
 use crate::model::sha256::sha256;
+use crate::tally::{ELSEWHERE, FOREIGN, NO_PROOF, OWN_PROOF, RIVAL, TWIN};
 use std::collections::{BTreeMap, BTreeSet};
 
 /// Below the 1,048,576 bytes that the proved program reads, with room for the longest line.
@@ -18,7 +19,7 @@ pub struct Finished {
     pub counted: Vec<Message>,
     /// Whether its client has taken or built a prepared proof, in this operation or an earlier one.
     pub had_proof: bool,
-    /// What the replicas hold by then.
+    /// What the replicas hold by then in its register.
     pub held: Vec<Timestamp>,
 }
 
@@ -27,8 +28,8 @@ pub struct Script {
     pub lines: Vec<String>,
     pub expected: Vec<Output>,
     pub finished: Vec<Finished>,
-    /// WRITEs of the timestamp that their replica holds, signed by others than the held proof.
-    pub rivals: usize,
+    /// What shows in no answer by itself, by column and row of the tally.
+    pub noted: BTreeMap<(&'static str, &'static str), usize>,
     bytes: usize,
     player: Player,
 }
@@ -44,6 +45,10 @@ impl Script {
         self.lines.push(line);
         &self.expected[self.expected.len() - 1]
     }
+
+    fn note(&mut self, column: &'static str, row: &'static str) {
+        *self.noted.entry((column, row)).or_default() += 1;
+    }
 }
 
 #[derive(Clone, Copy)]
@@ -51,6 +56,17 @@ enum Party {
     Replica(u8),
     /// Of either kind, which its number tells.
     Client(u8),
+}
+
+impl Party {
+    /// The call by which it is handed a message.
+    fn call(self) -> &'static str {
+        match self {
+            Party::Replica(_) => "to-replica",
+            Party::Client(id) if is_viewer(id) => "to-viewer",
+            Party::Client(_) => "to-client",
+        }
+    }
 }
 
 fn is_viewer(id: u8) -> bool {
@@ -138,6 +154,11 @@ const FAULTY_CLIENTS: Style = Style {
 struct ClientView {
     id: u8,
     busy: bool,
+    /// Of the operation begun last.
+    register: u8,
+    is_write: bool,
+    /// The registers of its finished writes.
+    wrote: BTreeSet<u8>,
     /// The kind of reply to the message sent last, and what replies to its operation have to name.
     awaited: u8,
     nonce: u64,
@@ -155,6 +176,9 @@ impl ClientView {
         ClientView {
             id,
             busy: false,
+            register: 1,
+            is_write: false,
+            wrote: BTreeSet::new(),
             awaited: CARD,
             nonce: 1,
             timestamp: Timestamp {
@@ -181,6 +205,10 @@ impl ClientView {
         self.counted
             .retain(|reply| writes_back && reply.prepared_timestamp() == written_back);
         self.awaited = sent.kind + 4;
+        self.register = sent.register();
+        if sent.nonce.is_some() {
+            self.is_write = sent.kind == READ_TIMESTAMP;
+        }
         self.nonce = sent.nonce.unwrap_or(self.nonce);
         self.timestamp = sent.timestamp.unwrap_or(self.timestamp);
         self.digest = sent.digest.unwrap_or(self.digest);
@@ -206,8 +234,9 @@ struct Run<'a> {
     /// The smallest count forged at present.
     lowest_count: u32,
     mail: Vec<Mail>,
-    proofs: Vec<(PreparedProof, Vec<u8>)>,
-    written: Vec<WrittenProof>,
+    /// Proofs that clients showed, with their registers, and the cards of the prepared ones.
+    proofs: Vec<(u8, PreparedProof, Vec<u8>)>,
+    written: Vec<(u8, WrittenProof)>,
     kept_replicas: BTreeSet<u8>,
     kept_clients: BTreeMap<u8, ClientView>,
 }
@@ -227,11 +256,58 @@ pub fn every_sender(random: &mut Random) -> Script {
     script.add("replica 1 1".to_string());
     for kind in READ_TIMESTAMP..=READ {
         for sender in 0..=u8::MAX {
-            let request = sound(random, kind, sender, 1);
+            let request = sound(random, kind, sender, 1, 1);
             script.add(format!("to-replica 1 {} +", hex(&request.encode())));
         }
     }
     script
+}
+
+/// Every call for each number of a register, and a reply for each to a client and a viewing client that wait for each.
+pub fn every_register(random: &mut Random) -> Script {
+    let mut script = Script::default();
+    script.add("replica 1 1".to_string());
+    for kind in [WRITE, PREPARE, READ_TIMESTAMP, READ] {
+        for register in 0..=u8::MAX {
+            let request = sound(random, kind, 1, register, 1);
+            script.add(format!("to-replica 1 {} +", hex(&request.encode())));
+        }
+    }
+    for register in 0..=u8::MAX {
+        script.add("client 1 1 1".to_string());
+        script.add(format!("write 1 {register} 0000"));
+        for id in [1, 65] {
+            begin_afresh(&mut script, id, register);
+        }
+    }
+    for register in REGISTERS {
+        for id in [1, 65] {
+            begin_afresh(&mut script, id, register);
+            for shown in 0..=u8::MAX {
+                hand_first_card(&mut script, id, shown);
+            }
+        }
+    }
+    script
+}
+
+/// A read or a view by a party with no other operation.
+fn begin_afresh(script: &mut Script, id: u8, register: u8) {
+    let verb = if is_viewer(id) { "view" } else { "read" };
+    script.add(format!("{} 1 {id} 1", noun(id)));
+    script.add(format!("{verb} {id} {register}"));
+}
+
+/// The reply to a first READ that shows the starting card, for some register.
+fn hand_first_card(script: &mut Script, id: u8, register: u8) {
+    let reply = Message {
+        nonce: Some(1),
+        card: Some(STARTING_CARD.to_vec()),
+        addressed: Some(id),
+        ..Message::new(CARD, 1, register)
+    };
+    let call = Party::Client(id).call();
+    script.add(format!("{call} {id} {} +", hex(&reply.encode())));
 }
 
 /// The signing box: bytes that hang on all that is signed, which names the sender.
@@ -240,6 +316,14 @@ fn sign(message: &mut Message) {
     let mix = |seed: u64, &byte: &u8| (seed ^ u64::from(byte)).wrapping_mul(0x100_0000_01b3);
     let seed = bytes[..bytes.len() - 64].iter().fold(0, mix);
     message.signature = Random::new(seed).bytes();
+}
+
+/// The verdict on the entries of a proof that was shown for these registers: their signatures are genuine for no other. A proof
+/// that no client has shown is taken for genuine.
+fn entry_verdict(message: &Message, shown_for: impl Iterator<Item = u8>) -> u8 {
+    let mut shown_for = shown_for.peekable();
+    let is_known = shown_for.peek().is_some();
+    u8::from(!is_known || shown_for.any(|register| Some(register) == message.register))
 }
 
 impl<'a> Run<'a> {
@@ -268,7 +352,7 @@ impl<'a> Run<'a> {
         Run {
             f,
             style,
-            extremes: random.percent(25),
+            extremes: random.percent(30),
             clients,
             senders,
             cards,
@@ -369,23 +453,28 @@ impl<'a> Run<'a> {
             true => return self.deliver(),
         };
         let id = self.clients[at].id;
+        let wrote: Vec<u8> = self.clients[at].wrote.iter().copied().collect();
+        let register = match self.random.below(20) {
+            0 | 1 if with_defects => bad_register(self.random),
+            2..=12 if wrote.len() > 1 => self.random.pick(&wrote),
+            _ => good_register(self.random),
+        };
+        let begun = match is_viewer(id) {
+            true => format!("view {id} {register}"),
+            false if self.random.percent(40) => format!("read {id} {register}"),
+            false => format!("write {id} {register} {}", hex(&self.card_to_write())),
+        };
         let lent = self.lent(40);
-        if is_viewer(id) {
-            return self.play_line(Party::Client(id), format!("{lent}view {id}"), &[]);
-        }
-        if self.random.percent(40) {
-            return self.play_line(Party::Client(id), format!("{lent}read {id}"), &[]);
-        }
-        let card = match self.random.below(10) {
+        self.play_line(Party::Client(id), format!("{lent}{begun}"), &[]);
+    }
+
+    fn card_to_write(&mut self) -> Vec<u8> {
+        let with_defects = self.style.defects > 0;
+        match self.random.below(10) {
             0 if with_defects => bad_card(self.random),
             0..=4 => self.random.pick(&self.cards),
             _ => good_card(self.random),
-        };
-        self.play_line(
-            Party::Client(id),
-            format!("{lent}write {id} {}", hex(&card)),
-            &[],
-        );
+        }
     }
 
     /// How a call's line begins: so many of 100 say how long an output the call is lent. Where nothing is damaged none is too short.
@@ -403,12 +492,12 @@ impl<'a> Run<'a> {
     }
 
     /// Plays a call and takes note of its answer. `handed` is the message that is handed over, empty where none is.
-    fn play_line(&mut self, party: Party, line: String, handed: &[u8]) {
+    fn play_line(&mut self, party: Party, line: String, handed: &[u8]) -> Output {
         let answer = self.script.add(line).clone();
         if !matches!(answer, Output::Refused(_) | Output::Unread) {
             self.note_taken(party, handed);
         }
-        match (answer, party) {
+        match (answer.clone(), party) {
             (Output::Sent(number, message), _) => {
                 let mut message = Message::decode(&message).expect("a party sends whole messages");
                 sign(&mut message);
@@ -417,8 +506,10 @@ impl<'a> Run<'a> {
             (Output::Done(done), Party::Client(id)) => self.note_done(id, done),
             (Output::Ended, Party::Client(id)) => self.note_end(id),
             (Output::Refused(17), Party::Client(id)) => self.renew(id),
+            (Output::Refused(18), Party::Client(id)) => self.note_elsewhere(id, handed),
             _ => (),
         }
+        answer
     }
 
     /// What a client sent goes to all replicas, what a replica sent to the client that asked.
@@ -468,7 +559,8 @@ impl<'a> Run<'a> {
             return;
         };
         match party {
-            Party::Replica(id) => self.note_rival(id, &message),
+            Party::Replica(id) if message.kind == WRITE => self.note_write(id, &message),
+            Party::Replica(_) => (),
             Party::Client(id) => {
                 if let Some(client) = self.client(id) {
                     client.note_taken(message);
@@ -477,20 +569,60 @@ impl<'a> Run<'a> {
         }
     }
 
-    fn note_rival(&mut self, id: u8, request: &Message) {
+    fn note_write(&mut self, id: u8, request: &Message) {
         let (Some(replica), Some(proof)) = (self.script.player.replica(id), &request.prepared)
         else {
             return;
         };
-        let is_rival = request.kind == WRITE
-            && proof.timestamp == replica.timestamp()
-            && proof.signers() != replica.signers();
-        self.script.rivals += usize::from(is_rival);
+        let own = &replica.registers[&request.register()];
+        if own.timestamp() != proof.timestamp {
+            return;
+        }
+        // of one timestamp there is one card in a register
+        let mut others = replica.registers.values();
+        let has_twin =
+            others.any(|other| other.timestamp() == own.timestamp() && other.card() != own.card());
+        let is_rival = proof.signers() != own.signers();
+        let call = Party::Replica(id).call();
+        if has_twin {
+            self.script.note(call, TWIN);
+        }
+        if is_rival {
+            self.script.note(call, RIVAL);
+        }
+    }
+
+    /// A reply was refused with 18: is its register the only reason?
+    fn note_elsewhere(&mut self, id: u8, handed: &[u8]) {
+        let register = self.client(id).map(|client| client.register);
+        let Ok(reply) = Message::decode(handed) else {
+            return;
+        };
+        if reply.register == register {
+            return;
+        }
+        let awaited = Message { register, ..reply }.encode();
+        let genuine = all_genuine(&awaited);
+        let player = &self.script.player;
+        let taken = if is_viewer(id) {
+            let viewer = player.viewer(id).cloned();
+            viewer.map(|mut viewer| viewer.receive(&awaited, &genuine, LONGEST_MESSAGE))
+        } else {
+            let client = player.client(id).cloned();
+            client.map(|mut client| client.receive(&awaited, &genuine, LONGEST_MESSAGE))
+        };
+        if taken.is_some_and(|answer| answer.is_ok()) {
+            self.script.note(Party::Client(id).call(), ELSEWHERE);
+        }
     }
 
     fn note_done(&mut self, id: u8, done: Done) {
-        let held = self.script.player.held();
+        let register = self.client(id).map_or(1, |client| client.register);
+        let held = self.script.player.held(register);
         if let Some(client) = self.client(id) {
+            if client.is_write {
+                client.wrote.insert(register);
+            }
             let finished = Finished {
                 is_view: is_viewer(id),
                 done,
@@ -510,10 +642,15 @@ impl<'a> Run<'a> {
     }
 
     fn note_sent(&mut self, id: u8, sent: Message) {
+        let register = sent.register();
         if let (Some(proof), Some(card)) = (&sent.prepared, &sent.card) {
-            self.proofs.push((proof.clone(), card.clone()));
+            self.proofs.push((register, proof.clone(), card.clone()));
         }
-        self.written.extend(sent.written.clone());
+        let written = sent.written.clone();
+        self.written.extend(written.map(|proof| (register, proof)));
+        if sent.kind == PREPARE {
+            self.note_prepare(id, &sent);
+        }
         let begins = sent.nonce.is_some();
         let shows = match self.random.below(10) {
             0..=3 => Some(self.some_timestamp()),
@@ -526,8 +663,21 @@ impl<'a> Run<'a> {
         }
     }
 
+    /// A client that has written other registers shows the written proof of this one, or none.
+    fn note_prepare(&mut self, id: u8, sent: &Message) {
+        let register = sent.register();
+        let wrote_others = self
+            .client(id)
+            .is_some_and(|client| client.wrote.iter().any(|&other| other != register));
+        if wrote_others {
+            let shows_proof = sent.written.is_some();
+            let row = if shows_proof { OWN_PROOF } else { NO_PROOF };
+            self.script.note(Party::Client(id).call(), row);
+        }
+    }
+
     /// Hands over a message; `number` names one that was sent, with zeros for its signature.
-    fn hand(&mut self, party: Party, delivery: Delivery, number: Option<usize>) {
+    fn hand(&mut self, party: Party, delivery: Delivery, number: Option<usize>) -> Output {
         let Delivery { message, verdicts } = delivery;
         let lent = self.lent(14);
         let genuine = verdicts == all_genuine(&message) && self.random.percent(70);
@@ -537,22 +687,41 @@ impl<'a> Run<'a> {
             hex(&verdicts)
         };
         let word = number.map_or(hex(&message), |number| format!("@{number}"));
-        let line = match party {
-            Party::Replica(id) => format!("{lent}to-replica {id} {word} {verdicts}"),
-            Party::Client(id) => format!("{lent}to-{} {id} {word} {verdicts}", noun(id)),
-        };
-        self.play_line(party, line, &message);
+        let (Party::Replica(id) | Party::Client(id)) = party;
+        let line = format!("{lent}{} {id} {word} {verdicts}", party.call());
+        self.play_line(party, line, &message)
     }
 
     /// With defects as often as the style has them.
     fn hand_message(&mut self, party: Party, message: Message) {
-        let spoils = self.random.percent(self.style.defects);
-        let delivery = if spoils {
-            spoiled(self.random, message, self.f)
-        } else {
-            whole(&message)
-        };
-        self.hand(party, delivery, None);
+        if self.random.percent(self.style.defects) {
+            let delivery = spoiled(self.random, message, self.f);
+            self.hand(party, delivery, None);
+            return;
+        }
+        let delivery = self.judged(&message);
+        let has_foreign = delivery.verdicts.contains(&0);
+        if self.hand(party, delivery, None) == Output::Refused(10) && has_foreign {
+            self.script.note(party.call(), FOREIGN);
+        }
+    }
+
+    /// With the verdicts of the signing box, which knows the proofs that clients have shown.
+    fn judged(&self, message: &Message) -> Delivery {
+        let prepared = message.prepared.iter().flat_map(|proof| {
+            let shown = self.proofs.iter().filter(|(_, shown, _)| shown == proof);
+            let verdict = entry_verdict(message, shown.map(|shown| shown.0));
+            vec![verdict; proof.entries.len()]
+        });
+        let written = message.written.iter().flat_map(|proof| {
+            let shown = self.written.iter().filter(|(_, shown)| shown == proof);
+            let verdict = entry_verdict(message, shown.map(|shown| shown.0));
+            vec![verdict; proof.entries.len()]
+        });
+        Delivery {
+            message: message.encode(),
+            verdicts: [1].into_iter().chain(prepared).chain(written).collect(),
+        }
     }
 
     /// Delivers a message, most often a young one; some are lost, some stay to be repeated.
@@ -583,7 +752,8 @@ impl<'a> Run<'a> {
                 signature: [0; 64],
                 ..mail.message
             };
-            return self.hand(to, whole(&unsigned), Some(mail.number));
+            self.hand(to, whole(&unsigned), Some(mail.number));
+            return;
         }
         self.hand_message(to, mail.message);
     }
@@ -611,7 +781,7 @@ impl<'a> Run<'a> {
         let near = self
             .lowest_count
             .saturating_add(self.random.pick(&[0, 0, 1, 1, 2]));
-        let count = match self.random.below(40) {
+        let count = match self.random.below(28) {
             0 if self.extremes => u32::MAX,
             1 if self.extremes => u32::MAX - 1,
             _ => near,
@@ -622,10 +792,20 @@ impl<'a> Run<'a> {
         }
     }
 
-    /// A proof with its card: one that was sent, or a forged one.
-    fn some_proof(&mut self, timestamp: Option<Timestamp>) -> (PreparedProof, Vec<u8>) {
-        if timestamp.is_none() && !self.proofs.is_empty() && self.random.percent(30) {
-            return self.random.pick(&self.proofs);
+    /// A proof with its card: one that was sent, now and then for another register than this one, or a forged one.
+    fn some_proof(
+        &mut self,
+        register: u8,
+        timestamp: Option<Timestamp>,
+    ) -> (PreparedProof, Vec<u8>) {
+        if timestamp.is_none() && self.random.percent(30) {
+            let any_register = self.random.percent(20);
+            let fits = |known: &&(u8, PreparedProof, Vec<u8>)| any_register || known.0 == register;
+            let known: Vec<_> = self.proofs.iter().filter(fits).cloned().collect();
+            if !known.is_empty() {
+                let (_, proof, card) = self.random.pick(&known);
+                return (proof, card);
+            }
         }
         let timestamp = timestamp.unwrap_or_else(|| self.some_timestamp());
         let card = self.random.pick(&self.cards);
@@ -654,6 +834,7 @@ impl<'a> Run<'a> {
     fn reply_to(&mut self, at: usize) -> Message {
         let ClientView {
             id,
+            register,
             awaited,
             nonce,
             timestamp,
@@ -664,13 +845,19 @@ impl<'a> Run<'a> {
         let any_kind = TIMESTAMP + self.random.below(4) as u8;
         let misfit = self.style.defects > 0 && self.random.percent(6);
         let kind = if misfit { any_kind } else { awaited };
-        let mut reply = Message::new(kind, self.any_replica());
+        let elsewhere = self.style.defects > 0 && self.random.percent(6);
+        let register = if elsewhere {
+            good_register(self.random)
+        } else {
+            register
+        };
+        let mut reply = Message::new(kind, self.any_replica(), register);
         reply.signature = self.random.bytes();
         if kind == PREPARED || kind == WRITTEN {
             reply.timestamp = Some(timestamp);
             reply.digest = Some(digest).filter(|_| kind == PREPARED);
         } else {
-            let (proof, card) = self.shown(shows);
+            let (proof, card) = self.shown(register, shows);
             reply.nonce = Some(nonce);
             reply.addressed = Some(id);
             reply.prepared = proof;
@@ -679,12 +866,16 @@ impl<'a> Run<'a> {
         reply
     }
 
-    fn shown(&mut self, shows: Option<Timestamp>) -> (Option<PreparedProof>, Vec<u8>) {
+    fn shown(
+        &mut self,
+        register: u8,
+        shows: Option<Timestamp>,
+    ) -> (Option<PreparedProof>, Vec<u8>) {
         let shows = shows.filter(|_| self.random.percent(97));
         if shows == Some(Timestamp::START) || shows.is_none() && self.random.percent(20) {
             return (None, STARTING_CARD.to_vec());
         }
-        let (proof, card) = self.some_proof(shows);
+        let (proof, card) = self.some_proof(register, shows);
         (Some(proof), card)
     }
 
@@ -697,14 +888,15 @@ impl<'a> Run<'a> {
         };
         let signature = self.random.bytes();
         let kind = 1 + self.random.weighted(&[12, 46, 27, 15]) as u8;
+        let register = good_register(self.random);
         let mut request = Message {
             signature,
-            ..Message::new(kind, sender)
+            ..Message::new(kind, sender, register)
         };
         match kind {
             PREPARE => self.fill_prepare(&mut request),
             WRITE => {
-                let (proof, card) = self.some_proof(None);
+                let (proof, card) = self.some_proof(register, None);
                 request.card = Some(card);
                 request.prepared = Some(proof);
             }
@@ -720,7 +912,7 @@ impl<'a> Run<'a> {
     fn fill_prepare(&mut self, request: &mut Message) {
         let sender = request.sender;
         if self.random.percent(85) {
-            request.prepared = Some(self.some_proof(None).0);
+            request.prepared = Some(self.some_proof(request.register(), None).0);
         }
         let successor = request.prepared_timestamp().successor(sender);
         request.timestamp = Some(successor.unwrap_or(Timestamp {
@@ -736,7 +928,7 @@ impl<'a> Run<'a> {
     /// Mostly with the sender's own timestamp; some are other clients'.
     fn some_written_proof(&mut self, sender: u8) -> WrittenProof {
         if !self.written.is_empty() && self.random.percent(10) {
-            return self.random.pick(&self.written);
+            return self.random.pick(&self.written).1;
         }
         let timestamp = self.some_timestamp();
         let client = if self.random.percent(94) {
@@ -819,17 +1011,25 @@ impl<'a> Run<'a> {
     fn stray_line(&mut self) {
         let lines = [
             "# a comment",
-            "read 40",
+            "read 40 1",
             "to-replica 17 - -",
             "to-client 65 - -",
             "to-viewer 1 - -",
-            "view 1",
+            "view 1 1",
+            "read 1",
+            "read 1 256",
+            "read 1 +1",
+            "read 1 1 1",
+            "view 65",
+            "view 65 -",
+            "write 1 0000",
+            "write 1 x 0000",
             "keep replica 17",
             "keep viewer 1",
             "restore client 65",
             "restore viewer 97",
-            "lent 1601 read 1",
-            "lent 1579 new",
+            "lent 1601 read 1 1",
+            "lent 1580 new",
             "what",
         ];
         let line = self.random.pick(&lines);

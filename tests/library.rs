@@ -1,5 +1,5 @@
-//! Compares the static library of the crate `replica`, through its Rust wrapper, with the model: whatever scripts of random
-//! runs hand to replicas.
+//! Compares the static library of the crate `bank`, through its Rust wrapper, with the model: whatever scripts of random runs
+//! hand to replicas, and after each call the sixteen registers.
 //!
 //! `library [SEED [CALLS]]`
 mod arguments;
@@ -10,17 +10,18 @@ mod generate;
 mod model;
 #[allow(dead_code)] // the comparison of scripts uses more of it
 mod tally;
-#[path = "../rust/replica.rs"]
+#[path = "../rust/bank.rs"]
 mod wrapper;
 
 use generate::Script;
-use model::message::bits_of;
+use model::message::{bits_of, Message, Timestamp};
 use model::random;
+use model::replica;
 use model::script::{self, unhex, Output, Player};
 use std::collections::BTreeMap;
 use std::process::ExitCode;
 use tally::Tally;
-use wrapper::{Answer, ReplicaId, LONGEST_MESSAGE};
+use wrapper::{Answer, Bank, Register, ReplicaId, LONGEST_MESSAGE};
 
 const UNTOUCHED: u8 = 165;
 
@@ -43,7 +44,7 @@ struct Request {
 struct Server {
     f: u8,
     id: u8,
-    replica: wrapper::Replica,
+    bank: Bank,
     requests: Vec<Request>,
 }
 
@@ -52,7 +53,7 @@ impl Server {
         Some(Server {
             f,
             id,
-            replica: wrapper::Replica::fresh(f, ReplicaId(id))?,
+            bank: Bank::fresh(f, ReplicaId(id))?,
             requests: Vec::new(),
         })
     }
@@ -70,7 +71,7 @@ impl Server {
     fn hand_over(&mut self, request: Request) -> Option<Result<Vec<u8>, u8>> {
         let mut out = vec![UNTOUCHED; request.room];
         let answer = self
-            .replica
+            .bank
             .step(&request.message, &request.verdicts, &mut out);
         self.requests.push(request);
         let length = match answer {
@@ -87,6 +88,72 @@ impl Server {
             Answer::Refused(refusal) => Err(refusal),
         })
     }
+}
+
+impl Server {
+    /// Whether it answers as expected, leaves each register as the model's replica has it, and all but the message's as they
+    /// were.
+    fn answers_alike(
+        &mut self,
+        request: Request,
+        expected: &Output,
+        model: &replica::Replica,
+    ) -> bool {
+        let before = self.bank.registers().clone();
+        let asked = Message::decode(&request.message).ok();
+        let asked = asked.and_then(|message| message.register);
+        let same_answer = match (self.hand_over(request), expected) {
+            (Some(Ok(message)), Output::Sent(_, expected)) => message == *expected,
+            (Some(Err(refusal)), Output::Refused(expected)) => refusal == *expected,
+            _ => false,
+        };
+        let mut registers = (1..).zip(self.bank.registers().iter().zip(&before));
+        same_answer
+            && registers.all(|(id, (after, before))| {
+                *after == record(&model.registers[&id]) && (asked == Some(id) || after == before)
+            })
+    }
+}
+
+/// A register of the model as the library keeps it.
+fn record(register: &replica::Register) -> Register {
+    let mut slots = wrapper::Slots {
+        counts: [0; 64],
+        digests: [0; 2048],
+        written: timestamp(register.written),
+    };
+    for (client, slot) in &register.slots {
+        let at = usize::from(client - 1);
+        slots.counts[at] = slot.timestamp.count;
+        slots.digests[32 * at..][..32].copy_from_slice(&slot.digest);
+    }
+    let proof = register.held.as_ref().map(|held| &held.proof);
+    let entries = proof.map_or(&[][..], |proof| &proof.entries);
+    let entries: Vec<u8> = entries
+        .iter()
+        .flat_map(|entry| [entry.replica].into_iter().chain(entry.signature))
+        .collect();
+    let card = register.card();
+    let held = wrapper::Held {
+        timestamp: timestamp(register.timestamp()),
+        card_length: card.len() as u8,
+        card: with_zeros(&card),
+        digest: proof.map_or([0; 32], |proof| proof.digest),
+        signers: wrapper::ReplicaSet(bits_of(&register.signers())),
+        entry_count: (entries.len() / 65) as u8,
+        entries: with_zeros(&entries),
+    };
+    Register { slots, held }
+}
+
+fn timestamp(Timestamp { count, client }: Timestamp) -> wrapper::Timestamp {
+    wrapper::Timestamp { count, client }
+}
+
+fn with_zeros<const N: usize>(bytes: &[u8]) -> [u8; N] {
+    let mut array = [0; N];
+    array[..bytes.len()].copy_from_slice(bytes);
+    array
 }
 
 #[derive(Default)]
@@ -135,13 +202,7 @@ impl Library {
                 };
                 let id = id.parse().ok()?;
                 let server = self.servers.get_mut(&id)?;
-                let answers_same = match (server.hand_over(request), expected) {
-                    (Some(Ok(message)), Output::Sent(_, expected)) => message == *expected,
-                    (Some(Err(refusal)), Output::Refused(expected)) => refusal == *expected,
-                    _ => false,
-                };
-                let signers = bits_of(&model.replica(id)?.signers());
-                return Some(answers_same && server.replica.signers() == signers);
+                return Some(server.answers_alike(request, expected, model.replica(id)?));
             }
             _ => {}
         }
@@ -160,13 +221,13 @@ fn compare(script: &Script, tally: &mut Tally) -> Result<(), String> {
             continue;
         }
         if library.agrees(&spelled, expected, &model) != Some(true) {
-            return Err(format!("{spelled}\nmust give {expected}, and leave the signers in the record that the model has"));
+            return Err(format!("{spelled}\nmust give {expected}, and leave the sixteen registers that the model has"));
         }
         if line.contains(CALL) {
             tally.count(line, expected);
         }
     }
-    tally.count_rivals(script);
+    tally.count_noted(script);
     Ok(())
 }
 
@@ -175,6 +236,7 @@ fn compare_scripts(seed: u64, calls: usize) -> Result<Tally, String> {
     let mut random = random::Random::new(seed);
     let mut tally = Tally::default();
     compare(&generate::every_sender(&mut random), &mut tally)?;
+    compare(&generate::every_register(&mut random), &mut tally)?;
     while tally.calls < calls {
         compare(&generate::script(&mut random), &mut tally)?;
     }

@@ -7,7 +7,7 @@ use std::collections::{BTreeMap, BTreeSet};
 
 /// Rows beside the answers: outputs on both sides of test 1; answered messages of the largest length; messages that are too
 /// long (2) or almost (9) by the entries of one proof or of two.
-const LENT: [&str; 2] = ["lent 1578", "lent 1579"];
+const LENT: [&str; 2] = ["lent 1579", "lent 1580"];
 const LONGEST: &str = "longest";
 const LONG: [&str; 2] = ["long, 2", "long, 9"];
 const BOTH_LONG: [&str; 2] = ["both, 2", "both, 9"];
@@ -20,7 +20,18 @@ const DONE: &str = "done";
 /// timestamp that others signed than the first one; with a signer above 8; at 0.0, after a proof.
 const SIGNERS: [&str; 4] = ["unheard", "tie", "above 8", "back at 0.0"];
 /// WRITEs of the held timestamp that others signed than the held proof.
-const RIVAL: &str = "rival";
+pub const RIVAL: &str = "rival";
+/// WRITEs of a timestamp that the replica holds with another card in another register.
+pub const TWIN: &str = "twin";
+/// Messages refused with 10 that show a proof of another register.
+pub const FOREIGN: &str = "foreign";
+/// Replies refused with 18 for their register alone.
+pub const ELSEWHERE: &str = "elsewhere";
+/// PREPAREs of clients that have finished writes of other registers: with a written proof, which is of this one, or none.
+pub const OWN_PROOF: &str = "own proof";
+pub const NO_PROOF: &str = "no proof";
+/// Refused with 20 for the number beside the registers, below or above, or not refused for the last one.
+const REGISTER: [&str; 3] = ["register 0", "register 17", "register 16"];
 
 /// What a line is: the set-up, keeping and restoring of a party, or a call.
 struct Column {
@@ -53,20 +64,41 @@ const COLUMNS: [Column; 9] = [
     Column {
         name: "write",
         is_call: true,
-        rows: &["READ-STAMP", LENT[0], LENT[1]],
-        refusals: &[1, 14, 17],
+        rows: &[
+            "READ-STAMP",
+            LENT[0],
+            LENT[1],
+            REGISTER[0],
+            REGISTER[1],
+            REGISTER[2],
+        ],
+        refusals: &[1, 14, 17, 20],
     },
     Column {
         name: "read",
         is_call: true,
-        rows: &["READ", LENT[0], LENT[1]],
-        refusals: &[1, 17],
+        rows: &[
+            "READ",
+            LENT[0],
+            LENT[1],
+            REGISTER[0],
+            REGISTER[1],
+            REGISTER[2],
+        ],
+        refusals: &[1, 17, 20],
     },
     Column {
         name: "view",
         is_call: true,
-        rows: &["READ", LENT[0], LENT[1]],
-        refusals: &[1, 17],
+        rows: &[
+            "READ",
+            LENT[0],
+            LENT[1],
+            REGISTER[0],
+            REGISTER[1],
+            REGISTER[2],
+        ],
+        refusals: &[1, 17, 20],
     },
     Column {
         name: "to-replica",
@@ -84,26 +116,65 @@ const COLUMNS: [Column; 9] = [
             BOTH_LONG[0],
             BOTH_LONG[1],
             RIVAL,
+            TWIN,
+            FOREIGN,
+            REGISTER[0],
+            REGISTER[1],
+            REGISTER[2],
         ],
-        refusals: &[1, 2, 3, 4, 5, 6, 7, 8, 9, 10, 11, 12, 13, 14, 15, 19],
+        refusals: &[1, 2, 3, 4, 5, 6, 7, 8, 9, 10, 11, 12, 13, 14, 15, 19, 20],
     },
     Column {
         name: "to-client",
         is_call: true,
         rows: &[
-            "PREPARE", "WRITE", "counted", DONE, SIGNERS[0], SIGNERS[1], SIGNERS[2], SIGNERS[3],
-            "ended", LENT[0], LENT[1], LONG[0], LONG[1],
+            "PREPARE",
+            "WRITE",
+            "counted",
+            DONE,
+            SIGNERS[0],
+            SIGNERS[1],
+            SIGNERS[2],
+            SIGNERS[3],
+            "ended",
+            LENT[0],
+            LENT[1],
+            LONG[0],
+            LONG[1],
+            FOREIGN,
+            ELSEWHERE,
+            OWN_PROOF,
+            NO_PROOF,
+            REGISTER[0],
+            REGISTER[1],
+            REGISTER[2],
         ],
-        refusals: &[1, 2, 3, 4, 5, 6, 7, 8, 9, 10, 11, 14, 18],
+        refusals: &[1, 2, 3, 4, 5, 6, 7, 8, 9, 10, 11, 14, 18, 20],
     },
     Column {
         name: "to-viewer",
         is_call: true,
         rows: &[
-            "counted", DONE, HELD[0], HELD[1], HELD[2], SIGNERS[0], SIGNERS[1], SIGNERS[2],
-            SIGNERS[3], LENT[0], LENT[1], LONG[0], LONG[1],
+            "counted",
+            DONE,
+            HELD[0],
+            HELD[1],
+            HELD[2],
+            SIGNERS[0],
+            SIGNERS[1],
+            SIGNERS[2],
+            SIGNERS[3],
+            LENT[0],
+            LENT[1],
+            LONG[0],
+            LONG[1],
+            FOREIGN,
+            ELSEWHERE,
+            REGISTER[0],
+            REGISTER[1],
+            REGISTER[2],
         ],
-        refusals: &[1, 2, 3, 4, 5, 6, 7, 8, 9, 10, 11, 14, 18],
+        refusals: &[1, 2, 3, 4, 5, 6, 7, 8, 9, 10, 11, 14, 18, 20],
     },
 ];
 
@@ -128,12 +199,13 @@ fn rows() -> Vec<String> {
         names(&HELD),
         names(&SIGNERS),
         names(&["ended"]),
-        (1..=19).map(refusal_row).collect(),
+        (1..=20).map(refusal_row).collect(),
         names(&LENT),
         names(&[LONGEST]),
         names(&LONG),
         names(&BOTH_LONG),
-        names(&[RIVAL]),
+        names(&[RIVAL, TWIN, FOREIGN, ELSEWHERE, OWN_PROOF, NO_PROOF]),
+        names(&REGISTER),
     ]
     .concat()
 }
@@ -141,6 +213,19 @@ fn rows() -> Vec<String> {
 /// The message that a call hands over in hex.
 fn handed(call: &str) -> Option<Vec<u8>> {
     unhex(call.split(' ').nth(2)?)
+}
+
+/// The register that a call is for: of a beginning, or of a message in hex that has passed 2 to 4.
+fn register(call: &str) -> Option<u8> {
+    let mut words = call.split(' ');
+    let is_delivery = words.next()?.starts_with("to-");
+    let word = words.nth(1)?;
+    if !is_delivery {
+        return word.parse().ok();
+    }
+    // The byte before the signature.
+    let at = word.len().checked_sub(2 * 65)?;
+    u8::from_str_radix(word.get(at..at + 2)?, 16).ok()
 }
 
 /// Which of the rows of `SIGNERS` an operation has.
@@ -199,7 +284,7 @@ impl Tally {
         for finished in &script.finished {
             self.count_finished(finished);
         }
-        self.count_rivals(script);
+        self.count_noted(script);
     }
 
     pub fn count(&mut self, line: &str, output: &Output) {
@@ -218,12 +303,15 @@ impl Tally {
             self.accepted += usize::from(!matches!(output, Output::Refused(_)));
             self.note_output(column, room);
             self.note_message(column, call, output);
+            self.note_register(column, call, output);
         }
     }
 
-    pub fn count_rivals(&mut self, script: &Script) {
-        let column = Column::named("to-replica").expect("a column's name");
-        self.note_times(column, RIVAL, script.rivals);
+    pub fn count_noted(&mut self, script: &Script) {
+        for (&(name, row), &times) in &script.noted {
+            let column = Column::named(name).expect("a column's name");
+            self.note_times(column, row, times);
+        }
     }
 
     fn count_finished(&mut self, finished: &Finished) {
@@ -293,19 +381,30 @@ impl Tally {
         }
     }
 
+    fn note_register(&mut self, column: &Column, call: &str, output: &Output) {
+        let row = match (output, register(call)) {
+            (Output::Refused(20), Some(0)) => REGISTER[0],
+            (Output::Refused(20), Some(17)) => REGISTER[1],
+            (Output::Refused(_), _) => return,
+            (_, Some(16)) => REGISTER[2],
+            _ => return,
+        };
+        self.note(column, row);
+    }
+
     fn times(&self, column: &Column, row: &str) -> usize {
         let key = (column.name, row.to_string());
         self.occurred.get(&key).copied().unwrap_or(0)
     }
 
     pub fn print(&self) {
-        print!("{:11}", "");
+        print!("{:12}", "");
         for column in &COLUMNS {
             print!("{:>11}", column.name);
         }
         println!();
         for row in rows() {
-            print!("{row:11}");
+            print!("{row:12}");
             for column in &COLUMNS {
                 match self.times(column, &row) {
                     0 => print!("{:>11}", "-"),

@@ -1,5 +1,5 @@
-//! Messages with verdicts for the program `messages`: what tests 2 to 11, and 19, make of them.
-use crate::forge::{sound, spoiled, whole, Delivery};
+//! Messages with verdicts for the program `messages`: what tests 2 to 11, with 19 and 20, make of them.
+use crate::forge::{bad_register, good_register, sound, spoiled, whole, Delivery};
 use crate::messages::{letter, receiver, ROOM};
 use crate::model::message::*;
 use crate::model::random::Random;
@@ -10,7 +10,7 @@ const LINES: usize = 12_000;
 /// The program has room for so many.
 const MOST_VERDICTS: usize = 64;
 
-pub const FLOORS: [(&str, usize); 23] = [
+pub const FLOORS: [(&str, usize); 25] = [
     ("replica: accepted", 1_000),
     ("replica: refused 2", 20),
     ("replica: refused 3", 50),
@@ -23,6 +23,7 @@ pub const FLOORS: [(&str, usize); 23] = [
     ("replica: refused 10", 5),
     ("replica: refused 11", 30),
     ("replica: refused 19", 300),
+    ("replica: refused 20", 300),
     ("client: accepted", 1_000),
     ("client: refused 2", 20),
     ("client: refused 3", 50),
@@ -34,6 +35,7 @@ pub const FLOORS: [(&str, usize); 23] = [
     ("client: refused 9", 20),
     ("client: refused 10", 5),
     ("client: refused 11", 50),
+    ("client: refused 20", 300),
 ];
 
 /// Mostly a number that sends such messages, or one beside; some are any.
@@ -50,7 +52,12 @@ fn sender(random: &mut Random, kind: u8, f: u8) -> u8 {
 fn delivery(random: &mut Random, f: u8) -> Delivery {
     let kind = 1 + random.below(KIND_NAMES.len()) as u8;
     let sender = sender(random, kind, f);
-    let message = sound(random, kind, sender, f);
+    let register = if random.percent(15) {
+        bad_register(random)
+    } else {
+        good_register(random)
+    };
+    let message = sound(random, kind, sender, register, f);
     let mut delivery = if random.percent(55) {
         spoiled(random, message, f)
     } else {

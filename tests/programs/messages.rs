@@ -9,7 +9,7 @@ use crate::tally::Tally;
 const PAIRS: usize = 10_000;
 pub const ROOM: usize = 262_144;
 
-pub const FLOORS: [(&str, usize); 21] = [
+pub const FLOORS: [(&str, usize); 23] = [
     ("first later", 1_000),
     ("second later", 1_000),
     ("tie", 500),
@@ -29,6 +29,8 @@ pub const FLOORS: [(&str, usize); 21] = [
     ("read WRITTEN", 50),
     ("read CARD", 1_000),
     ("signatures of both proofs", 50),
+    ("entries shown for register 1", 500),
+    ("entries shown for another", 500),
     ("longest message read", 10),
     ("one byte longer", 20),
 ];
@@ -82,6 +84,12 @@ fn written(random: &mut Random) -> WrittenProof {
     }
 }
 
+/// Any: the reader does not ask whether there is such a register.
+fn register(random: &mut Random) -> u8 {
+    let any = random.byte();
+    random.pick(&[1, 2, 16, 0, 17, any])
+}
+
 /// A message with just the bits of a kind that carries a card, or sometimes of another.
 fn of_kind(random: &mut Random) -> Message {
     let kind = if random.percent(80) {
@@ -99,7 +107,7 @@ fn of_kind(random: &mut Random) -> Message {
         written: Some(written(random)).filter(|_| random.percent(50)),
         addressed: Some(random.byte()),
         signature: random.bytes(),
-        ..Message::new(kind, random.byte())
+        ..Message::new(kind, random.byte(), register(random))
     })
 }
 
@@ -111,7 +119,7 @@ fn change_field(random: &mut Random, message: &mut Message) {
             None => Some(new),
         };
     }
-    match random.below(8) {
+    match random.below(9) {
         0 => message.kind = random.byte(),
         1 => toggle(&mut message.nonce, random.number()),
         2 => toggle(&mut message.timestamp, timestamp(random)),
@@ -119,7 +127,8 @@ fn change_field(random: &mut Random, message: &mut Message) {
         4 => toggle(&mut message.card, card(random)),
         5 => toggle(&mut message.prepared, prepared(random)),
         6 => toggle(&mut message.written, written(random)),
-        _ => toggle(&mut message.addressed, random.byte()),
+        7 => toggle(&mut message.addressed, random.byte()),
+        _ => toggle(&mut message.register, register(random)),
     }
 }
 
@@ -137,7 +146,7 @@ fn longest(random: &mut Random) -> Vec<u8> {
             ..written(random)
         }),
         signature: random.bytes(),
-        ..Message::new(PREPARE, random.byte())
+        ..Message::new(PREPARE, random.byte(), register(random))
     };
     message.encode()
 }
@@ -257,6 +266,7 @@ fn fields(message: &Message) -> String {
             written.map(|written| proof(written.timestamp, &written.entries)),
         ),
         named("addressed", message.addressed.map(|id| id.to_string())),
+        named("register", message.register.map(|id| id.to_string())),
     ]
     .concat()
 }
@@ -287,19 +297,20 @@ fn signature(party: &str, message: &Message) -> String {
     format!(" {party} {} over {covered}", message.sender)
 }
 
-/// The signatures of the entries: each is that of its replica's PREPARED or WRITTEN.
+/// The signatures of the entries: each is that of its replica's PREPARED or WRITTEN for the register of this message.
 fn entry_signatures(message: &Message) -> Vec<String> {
+    let register = message.register();
     let prepared = message.prepared.iter().flat_map(|proof| {
         proof.entries.iter().map(|entry| Message {
             timestamp: Some(proof.timestamp),
             digest: Some(proof.digest),
-            ..Message::new(PREPARED, entry.replica)
+            ..Message::new(PREPARED, entry.replica, register)
         })
     });
     let written = message.written.iter().flat_map(|proof| {
         proof.entries.iter().map(|entry| Message {
             timestamp: Some(proof.timestamp),
-            ..Message::new(WRITTEN, entry.replica)
+            ..Message::new(WRITTEN, entry.replica, register)
         })
     });
     let signed = prepared.chain(written);
@@ -321,6 +332,11 @@ fn signatures(bytes: &[u8], receiver: Receiver, tally: &mut Tally) -> String {
     };
     let own = signature(sender, &message);
     let others = entry_signatures(&message);
+    match (others.is_empty(), message.register()) {
+        (true, _) => {}
+        (false, 1) => tally.count("entries shown for register 1"),
+        (false, _) => tally.count("entries shown for another"),
+    }
     format!(
         "signatures {}{own}{} nothing",
         1 + others.len(),

@@ -1,4 +1,4 @@
-//! The model of the run player: four replicas and four clients, f = 1, first nonce 1, all verdicts 1.
+//! The model of the run player: four replicas and four clients, f = 1, first nonce 1, register 1, all verdicts 1.
 use crate::model::client::Client;
 use crate::model::message::{Answer, Done, Message, Refusal, LONGEST_MESSAGE};
 use crate::model::replica::Replica;
@@ -8,6 +8,7 @@ pub const HEADER: &str = "holders 4 desks 4";
 pub const MOST_LINES: usize = 100;
 pub const PARTIES: u8 = 4;
 pub const MOST_PAIRS: usize = 17;
+const REGISTER: u8 = 1;
 
 /// What a line prints behind its number.
 pub enum Said {
@@ -95,9 +96,9 @@ impl Player {
         Some(match *words {
             [b"w", id, digits] => {
                 let card = card(digits)?;
-                self.clients[party(id)?].begin_write(&card, LONGEST_MESSAGE)
+                self.clients[party(id)?].begin_write(REGISTER, &card, LONGEST_MESSAGE)
             }
-            [b"r", id] => self.clients[party(id)?].begin_read(LONGEST_MESSAGE),
+            [b"r", id] => self.clients[party(id)?].begin_read(REGISTER, LONGEST_MESSAGE),
             [b"h", id, number] => {
                 let message = self.message(number)?;
                 let verdicts = genuine(&message);

@@ -1,5 +1,5 @@
 // Reads messages in hex, one a line, behind `h ` where a replica is handed it and `d ` where a client is, and prints what the reader finds.
-// Behind `hF ` or `dF `, F a fault bound, verdicts follow the message, and it prints what tests 2 to 11, and 19, make of both.
+// Behind `hF ` or `dF `, F a fault bound, verdicts follow the message, and it prints what tests 2 to 11, with 19 and 20, make of both.
 // Behind `l ` two messages stand, and it prints the later card.
 // Behind `s h ` or `s d ` it prints the message's signatures: how many, whose each is, and the bytes that it covers.
 use base::timestamp::Timestamp;
@@ -31,6 +31,8 @@ const PREPARED: u16 = 0x040;
 const WRITTEN: u16 = 0x080;
 
 const ADDRESSED: u16 = 0x100;
+
+const REGISTER: u16 = 0x200;
 
 // Prints the name of a field that is there.
 fn print_name(map: u16, mask: u16, name: &[u8]) -> bool {
@@ -106,6 +108,9 @@ fn print_parts(bytes: &[u8], fields: Fields) {
     }
     if print_name(map, ADDRESSED, b" addressed ") {
         print_byte(fields.addressed.0);
+    }
+    if print_name(map, REGISTER, b" register ") {
+        print_byte(fields.register.0);
     }
 }
 

@@ -19,6 +19,7 @@ use crate::tasks::behind_lent;
 use crate::tasks::lent;
 use crate::viewers;
 use base::party::ClientId;
+use base::party::RegisterId;
 use base::party::Setup;
 use base::slices::front;
 use client::Stepped;
@@ -31,9 +32,8 @@ pub struct ClientCalled {
     pub answer: Answer,
 }
 
-pub fn nobody() -> [Client; 194] {
-    let none = client::fresh(0, ClientId(0), 0).client;
-    [none; 194]
+pub fn nobody() -> Client {
+    client::fresh(0, ClientId(0), 0).client
 }
 
 // A refused set-up leaves what was set up before.
@@ -91,15 +91,15 @@ pub fn called(stepped: Stepped) -> ClientCalled {
     }
 }
 
-fn begin_write(client: Client, card: &[u8], out: &mut [u8]) -> ClientCalled {
-    called(client::begin_write(client, card, out))
+fn begin_write(client: Client, register: u8, card: &[u8], out: &mut [u8]) -> ClientCalled {
+    called(client::begin_write(client, RegisterId(register), card, out))
 }
 
-fn begin_read(client: Client, whom: Whom, out: &mut [u8]) -> ClientCalled {
+fn begin_read(client: Client, whom: Whom, register: u8, out: &mut [u8]) -> ClientCalled {
     if let Whom::Viewer = whom {
-        return viewers::begin_view(client, out);
+        return viewers::begin_view(client, register, out);
     }
-    called(client::begin_read(client, out))
+    called(client::begin_read(client, RegisterId(register), out))
 }
 
 fn step(
@@ -125,8 +125,8 @@ fn call(
 ) -> ClientCalled {
     match call {
         Call::SetUp(f, id, nonce) => set_up(client, whom, f, id, nonce),
-        Call::Write(n) => begin_write(client, front(message, n), out),
-        Call::Read => begin_read(client, whom, out),
+        Call::Write(register, n) => begin_write(client, register, front(message, n), out),
+        Call::Read(register) => begin_read(client, whom, register, out),
         Call::HandOver(n, m) => step(client, whom, front(message, n), front(verdicts, m), out),
         Call::Copy(said) => copy(client, said),
     }

@@ -4,7 +4,9 @@ use crate::tasks::Call;
 use crate::tasks::Task;
 use crate::tasks::Whom;
 use crate::tasks::place;
+use crate::words::Byte;
 use crate::words::Numeral;
+use crate::words::decimal_byte;
 use crate::words::hex;
 use crate::words::number;
 use crate::words::rest;
@@ -114,15 +116,18 @@ fn hand_over(
     Call::HandOver(n as usize, m as usize)
 }
 
-// `write ID CARD`
+// `write ID REGISTER CARD`
 fn write(line: &[u8], card: &mut Message) -> Call {
-    let Numeral::Value(n) = hex(rest(line, 2), card) else {
+    let Byte::Value(register) = decimal_byte(word(line, 2)) else {
+        return Call::Copy(UNREAD);
+    };
+    let Numeral::Value(n) = hex(rest(line, 3), card) else {
         return Call::Copy(UNREAD);
     };
     if n > CARD {
         return Call::Copy(UNREAD);
     }
-    Call::Write(n as usize)
+    Call::Write(register, n as usize)
 }
 
 // The call of a task, with what its line hands over stored; a call whose words cannot be read only copies.
@@ -137,7 +142,7 @@ pub fn handed(
     let call = task.call;
     let whom = task.whom;
     match call {
-        Call::Write(_) => write(line, bytes),
+        Call::Write(_, _) => write(line, bytes),
         Call::HandOver(_, _) => hand_over(party(whom), line, store, sent, bytes, ones),
         _ => call,
     }

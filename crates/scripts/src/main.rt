@@ -2,7 +2,8 @@
 //   new                                set all parties and messages aside
 //   replica F ID, client F ID NONCE,   set a party up
 //   viewer F ID NONCE
-//   write ID CARD, read ID, view ID    begin a client's write or read, or a viewing client's view
+//   write ID REGISTER CARD,            begin a client's write or read, or a viewing client's view
+//   read ID REGISTER, view ID REGISTER
 //   to-replica ID MESSAGE VERDICTS,    hand a message over, `@M` for the M-th that was sent;
 //   to-client ID MESSAGE VERDICTS,     as verdicts `+` for a 1 per signature
 //   to-viewer ID MESSAGE VERDICTS
@@ -20,14 +21,17 @@ mod words;
 
 use base::slices::front;
 use libc::STDIN_FILENO;
-use protocol::client::Client;
-use protocol::replica::Replica;
+use tasks::CLIENT_PLACES;
+use tasks::REPLICA_PLACES;
 use tasks::Whom;
 use tasks::place;
 
 const SCRIPT: usize = 1_048_576;
 
-fn play_lines(script: &[u8], mut replicas: [Replica; 194], mut clients: [Client; 194]) {
+// The records are made here: another function's result would stand on the stack a second time, and they fill half of it.
+fn play_lines(script: &[u8]) {
+    let mut replicas = [replicas::nobody(); REPLICA_PLACES];
+    let mut clients = [clients::nobody(); CLIENT_PLACES];
     let mut held = tasks::nothing_held();
     let mut store = log::empty();
     let mut sent = 0;
@@ -38,10 +42,10 @@ fn play_lines(script: &[u8], mut replicas: [Replica; 194], mut clients: [Client;
         from = end + 1;
         let task = tasks::of_line(line, &held);
         let whom = task.whom;
-        let taken = place(task.taken, 193);
-        let left = place(task.left, 193);
         match whom {
             Whom::Replica => {
+                let taken = place(task.taken, 33);
+                let left = place(task.left, 33);
                 let replica = replicas::turn(
                     replicas[taken],
                     task,
@@ -54,6 +58,8 @@ fn play_lines(script: &[u8], mut replicas: [Replica; 194], mut clients: [Client;
             }
             // A viewing client's record stands among the clients', who have other numbers.
             _ => {
+                let taken = place(task.taken, 193);
+                let left = place(task.left, 193);
                 let client = clients::turn(
                     clients[taken],
                     task,
@@ -77,7 +83,7 @@ fn read(script: &mut [u8; SCRIPT]) -> usize {
 }
 
 fn play(script: &[u8; SCRIPT], n: usize) {
-    play_lines(front(script, n), replicas::nobody(), clients::nobody());
+    play_lines(front(script, n));
 }
 
 fn main() {

@@ -1,4 +1,4 @@
-// Calls of a replica.
+// Calls of a replica, which has a bank of sixteen registers.
 use crate::answers::Outcome;
 use crate::answers::READY;
 use crate::answers::UNREAD;
@@ -17,32 +17,31 @@ use crate::tasks::lent;
 use base::party::ReplicaId;
 use base::party::Setup;
 use base::slices::front;
-use protocol::replica::Replica;
+use protocol::replica::Bank;
 use protocol::replica::ReplicaAnswer;
 
 // What a call leaves.
 struct ReplicaCalled {
-    replica: Replica,
+    bank: Bank,
     outcome: Outcome,
 }
 
-pub fn nobody() -> [Replica; 194] {
-    let none = replica::fresh(0, ReplicaId(0)).replica;
-    [none; 194]
+pub fn nobody() -> Bank {
+    bank::fresh(0, ReplicaId(0)).bank
 }
 
 // A refused set-up leaves what was set up before.
-fn set_up(before: Replica, f: u8, id: u8) -> ReplicaCalled {
-    let made = replica::fresh(f, ReplicaId(id));
+fn set_up(before: Bank, f: u8, id: u8) -> ReplicaCalled {
+    let made = bank::fresh(f, ReplicaId(id));
     let setup = made.setup;
-    let replica = made.replica;
+    let bank = made.bank;
     match setup {
         Setup::Good => ReplicaCalled {
-            replica: replica,
+            bank: bank,
             outcome: Outcome::Said(READY),
         },
         Setup::Refused(number) => ReplicaCalled {
-            replica: before,
+            bank: before,
             outcome: Outcome::Refused(number),
         },
     }
@@ -55,33 +54,33 @@ fn outcome(answer: ReplicaAnswer) -> Outcome {
     }
 }
 
-fn step(before: Replica, message: &[u8], verdicts: &[u8], out: &mut [u8]) -> ReplicaCalled {
-    let stepped = replica::step(before, message, verdicts, out);
+fn step(before: Bank, message: &[u8], verdicts: &[u8], out: &mut [u8]) -> ReplicaCalled {
+    let stepped = bank::step(before, message, verdicts, out);
     let answer = stepped.answer;
-    let replica = stepped.replica;
+    let bank = stepped.bank;
     ReplicaCalled {
-        replica: replica,
+        bank: bank,
         outcome: outcome(answer),
     }
 }
 
 fn call(
-    replica: Replica,
+    bank: Bank,
     call: Call,
     message: &Message,
     verdicts: &Verdicts,
     out: &mut [u8],
 ) -> ReplicaCalled {
     match call {
-        Call::SetUp(f, id, _) => set_up(replica, f, id),
-        Call::HandOver(n, m) => step(replica, front(message, n), front(verdicts, m), out),
+        Call::SetUp(f, id, _) => set_up(bank, f, id),
+        Call::HandOver(n, m) => step(bank, front(message, n), front(verdicts, m), out),
         Call::Copy(said) => ReplicaCalled {
-            replica: replica,
+            bank: bank,
             outcome: Outcome::Said(said),
         },
         // A replica begins nothing.
         _ => ReplicaCalled {
-            replica: replica,
+            bank: bank,
             outcome: Outcome::Said(UNREAD),
         },
     }
@@ -89,13 +88,13 @@ fn call(
 
 // What a line about a replica does: answers the record that it leaves.
 pub fn turn(
-    before: Replica,
+    before: Bank,
     task: Task,
     line: &[u8],
     held: &mut Held,
     store: &mut Store,
     sent: &mut usize,
-) -> Replica {
+) -> Bank {
     let mut message = [0u8; 4_096];
     let mut verdicts = [1u8; 400];
     let mut out = untouched();
@@ -109,8 +108,8 @@ pub fn turn(
         &mut verdicts,
     );
     let called = call(before, asked, &message, &verdicts, &mut out[0..room]);
-    let replica = called.replica;
+    let bank = called.bank;
     let outcome = called.outcome;
     finish(plain(outcome), task, line, &out, held, store, sent);
-    replica
+    bank
 }

@@ -29,9 +29,10 @@ pub enum Whom {
 pub enum Call {
     // f, number and first nonce; a replica has no use for the nonce.
     SetUp(u8, u8, u64),
-    Write(usize),
-    // A viewing client's view is a read too.
-    Read,
+    // The register, and the card's length.
+    Write(u8, usize),
+    // The register. A viewing client's view is a read too.
+    Read(u8),
     HandOver(usize, usize),
     // Its record is copied, and the word is said.
     Copy(u8),
@@ -45,15 +46,18 @@ pub struct Task {
     pub left: usize,
 }
 
-// A party's record stands at its number, and the one kept aside so many places behind it. At 0 is nobody, for lines about none.
-const ASIDE: usize = 97;
+// A party's record stands at its number, and the one kept aside behind all of these. At 0 is nobody, for lines about none.
+// Replicas have the numbers 1 to 16: a record of sixteen registers is too large for more places than that.
+pub const REPLICA_PLACES: usize = 34;
 
-// Which places hold a record: the replicas' 194, then the clients', then the same places for the viewing clients.
-pub type Held = [bool; 582];
+pub const CLIENT_PLACES: usize = 194;
 
-const FIRST_CLIENT: usize = 194;
+// Which places hold a record: the replicas', then the clients', then the same places for the viewing clients.
+pub type Held = [bool; 422];
 
-const FIRST_VIEWER: usize = 388;
+const FIRST_CLIENT: usize = 34;
+
+const FIRST_VIEWER: usize = 228;
 
 // The bytes of output that a call is lent if its line does not say.
 const OUTPUT: u64 = 1_600;
@@ -86,7 +90,7 @@ const RESTORE: usize = 11;
 const NO_COMMAND: usize = 12;
 
 pub fn nothing_held() -> Held {
-    [false; 582]
+    [false; 422]
 }
 
 // A place, 0 for one behind the last.
@@ -99,19 +103,29 @@ pub fn place(at: usize, last: usize) -> usize
     0
 }
 
-// Where a party's record stands, by the word that is its number.
-fn seat(id: &[u8]) -> usize
+// The largest number of such a party.
+fn last(whom: Whom) -> usize
     ensures { λ r. ⌜ r ≤ 96 ⌝ }
 {
-    place(number(id) as usize, 96)
+    match whom {
+        Whom::Replica => 16,
+        _ => 96,
+    }
+}
+
+// Where a party's record stands, by the word that is its number.
+fn seat(whom: Whom, id: &[u8]) -> usize
+    ensures { λ r. ⌜ r ≤ 96 ⌝ }
+{
+    place(number(id) as usize, last(whom))
 }
 
 // Where it is noted whether a place holds a record.
 fn note(whom: Whom, at: usize) -> usize
-    ensures { λ r. ⌜ r ≤ 581 ⌝ }
+    ensures { λ r. ⌜ r ≤ 421 ⌝ }
 {
     match whom {
-        Whom::Replica => place(at, 193),
+        Whom::Replica => place(at, 33),
         Whom::Client => FIRST_CLIENT + place(at, 193),
         Whom::Viewer => FIRST_VIEWER + place(at, 193),
     }
@@ -182,7 +196,7 @@ fn set_up(whom: Whom, f: &[u8], id: &[u8], nonce: &[u8]) -> Task {
     let Numeral::Value(nonce) = decimal(nonce) else {
         return nobody(UNREAD);
     };
-    let at = seat(id);
+    let at = seat(whom, id);
     Task {
         whom: whom,
         call: Call::SetUp(f, number, nonce),
@@ -192,29 +206,46 @@ fn set_up(whom: Whom, f: &[u8], id: &[u8], nonce: &[u8]) -> Task {
 }
 
 // `keep PARTY ID` and `restore PARTY ID`
-fn copy(line: &[u8], said: u8, taken: usize, left: usize, held: &Held) -> Task {
+fn copy(whom: Whom, line: &[u8], held: &Held) -> Task {
+    let at = seat(whom, rest(line, 2));
+    let kept = at + last(whom) + 1;
+    match command(word(line, 0)) {
+        KEEP => of_party(whom, Call::Copy(KEPT), at, kept, held),
+        _ => of_party(whom, Call::Copy(RESTORED), kept, at, held),
+    }
+}
+
+fn of_copy(line: &[u8], held: &Held) -> Task {
     match command(word(line, 1)) {
-        REPLICA => of_party(Whom::Replica, Call::Copy(said), taken, left, held),
-        CLIENT => of_party(Whom::Client, Call::Copy(said), taken, left, held),
-        VIEWER => of_party(Whom::Viewer, Call::Copy(said), taken, left, held),
+        REPLICA => copy(Whom::Replica, line, held),
+        CLIENT => copy(Whom::Client, line, held),
+        VIEWER => copy(Whom::Viewer, line, held),
         _ => nobody(UNREAD),
     }
 }
 
-// `read ID` and `view ID`
-fn of_read(whom: Whom, at: usize, held: &Held) -> Task {
-    of_party(whom, Call::Read, at, at, held)
+// The call of a party that the line's second word names.
+fn of_named(whom: Whom, call: Call, line: &[u8], held: &Held) -> Task {
+    let at = seat(whom, word(line, 1));
+    of_party(whom, call, at, at, held)
+}
+
+// `read ID REGISTER` and `view ID REGISTER`
+fn of_read(whom: Whom, line: &[u8], held: &Held) -> Task {
+    let Byte::Value(register) = decimal_byte(rest(line, 2)) else {
+        return nobody(UNREAD);
+    };
+    of_named(whom, Call::Read(register), line, held)
 }
 
 fn of_call(line: &[u8], held: &Held) -> Task {
-    let at = seat(word(line, 1));
     match command(word(line, 0)) {
-        TO_REPLICA => of_party(Whom::Replica, Call::HandOver(0, 0), at, at, held),
-        TO_CLIENT => of_party(Whom::Client, Call::HandOver(0, 0), at, at, held),
-        TO_VIEWER => of_party(Whom::Viewer, Call::HandOver(0, 0), at, at, held),
-        WRITE => of_party(Whom::Client, Call::Write(0), at, at, held),
-        READ => of_read(Whom::Client, seat(rest(line, 1)), held),
-        VIEW => of_read(Whom::Viewer, seat(rest(line, 1)), held),
+        TO_REPLICA => of_named(Whom::Replica, Call::HandOver(0, 0), line, held),
+        TO_CLIENT => of_named(Whom::Client, Call::HandOver(0, 0), line, held),
+        TO_VIEWER => of_named(Whom::Viewer, Call::HandOver(0, 0), line, held),
+        WRITE => of_named(Whom::Client, Call::Write(0, 0), line, held),
+        READ => of_read(Whom::Client, line, held),
+        VIEW => of_read(Whom::Viewer, line, held),
         _ => nobody(UNREAD),
     }
 }
@@ -260,13 +291,12 @@ pub fn lent(line: &[u8]) -> usize
 
 // What a line asks for.
 pub fn of_line(line: &[u8], held: &Held) -> Task {
-    let at = seat(rest(line, 2));
     match command(word(line, 0)) {
         REPLICA => set_up(Whom::Replica, word(line, 1), rest(line, 2), b"0"),
         CLIENT => set_up(Whom::Client, word(line, 1), word(line, 2), rest(line, 3)),
         VIEWER => set_up(Whom::Viewer, word(line, 1), word(line, 2), rest(line, 3)),
-        KEEP => copy(line, KEPT, at, at + ASIDE, held),
-        RESTORE => copy(line, RESTORED, at + ASIDE, at, held),
+        KEEP => of_copy(line, held),
+        RESTORE => of_copy(line, held),
         NO_COMMAND => other(line),
         _ => of_call(behind_lent(line), held),
     }

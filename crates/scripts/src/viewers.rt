@@ -3,6 +3,7 @@ use crate::clients;
 use crate::clients::ClientCalled;
 use crate::clients::made;
 use base::party::ClientId;
+use base::party::RegisterId;
 use client::Stepped;
 use client::viewer;
 use client::viewer::Viewer;
@@ -30,8 +31,8 @@ fn called(stepped: ViewerStepped) -> ClientCalled {
     })
 }
 
-pub fn begin_view(client: Client, out: &mut [u8]) -> ClientCalled {
-    called(viewer::begin_view(Viewer { client: client }, out))
+pub fn begin_view(client: Client, register: u8, out: &mut [u8]) -> ClientCalled {
+    called(viewer::begin_view(Viewer { client: client }, RegisterId(register), out))
 }
 
 pub fn step(client: Client, message: &[u8], verdicts: &[u8], out: &mut [u8]) -> ClientCalled {

@@ -1,9 +1,12 @@
-//! A replica, over the static library of the crate `replica`. Safe: nothing that a caller can pass breaks a promise.
-//! Link it with `-L native=target/staticlib -l static=replica`, after `rt staticlib replica`.
+//! A replica's bank of sixteen registers, over the static library of the crate `bank`. Safe: nothing that a caller can pass
+//! breaks a promise. Link it with `-L native=target/staticlib -l static=bank`, after `rt staticlib bank`.
 use std::mem::{align_of, offset_of, size_of};
 
 /// The longest message, and the shortest output that is not refused.
-pub const LONGEST_MESSAGE: usize = 1_579;
+pub const LONGEST_MESSAGE: usize = 1_580;
+
+/// How many registers a replica keeps: 1 to this.
+pub const REGISTERS: usize = 16;
 
 /// A replica's number.
 #[repr(C)]
@@ -19,25 +22,23 @@ pub enum Answer {
     Refused(u8),
 }
 
-/// A replica's record. It is not `Copy`: of one replica there is one record, which its steps change.
+/// A replica's record, 49,412 bytes. It is not `Copy`: of one replica there is one record, which its steps change.
 #[derive(Debug, PartialEq, Eq)]
-pub struct Replica {
+pub struct Bank {
     record: Record,
 }
 
-impl Replica {
+impl Bank {
     /// Replica `id` for the fault bound `f`, as it is set up; none if a number is out of range (refusal 16).
-    pub fn fresh(f: u8, id: ReplicaId) -> Option<Replica> {
+    pub fn fresh(f: u8, id: ReplicaId) -> Option<Bank> {
         // SAFETY: the function takes numbers of any value and returns a struct in C's layout.
-        let made = unsafe { replica_fresh(f, id) };
-        made.good.then_some(Replica {
-            record: made.replica,
-        })
+        let made = unsafe { bank_fresh(f, id) };
+        made.good.then_some(Bank { record: made.bank })
     }
 
-    /// The replicas whose signatures the held prepared proof has: replica r is bit r - 1. No bit at timestamp 0.0.
-    pub fn signers(&self) -> u16 {
-        self.record.register.held.signers.0
+    /// What each register has, register 1 first.
+    pub fn registers(&self) -> &[Register; REGISTERS] {
+        &self.record.registers
     }
 
     /// The replica is handed a message with a verdict for each signature; the reply goes to `out`.
@@ -47,7 +48,7 @@ impl Replica {
         // length beside it says. `self` and `out` are exclusive, so they overlap neither each other nor the two shared
         // slices, which are only read and may overlap. None is kept after the call.
         let answer = unsafe {
-            replica_step(
+            bank_step(
                 &mut self.record,
                 message.as_ptr(),
                 message.len(),
@@ -68,42 +69,47 @@ impl Replica {
 
 // The structs of the library, which are `#[repr(C)]` there too, with the same fields in the same order. All fields are
 // numbers and arrays of numbers, so every value of their bytes is a value of the struct.
+
 #[repr(C)]
-#[derive(Debug, PartialEq, Eq)]
-struct Timestamp {
-    count: u32,
-    client: u8,
+#[derive(Clone, Debug, PartialEq, Eq)]
+pub struct Timestamp {
+    pub count: u32,
+    pub client: u8,
 }
 
+/// What was prepared last for each client, client 1 first, a count of 0 for nothing; and the written timestamp.
 #[repr(C)]
-#[derive(Debug, PartialEq, Eq)]
-struct Slots {
-    counts: [u32; 64],
-    digests: [u8; 2048],
-    written: Timestamp,
+#[derive(Clone, Debug, PartialEq, Eq)]
+pub struct Slots {
+    pub counts: [u32; 64],
+    pub digests: [u8; 2048],
+    pub written: Timestamp,
 }
 
+/// Replica r is bit r - 1.
 #[repr(C)]
-#[derive(Debug, PartialEq, Eq)]
-struct ReplicaSet(u16);
+#[derive(Clone, Debug, PartialEq, Eq)]
+pub struct ReplicaSet(pub u16);
 
+/// What is held: at timestamp 0.0 the starting card, with no signers and no entries. Behind a card and entries stand zeros.
 #[repr(C)]
-#[derive(Debug, PartialEq, Eq)]
-struct Held {
-    timestamp: Timestamp,
-    card_length: u8,
-    card: [u8; 17],
-    digest: [u8; 32],
-    signers: ReplicaSet,
-    entry_count: u8,
-    entries: [u8; 715],
+#[derive(Clone, Debug, PartialEq, Eq)]
+pub struct Held {
+    pub timestamp: Timestamp,
+    pub card_length: u8,
+    pub card: [u8; 17],
+    pub digest: [u8; 32],
+    pub signers: ReplicaSet,
+    pub entry_count: u8,
+    pub entries: [u8; 715],
 }
 
+/// One register's own record.
 #[repr(C)]
-#[derive(Debug, PartialEq, Eq)]
-struct Register {
-    slots: Slots,
-    held: Held,
+#[derive(Clone, Debug, PartialEq, Eq)]
+pub struct Register {
+    pub slots: Slots,
+    pub held: Held,
 }
 
 #[repr(C)]
@@ -111,13 +117,13 @@ struct Register {
 struct Record {
     f: u8,
     id: ReplicaId,
-    register: Register,
+    registers: [Register; REGISTERS],
 }
 
 #[repr(C)]
-struct MadeReplica {
+struct MadeBank {
     good: bool,
-    replica: Record,
+    bank: Record,
 }
 
 #[repr(C)]
@@ -140,18 +146,18 @@ const _: () = {
     assert!(size_of::<Held>() == 776);
     assert!(offset_of!(Register, held) == 2_312);
     assert!(size_of::<Register>() == 3_088);
-    assert!(offset_of!(Record, register) == 4);
-    assert!(size_of::<Record>() == 3_092 && align_of::<Record>() == 4);
-    assert!(offset_of!(MadeReplica, replica) == 4);
+    assert!(offset_of!(Record, registers) == 4);
+    assert!(size_of::<Record>() == 49_412 && align_of::<Record>() == 4);
+    assert!(offset_of!(MadeBank, bank) == 4);
     assert!(offset_of!(NumberedAnswer, number) == 8);
 };
 
 extern "C" {
-    fn replica_fresh(f: u8, id: ReplicaId) -> MadeReplica;
+    fn bank_fresh(f: u8, id: ReplicaId) -> MadeBank;
 
     // A slice crosses as its pointer and its length.
-    fn replica_step(
-        replica: *mut Record,
+    fn bank_step(
+        bank: *mut Record,
         message: *const u8,
         message_length: usize,
         verdicts: *const u8,

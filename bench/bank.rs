@@ -1,11 +1,11 @@
-//! Compares the proved replica with the plain one on many requests, and prints for each step of `steps` what it costs
+//! Compares the proved bank with the plain one on many requests, and prints for each step of `steps` what it costs
 //! either: time, instructions (by callgrind) and bytes copied (listed by `copies`, whose output is the standard input).
 //! With the argument `rows` it prints the rows of docs/SPEED.md's table. Run by `bench/run`.
-mod plain_replica;
+#[path = "../rust/bank.rs"]
+mod bank;
+mod plain_bank;
 #[path = "../model/sha256.rs"]
 mod plain_sha256;
-#[path = "../rust/replica.rs"]
-mod replica;
 mod steps;
 
 use plain_sha256::sha256;
@@ -42,23 +42,23 @@ fn any_card(numbers: &mut Numbers) -> Vec<u8> {
     card
 }
 
-/// A request with few clients, one of which only reads, and few timestamps, so that some are taken; each third has a byte
-/// changed, or is cut.
+/// A request with few clients, one of which only reads, few registers and few timestamps, so that some are taken; each third has
+/// a byte changed, or is cut.
 fn any_request(numbers: &mut Numbers) -> Request {
     let client = [1, 2, 3, 1, 2, 3, 65][numbers.below(7)];
     let count = 1 + numbers.below(4) as u32;
     let card = any_card(numbers);
     let digest = [sha256(&card), [9; 32]][numbers.below(2)];
     let shown = prepared_proof(count, 1 + numbers.below(3) as u8, digest);
-    let last = written_proof(count, client);
+    let last = written_proof(count, [client, client, client, 3][numbers.below(4)]);
     let (first, next) = (timestamp(1, client), timestamp(count + 1, client));
     let mut any = match numbers.below(6) {
         0 => read_stamp(client),
         1 => read(client),
-        2 => request(0x1b, 2, client, &[&first, &digest], 0),
-        3 => request(0x5b, 2, client, &[&next, &digest, &shown], QUORUM),
+        2 => request(0x21b, 2, client, &[&first, &digest], 0),
+        3 => request(0x25b, 2, client, &[&next, &digest, &shown], QUORUM),
         4 => request(
-            0xdb,
+            0x2db,
             2,
             client,
             &[&next, &digest, &shown, &last],
@@ -72,6 +72,7 @@ fn any_request(numbers: &mut Numbers) -> Request {
             write
         }
     };
+    any.set_register([1, 1, 1, 1, 2, 2, 2, 2, 16, 16, 0, 17][numbers.below(12)]);
     match numbers.below(9) {
         0 => {
             let at = numbers.below(any.message.len());
@@ -87,12 +88,12 @@ fn any_request(numbers: &mut Numbers) -> Request {
     any
 }
 
-/// Both are handed the same requests, and must answer, write and keep the same. How many were sent, then refused 1 to 19.
-fn compare() -> [u32; 20] {
+/// Both are handed the same requests, and must answer, write and keep the same. How many were sent, then refused 1 to 20.
+fn compare() -> [u32; 21] {
     let mut numbers = Numbers(0x9e37_79b9_7f4a_7c15);
-    let mut answers = [0u32; 20];
+    let mut answers = [0u32; 21];
     for _ in 0..2_000 {
-        let (mut proved, mut plain) = (replica::Replica::made(), plain_replica::Replica::made());
+        let (mut proved, mut plain) = (bank::Bank::made(), plain_bank::Bank::made());
         for _ in 0..50 {
             let request = any_request(&mut numbers);
             let length = OUTPUT + 9 - numbers.below(11);
@@ -160,8 +161,8 @@ fn times(steps: &[Step]) -> Vec<[Times; 2]> {
     for round in 0..ROUNDS {
         deeper(round % DEPTHS, &mut || {
             for (step, [proved, plain]) in steps.iter().zip(&mut batches) {
-                proved.push(take::<replica::Replica>(step));
-                plain.push(take::<plain_replica::Replica>(step));
+                proved.push(take::<bank::Bank>(step));
+                plain.push(take::<plain_bank::Bank>(step));
             }
         });
     }
@@ -275,7 +276,7 @@ fn main() {
     match arguments.iter().map(String::as_str).collect::<Vec<_>>()[..] {
         [] => {
             println!(
-                "100,000 requests are answered alike; sent, then refused 1 to 19: {:?}",
+                "100,000 requests are answered alike; sent, then refused 1 to 20: {:?}",
                 compare()
             );
             print_all(&steps, print_costs);
@@ -285,8 +286,8 @@ fn main() {
             print_all(&steps, print_row);
         }
         // What callgrind runs.
-        ["take", place, "proved"] => take_at::<replica::Replica>(&steps, place),
-        ["take", place, "plain"] => take_at::<plain_replica::Replica>(&steps, place),
-        _ => panic!("usage: replica [rows] <COPIES, or replica take PLACE proved|plain"),
+        ["take", place, "proved"] => take_at::<bank::Bank>(&steps, place),
+        ["take", place, "plain"] => take_at::<plain_bank::Bank>(&steps, place),
+        _ => panic!("usage: bank [rows] <COPIES, or bank take PLACE proved|plain"),
     }
 }

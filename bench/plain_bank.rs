@@ -1,14 +1,16 @@
-//! A plain Rust replica, to measure the proved one by: slices and fixed arrays, no heap.
+//! A plain Rust replica with its sixteen registers, to measure the proved one by: slices and fixed arrays, no heap. It finds
+//! the register and changes it in place.
 use crate::plain_sha256::sha256;
 use std::ops::RangeInclusive;
 
-const LONGEST_MESSAGE: usize = 1_579;
+const LONGEST_MESSAGE: usize = 1_580;
 const SIGNATURE: usize = 64;
 const ENTRY: usize = 1 + SIGNATURE;
 const MOST_ENTRIES: usize = 11;
 /// Clients 1 to 96; those above 64 only read.
 const CLIENTS: u8 = 96;
 const WRITERS: u8 = 64;
+const REGISTERS: usize = 16;
 const READ: u8 = 4;
 
 /// The length of a sent message, or the refusal's number.
@@ -63,6 +65,7 @@ struct Request<'a> {
     card: &'a [u8],
     prepared: Option<Proof<'a>>,
     written: Option<Proof<'a>>,
+    register: u8,
 }
 
 /// Takes bytes from the front of what is left of a message.
@@ -107,7 +110,7 @@ fn read(message: &[u8]) -> Result<Request<'_>, u8> {
         return Err(2);
     }
     let map = u16::from_be_bytes([message[0], message[1]]);
-    if map & 3 != 3 || map >= 1 << 9 {
+    if map & 3 != 3 || map >= 1 << 10 {
         return Err(3);
     }
     let has = |bit: u32| map >> bit & 1 == 1;
@@ -122,6 +125,7 @@ fn read(message: &[u8]) -> Result<Request<'_>, u8> {
         card: &[],
         prepared: None,
         written: None,
+        register: 0,
     };
     if has(2) {
         request.nonce = *rest.array()?;
@@ -153,13 +157,16 @@ fn read(message: &[u8]) -> Result<Request<'_>, u8> {
     if has(8) {
         rest.byte()?;
     }
+    if has(9) {
+        request.register = rest.byte()?;
+    }
     if rest.0.len() != SIGNATURE {
         return Err(4);
     }
     let fits = match request.kind {
-        1 | 4 => map == 0x07,
-        2 => map & !0xc0 == 0x1b,
-        3 => map == 0x63,
+        1 | 4 => map == 0x207,
+        2 => map & !0xc0 == 0x21b,
+        3 => map == 0x263,
         _ => false,
     };
     if !fits {
@@ -170,6 +177,9 @@ fn read(message: &[u8]) -> Result<Request<'_>, u8> {
     }
     if request.sender > WRITERS && request.kind != READ {
         return Err(19);
+    }
+    if !(1..=REGISTERS).contains(&usize::from(request.register)) {
+        return Err(20);
     }
     Ok(request)
 }
@@ -267,15 +277,15 @@ impl<'a> Writer<'a> {
         self.put(&[timestamp.client()]);
     }
 
-    fn sealed(mut self) -> Answer {
+    /// The message ends with the register and the signature's zeros.
+    fn sealed(mut self, register: u8) -> Answer {
+        self.put(&[register]);
         self.put(&[0; SIGNATURE]);
         Ok(self.length)
     }
 }
 
-pub struct Replica {
-    f: u8,
-    id: u8,
+pub struct Register {
     counts: [u32; 64],
     digests: [[u8; 32]; 64],
     written: Timestamp,
@@ -288,27 +298,24 @@ pub struct Replica {
     entries: [u8; ENTRY * MOST_ENTRIES],
 }
 
-impl Replica {
-    pub fn fresh(f: u8, id: u8) -> Option<Replica> {
+pub struct Bank {
+    f: u8,
+    id: u8,
+    registers: [Register; REGISTERS],
+}
+
+impl Bank {
+    pub fn fresh(f: u8, id: u8) -> Option<Bank> {
         let good = (1..=5).contains(&f) && (1..=3 * f + 1).contains(&id);
-        good.then_some(Replica {
+        good.then_some(Bank {
             f,
             id,
-            counts: [0; 64],
-            digests: [[0; 32]; 64],
-            written: Timestamp::START,
-            timestamp: Timestamp::START,
-            card_length: 2,
-            card: [0; 17],
-            digest: [0; 32],
-            signers: 0,
-            entry_count: 0,
-            entries: [0; ENTRY * MOST_ENTRIES],
+            registers: [const { Register::FRESH }; REGISTERS],
         })
     }
 
-    pub fn signers(&self) -> u16 {
-        self.signers
+    pub fn registers(&self) -> &[Register; REGISTERS] {
+        &self.registers
     }
 
     pub fn step(&mut self, message: &[u8], verdicts: &[u8], out: &mut [u8]) -> Answer {
@@ -317,12 +324,32 @@ impl Replica {
         }
         let request = read(message)?;
         let signers = check(&request, self.f, verdicts)?;
+        let register = &mut self.registers[usize::from(request.register) - 1];
         match request.kind {
-            1 => self.read_stamp(&request, out),
-            2 => self.prepare(&request, out),
-            3 => self.write(&request, signers, out),
-            _ => self.read(&request, out),
+            1 => register.read_stamp(self.id, &request, out),
+            2 => register.prepare(self.id, &request, out),
+            3 => register.write(self.id, &request, signers, out),
+            _ => register.read(self.id, &request, out),
         }
+    }
+}
+
+impl Register {
+    const FRESH: Register = Register {
+        counts: [0; 64],
+        digests: [[0; 32]; 64],
+        written: Timestamp::START,
+        timestamp: Timestamp::START,
+        card_length: 2,
+        card: [0; 17],
+        digest: [0; 32],
+        signers: 0,
+        entry_count: 0,
+        entries: [0; ENTRY * MOST_ENTRIES],
+    };
+
+    pub fn signers(&self) -> u16 {
+        self.signers
     }
 
     #[inline(always)]
@@ -339,15 +366,15 @@ impl Replica {
         u16::from(self.timestamp > Timestamp::START) << 6
     }
 
-    fn read_stamp(&self, request: &Request, out: &mut [u8]) -> Answer {
-        let mut reply = Writer::new(out, 0x107 | self.proof_bit(), 5, self.id);
+    fn read_stamp(&self, id: u8, request: &Request, out: &mut [u8]) -> Answer {
+        let mut reply = Writer::new(out, 0x307 | self.proof_bit(), 5, id);
         reply.put(&request.nonce);
         self.put_proof(&mut reply);
         reply.put(&[request.sender]);
-        reply.sealed()
+        reply.sealed(request.register)
     }
 
-    fn prepare(&mut self, request: &Request, out: &mut [u8]) -> Answer {
+    fn prepare(&mut self, id: u8, request: &Request, out: &mut [u8]) -> Answer {
         let client = request.sender;
         if request
             .written
@@ -373,13 +400,13 @@ impl Replica {
             self.digests[at] = *request.digest;
         }
         self.written = written;
-        let mut reply = Writer::new(out, 0x1b, 6, self.id);
+        let mut reply = Writer::new(out, 0x21b, 6, id);
         reply.timestamp(new);
         reply.put(request.digest);
-        reply.sealed()
+        reply.sealed(request.register)
     }
 
-    fn write(&mut self, request: &Request, signers: u16, out: &mut [u8]) -> Answer {
+    fn write(&mut self, id: u8, request: &Request, signers: u16, out: &mut [u8]) -> Answer {
         let proof = request.prepared.ok_or(5)?;
         let card = request.card;
         if !keeps_table(card) || sha256(card) != *proof.digest {
@@ -395,18 +422,18 @@ impl Replica {
             self.entry_count = (proof.entries.len() / ENTRY) as u8;
             self.entries[..proof.entries.len()].copy_from_slice(proof.entries);
         }
-        let mut reply = Writer::new(out, 0x0b, 7, self.id);
+        let mut reply = Writer::new(out, 0x20b, 7, id);
         reply.timestamp(proof.timestamp);
-        reply.sealed()
+        reply.sealed(request.register)
     }
 
-    fn read(&self, request: &Request, out: &mut [u8]) -> Answer {
-        let mut reply = Writer::new(out, 0x127 | self.proof_bit(), 8, self.id);
+    fn read(&self, id: u8, request: &Request, out: &mut [u8]) -> Answer {
+        let mut reply = Writer::new(out, 0x327 | self.proof_bit(), 8, id);
         reply.put(&request.nonce);
         reply.put(&[self.card_length]);
         reply.put(&self.card[..usize::from(self.card_length)]);
         self.put_proof(&mut reply);
         reply.put(&[request.sender]);
-        reply.sealed()
+        reply.sealed(request.register)
     }
 }
