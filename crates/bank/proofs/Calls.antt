@@ -12,7 +12,7 @@ use Rattle.protocol.specs.declared.replica.Bank.{Bank}
 use Rattle.protocol.specs.declared.replica.Replica.{Replica}
 use Rattle.protocol.specs.declared.replica.ReplicaAnswer.{ReplicaAnswer}
 use Rattle.protocol.proofs.BankFacts.{call-by-last-byte}
-use Rattle.protocol.proofs.RegisterByte.{lastRegister}
+use Rattle.wire.specs.Parts.{lastRegister}
 use Rattle.replica.specs.Stepping.{Steps}
 use Rattle.bank.specs.Stepping.{BankSteps}
 

@@ -2,7 +2,6 @@
 pub mod exported;
 
 use base::party::REGISTERS;
-use base::party::RegisterId;
 use base::party::ReplicaId;
 use base::party::Setup;
 use base::party::register_place;
@@ -12,11 +11,11 @@ use protocol::replica::Replica;
 use protocol::replica::ReplicaAnswer;
 use replica::fresh_register;
 use replica::register_in_place;
-use wire::layout::SIGNATURE;
+use wire::parts::last_register;
 ghost use mathlib.Core.Path.{_≡_};
 ghost use Rattle.base.specs.Party.{registerPlace, replicaSetup, setupOutcome};
 ghost use Rattle.protocol.specs.Bank.{freshBank, madeBank};
-ghost use Rattle.protocol.proofs.RegisterByte.{lastRegister};
+ghost use Rattle.wire.specs.Parts.{lastRegister};
 ghost use Rattle.bank.specs.Stepping.{BankSteps};
 
 // A replica as it is set up. Where that is refused its record is a fresh one of replica 0, for f = 0.
@@ -30,9 +29,6 @@ pub struct BankStepped {
     pub answer: ReplicaAnswer,
     pub bank: Bank,
 }
-
-// The bytes of a message from its register on.
-const FROM_REGISTER: usize = 1 + SIGNATURE;
 
 fn fresh_bank(f: u8, id: ReplicaId) -> Bank
     ensures { λ r. ⌜ r ≡ freshBank f id ⌝ }
@@ -63,16 +59,12 @@ pub fn fresh(f: u8, id: ReplicaId) -> NewBank
     }
 }
 
-// Where the register stands that a message is for, by the last byte before the signature. A message for none is refused wherever
-// it is judged, so that no test is made here.
+// Where the register stands that a message is for, found without a walk over its fields. A message for none is refused wherever it
+// is judged, so that no test is made here.
 fn place_of(message: &[u8]) -> usize
     ensures { λ r. ⌜ r ≡ registerPlace (lastRegister (now (message .entry))) ⌝ }
 {
-    if message.len() < FROM_REGISTER {
-        return 0;
-    }
-    let at = message.len() - FROM_REGISTER;
-    register_place(RegisterId(message[at]))
+    register_place(last_register(message))
 }
 
 // A message is handed to a replica, with a verdict for each signature and an output for the reply.

@@ -25,7 +25,8 @@ use Rattle.protocol.specs.declared.replica.Bank.{Bank}
 use Rattle.protocol.specs.declared.replica.Register.{Register}
 use Rattle.protocol.specs.declared.replica.Replica.{Replica}
 use Rattle.protocol.specs.declared.replica.ReplicaAnswer.the-variants.{Refused}
-use Rattle.protocol.proofs.RegisterByte.{lastRegister, register-last}
+use Rattle.wire.specs.Parts.{lastRegister}
+use Rattle.wire.proofs.LastRegister.{register-last}
 
 -- ---- Parts
 

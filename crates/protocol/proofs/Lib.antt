@@ -12,6 +12,5 @@ pub mod Examples
 pub mod Fit
 pub mod LastWritten
 pub mod OperationMessages
-pub mod RegisterByte
 pub mod ReplicaFacts
 pub mod Towards

@@ -21,7 +21,7 @@ use Rattle.protocol.specs.declared.replica.Bank.{Bank}
 use Rattle.protocol.specs.declared.replica.Register.{Register}
 use Rattle.protocol.specs.declared.replica.Replica.{Replica}
 use Rattle.protocol.proofs.BankFacts.{fresh-part, part-elsewhere, part-there, let-through, refused-alike}
-use Rattle.protocol.proofs.RegisterByte.{decode-tested}
+use Rattle.wire.proofs.Parsed.{decode-tested}
 use Rattle.wire.specs.Acceptance.{admitted}
 use Rattle.wire.specs.Decode.{registerIn, framed}
 use Rattle.wire.specs.Message.{Message}

@@ -4,7 +4,7 @@ use native.Mathlib.Omega.{arith}
 use borrow.Author.Needs.{needs}
 use Rattle.base.proofs.Registers.{place-below}
 use Rattle.protocol.specs.Bank.{noRegister}
-use Rattle.protocol.proofs.RegisterByte.{lastRegister}
+use Rattle.wire.specs.Parts.{lastRegister}
 use Rattle.bank.proofs.Calls.{bank-steps}
 use Rattle.bank.proofs.step.Statement.{statement}
 use Rattle.bank.proofs.step.Tie as tie

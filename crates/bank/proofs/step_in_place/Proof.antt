@@ -54,7 +54,7 @@ use Rattle.protocol.specs.declared.replica.Bank.{Bank}
 use Rattle.protocol.specs.declared.replica.Register.{Register}
 use Rattle.protocol.specs.declared.replica.Replica.{Replica}
 use Rattle.protocol.specs.declared.replica.ReplicaAnswer.{ReplicaAnswer}
-use Rattle.protocol.proofs.RegisterByte.{lastRegister}
+use Rattle.wire.specs.Parts.{lastRegister}
 use Rattle.protocol.proofs.replica.Bank as B
 use Rattle.protocol.proofs.replica.Bank.Laws as B′
 use Rattle.protocol.proofs.replica.Register as G
