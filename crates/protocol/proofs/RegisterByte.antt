@@ -1,9 +1,11 @@
 -- The byte that says which register a message is for stands last before the signature. Assumes nothing.
-use mathlib.Core.Path.{_≡_, ap, ap₂, _∙_}
-use mathlib.Core.Bool.{Bool, true, false}
+use mathlib.Core.Path.{_≡_, sym, ap, ap₂, _∙_}
+use mathlib.Core.Bool.{Bool, true, false, cond}
 use mathlib.Core.List.{List}
 use Prim.Native.Nat.{ℕ, _+_, _-_, _<_}
 use native.Mathlib.Omega.{arith}
+use borrow.Author.Tests.{le-ltb}
+use lib.Dec.{ltb}
 use lib.ListN.{length, getD, take, drop}
 use lib.Seq.{drop-cons}
 use Rattle.base.specs.BigEndian.{fromBytes}
@@ -18,9 +20,9 @@ use Rattle.wire.proofs.Framed.{place-present}
 use Rattle.wire.proofs.Parsed.{Tested, tested-accepted, decode-splits}
 use Rattle.wire.proofs.Rows.{Taken, read-stamp, prepare, write, read, stamp, prepared, written, card}
 
--- The register that stands last before the signature of 64 bytes.
+-- The register that stands last before the signature of 64 bytes; 0 where there is no room for both.
 abbrev pub lastRegister : List ℕ → RegisterId
-lastRegister bytes = record { 0 = getD bytes (length bytes - 65) 0 }
+lastRegister bytes = record { 0 = cond (ltb (length bytes) 65) 0 (getD bytes (length bytes - 65) 0) }
 
 -- Every kind has bit 9.
 register-bit : {map kind : ℕ} {party : Party} → Taken map kind party → bit map 9 ≡ true
@@ -51,5 +53,6 @@ register-last party bytes register message e =
     let wide : place bytes 10 - place bytes 9 ≡ 1 = omega arith in
     let at : place bytes 9 ≡ length bytes - 65 = omega arith in
     let inside : length bytes - 65 < length bytes = omega arith in
+    let roomy : ltb (length bytes) 65 ≡ false = le-ltb (length bytes) 65 (omega arith) in
     ap {B = RegisterId} (λ (n : ℕ). record { 0 = n })
-    (ap₂ (λ (n p : ℕ). fromBytes (take n (drop p bytes))) wide at ∙ one-byte bytes (length bytes - 65) inside)
+    (ap₂ (λ (n p : ℕ). fromBytes (take n (drop p bytes))) wide at ∙ one-byte bytes (length bytes - 65) inside ∙ sym (ap (λ (short : Bool). cond short 0 (getD bytes (length bytes - 65) 0)) roomy))
