@@ -9,7 +9,7 @@ use borrow.Author.Tests.{eqb-true, not-true}
 use lib.Dec.{eqb}
 use lib.ListN.{length, replicate}
 use Rattle.base.specs.BigEndian.{Bytes}
-use Rattle.base.specs.Party.{isReplica, replicaCount, registerPlace}
+use Rattle.base.specs.Party.{isReplica, replicaCount}
 use Rattle.base.specs.ReplicaSet.{empty, has, with, isQuorum}
 use Rattle.base.specs.Same.{same}
 use Rattle.base.specs.Timestamp.{number, successor}
