@@ -29,7 +29,7 @@ use Rattle.wire.specs.declared.message.Party.the-variants.{Replica as AtReplica
 use Rattle.wire.proofs.Admitted.{admitted-then}
 use Rattle.wire.proofs.Framed.{framed-passes}
 use Rattle.wire.proofs.OneForm.{found-register}
-use Rattle.run.specs.Replies.{Handed, passes, isFor, handedIn, answersIn, handedFor, answersFor, SameReplies}
+use Rattle.run.specs.Replies.{Delivery, passes, isFor, handedIn, answersIn, handedFor, answersFor, SameReplies}
 use Rattle.run.specs.Run.{Event, begins-write, begins-read, to-replica, to-client, Run, nextBank, afterAtReplica, replicaAnswer, event, bankAt, replicaAt, answerTo}
 use Rattle.run.proofs.Turns.{apart, same-replica, GoodBank, good-bank}
 
@@ -39,7 +39,7 @@ abbrev nextPart : Replica → Outcome Reply → Replica
 nextPart part (accepted reply) = record { f = part .f; id = part .id; register = reply .next .register }
 nextPart part (refused number) = part
 
-abbrev repliesOf : Replica → List Handed → List (Outcome Answer)
+abbrev repliesOf : Replica → List Delivery → List (Outcome Answer)
 repliesOf part [] = []
 repliesOf part (handed ∷ rest) =
     replicaAnswer (replicaStep part (handed .bytes) (handed .verdicts)) ∷ repliesOf (nextPart part (replicaStep part (handed .bytes) (handed .verdicts))) rest
@@ -191,5 +191,5 @@ module _ (R : Run) (id : ReplicaId) (c : R .correct-replica id ≡ true) (x : Re
 pub same-replies : (R R′ : Run) → SameReplies R R′
 same-replies R R′ same-f id c c′ x same =
     answers-of R id c x
-    ∙ ap₂ (λ (f : ℕ) (handed : List Handed). repliesOf (freshReplica f id) handed) same-f same
+    ∙ ap₂ (λ (f : ℕ) (handed : List Delivery). repliesOf (freshReplica f id) handed) same-f same
     ∙ sym (answers-of R′ id c′ x)

@@ -14,7 +14,7 @@ use Rattle.wire.specs.Decode.{registerIn, framed}
 use Rattle.run.specs.Run.{Event, begins-write, begins-read, to-replica, to-client, Run, answerTo}
 
 -- A message with its verdicts (marks).
-pub record Handed : Type 0 where
+pub record Delivery : Type 0 where
   pub bytes : List ℕ
   pub verdicts : List ℕ
 
@@ -28,7 +28,7 @@ isFor x bytes = passes (framed bytes (accepted tt)) && eqb (registerIn bytes .0)
 
 module _ (id : ReplicaId) (x : RegisterId) where
   -- What replica `id` is handed for register x, of these events, in order.
-  abbrev pub handedIn : List Event → List Handed
+  abbrev pub handedIn : List Event → List Delivery
   handedIn [] = []
   handedIn (begins-write at y card ∷ events) = handedIn events
   handedIn (begins-read at y ∷ events) = handedIn events
@@ -45,7 +45,7 @@ module _ (id : ReplicaId) (x : RegisterId) where
       cond (eqb (at .0) (id .0) && isFor x bytes) (answerTo R t (some (to-replica at bytes verdicts)) ∷ answersIn R (suc t) events) (answersIn R (suc t) events)
   answersIn R t (to-client at bytes verdicts ∷ events) = answersIn R (suc t) events
 
-abbrev pub handedFor : Run → ReplicaId → RegisterId → List Handed
+abbrev pub handedFor : Run → ReplicaId → RegisterId → List Delivery
 handedFor R id x = handedIn id x (R .events)
 
 -- Its replies, which are for register x as well, and its refusals.
