@@ -14,8 +14,9 @@ use replica::fresh_register;
 use replica::register_in_place;
 use wire::layout::SIGNATURE;
 ghost use mathlib.Core.Path.{_≡_};
+ghost use Prim.Native.Nat.{_<_};
 ghost use Rattle.base.specs.Party.{registerPlace, replicaSetup, setupOutcome};
-ghost use Rattle.protocol.specs.Bank.{freshBank, madeBank};
+ghost use Rattle.protocol.specs.Bank.{partAt, withPartAt, freshBank, madeBank};
 ghost use Rattle.protocol.proofs.RegisterByte.{lastRegister};
 ghost use Rattle.bank.specs.Stepping.{BankSteps};
 
@@ -75,26 +76,42 @@ fn place_of(message: &[u8]) -> usize
     register_place(RegisterId(message[at]))
 }
 
+// One register's part of a bank, by its place.
+fn part_at(bank: Bank, at: usize) -> Replica
+    requires { ⌜ at < 16 ⌝ }
+    ensures { λ r. ⌜ r ≡ partAt at bank ⌝ }
+{
+    let register = bank.registers[at];
+    Replica {
+        f: bank.f,
+        id: bank.id,
+        register: register,
+    }
+}
+
+// The bank with another part there.
+fn with_part_at(bank: Bank, at: usize, part: Replica) -> Bank
+    requires { ⌜ at < 16 ⌝ }
+    ensures { λ r. ⌜ r ≡ withPartAt at part bank ⌝ }
+{
+    let register = part.register;
+    let mut left = bank;
+    left.registers[at] = register;
+    left
+}
+
 // A message is handed to a replica, with a verdict for each signature and an output for the reply.
 pub fn step(bank: Bank, message: &[u8], verdicts: &[u8], out: &mut [u8]) -> BankStepped
     ensures { λ r. ⌜ BankSteps bank (now (message .entry)) (now (verdicts .entry)) (now (out .entry)) (r .answer) (r .bank) (now (out .exit)) ⌝ }
 {
     let at = place_of(message);
-    let register = bank.registers[at];
-    let part = Replica {
-        f: bank.f,
-        id: bank.id,
-        register: register,
-    };
+    let part = part_at(bank, at);
     let stepped = replica::step(part, message, verdicts, out);
     let answer = stepped.answer;
     let next = stepped.replica;
-    let taken = next.register;
-    let mut left = bank;
-    left.registers[at] = taken;
     BankStepped {
         answer: answer,
-        bank: left,
+        bank: with_part_at(bank, at, next),
     }
 }
 
