@@ -128,7 +128,7 @@ module _ (bank : Bank) (bytes verdicts old : List ℕ) where
   -- As many registers as before: 16, since a bank begins with 16.
   pub length-kept : length (left .registers) ≡ length (bank .registers)
   unfolding bankCall
-  length-kept = length-set (bank .registers) (placeIn bytes) (single .replica .register)
+  length-kept = length-set (bank .registers) _ (single .replica .register)
 
   -- "A message for one set leaves the other fifteen registers as they were": all places but the message's,
   pub others-kept : (at : ℕ) → (at ≡ placeIn bytes → ⊥) → partAt at left ≡ partAt at bank
@@ -148,7 +148,7 @@ module _ (bank : Bank) (bytes verdicts old : List ℕ) where
   -- The message's register is what its own step says, and so are answer and output.
   pub register-stepped : length (bank .registers) ≡ 16 → partAt (placeIn bytes) left .register ≡ single .replica .register
   unfolding bankCall
-  register-stepped sixteen = part-there bank (placeIn bytes) (single .replica) (subst (λ (n : ℕ). placeIn bytes < n) (sym sixteen) (place-below (registerIn bytes)))
+  register-stepped sixteen = part-there bank (placeIn bytes) (single .replica) (subst (λ (n : ℕ). placeIn bytes < n) (sym sixteen) (place-below _))
 
   pub answer-stepped : bankCall bank bytes verdicts old .answer ≡ single .answer
   unfolding bankCall

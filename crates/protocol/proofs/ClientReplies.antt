@@ -9,7 +9,7 @@ use borrow.Author.Tests.{eqb-true, not-true}
 use lib.Dec.{eqb}
 use lib.ListN.{length, replicate}
 use Rattle.base.specs.BigEndian.{Bytes}
-use Rattle.base.specs.Party.{isReplica, replicaCount, registerPlace}
+use Rattle.base.specs.Party.{isReplica, replicaCount}
 use Rattle.base.specs.ReplicaSet.{empty, has, with, isQuorum}
 use Rattle.base.specs.Same.{same}
 use Rattle.base.specs.Timestamp.{number, successor}
@@ -58,10 +58,10 @@ written-kept-short written = go (eqb (number (written .timestamp)) 0)
 
 module _ (client : Client) (fits : ClientFits client) where
   last-fits : IfThere WrittenFits (lastWritten client)
-  last-fits = written-kept-fits (writtenAt (registerPlace (client .register)) client) (fits .written-fit (registerPlace (client .register)) (place-below (client .register)))
+  last-fits = written-kept-fits (writtenAt _ client) (fits .written-fit _ (place-below _))
 
   last-short : writtenSize (lastWritten client) ≤ 721
-  last-short = written-kept-short (writtenAt (registerPlace (client .register)) client)
+  last-short = written-kept-short (writtenAt _ client)
 
   module _ (best : Timestamp) (best-fit : TimestampFits best) where
     proof-fits : PreparedFits (bestProof client best)

@@ -39,10 +39,15 @@ one-byte : (bytes : List ℕ) (at : ℕ) → at < length bytes → fromBytes (ta
 unfolding fromBytes
 one-byte bytes at inside = rw (drop-cons bytes at 0 inside) (omega arith)
 
+-- What is decoded passed 2 to 5.
+pub decode-tested : (party : Party) (bytes : List ℕ) (register : RegisterId) (message : Message) → decode party bytes ≡ accepted (forRegister register message) → Tested party bytes
+unfolding messageIn
+decode-tested party bytes register message e = tested-accepted party bytes (λ row. row .message bytes) message (decode-splits party bytes register message e .1)
+
 pub register-last : (party : Party) (bytes : List ℕ) (register : RegisterId) (message : Message) → decode party bytes ≡ accepted (forRegister register message) → registerIn bytes ≡ lastRegister bytes
-unfolding messageIn rules field
+unfolding rules field
 register-last party bytes register message e =
-    let tested : Tested party bytes = tested-accepted party bytes (λ row. row .message bytes) message (decode-splits party bytes register message e .1) in
+    let tested = decode-tested party bytes register message e in
     let ends = tested .framed .ends in
     let next : place bytes 10 ≡ place bytes 9 + 1 = place-present bytes 9 (register-bit (tested .passed .taken)) in
     let wide : place bytes 10 - place bytes 9 ≡ 1 = omega arith in

@@ -6,6 +6,7 @@ use Prim.Native.Nat.{ℕ, _%_, _≤_, _<_}
 use native.Mathlib.Omega.{arith}
 use native.Mathlib.Nat.{eq-or-lt-of-le}
 use Rattle.base.specs.Timestamp.{number}
+use Rattle.base.specs.declared.party.RegisterId.{RegisterId}
 use Rattle.wire.specs.Acceptance.{client}
 use Rattle.protocol.specs.Parts.{startCard}
 use Rattle.run.specs.ReadsFrom.{Write}
@@ -19,91 +20,91 @@ use Rattle.run.proofs.Order.{three-ways, correct-of, finish, settled-by
 use Rattle.run.proofs.ReadsFrom.{reads-from}
 use Rattle.run.proofs.Writes.{correct-writer, chosen, begun-after, finished-with, same-write}
 
-module _ (R : Run) (P : Premises R) where
+module _ (R : Run) (x : RegisterId) (P : Premises R) where
   -- ---- No two writes have one timestamp
 
-  own-client : (w : Write R) → w .timestamp % 256 ≡ w .id .0
-  own-client w = chosen R P w .own
+  own-client : (w : Write R x) → w .timestamp % 256 ≡ w .id .0
+  own-client w = chosen R x P w .own
 
-  one-client : (w w′ : Write R) → w .timestamp ≡ w′ .timestamp → w .id ≡ w′ .id
+  one-client : (w w′ : Write R x) → w .timestamp ≡ w′ .timestamp → w .id ≡ w′ .id
   one-client w w′ e = same-client (w .id) (w′ .id) (sym (own-client w) ∙ ap (λ (s : ℕ). s % 256) e ∙ own-client w′)
 
-  write-rises : (w w′ : Write R) → w .id ≡ w′ .id → w .begun < w′ .begun → w .timestamp < w′ .timestamp
+  write-rises : (w w′ : Write R x) → w .id ≡ w′ .id → w .begun < w′ .begun → w .timestamp < w′ .timestamp
   write-rises w w′ e l =
-      chosen R P w′ .above (w .timestamp) (begun-after R P w (w′ .begun) true l (rw e (w′ .card, w′ .begins)) (w′ .not-refused))
+      chosen R x P w′ .above (w .timestamp) (begun-after R x P w (w′ .begun) true l (rw e (w′ .card, w′ .begins)) (w′ .not-refused))
 
-  one-write : (w w′ : Write R) → w .timestamp ≡ w′ .timestamp → w .begun ≡ w′ .begun
+  one-write : (w w′ : Write R x) → w .timestamp ≡ w′ .timestamp → w .begun ≡ w′ .begun
   one-write w w′ e =
       let same = one-client w w′ e in
       three-ways (w .begun) (w′ .begun) (λ l. let r = write-rises w w′ same l in absurd (omega arith)) (λ k. k)
       (λ l. let r = write-rises w′ w (sym same) l in absurd (omega arith))
 
   -- What was finished before a write began has a smaller timestamp.
-  write-above : (o : Finished R) (w : Write R) → o .finished < w .begun → number (o .timestamp) < w .timestamp
-  write-above o w l = chosen R P w .above (number (o .timestamp)) (settled-by R P o (w .begun) l)
+  write-above : (o : Finished R x) (w : Write R x) → o .finished < w .begun → number (o .timestamp) < w .timestamp
+  write-above o w l = chosen R x P w .above (number (o .timestamp)) (settled-by R x P o (w .begun) l)
 
-  has-write : (o : Finished R) → o .is-write ≡ true
-      → (w : Write R) × (w .id ≡ o .id) × (w .begun ≡ o .begun) × (w .timestamp ≡ number (o .timestamp)) × (w .card ≡ o .card)
+  has-write : (o : Finished R x) → o .is-write ≡ true
+      → (w : Write R x) × (w .id ≡ o .id) × (w .begun ≡ o .begun) × (w .timestamp ≡ number (o .timestamp)) × (w .card ≡ o .card)
   has-write o e =
-      let own = finish R P o .own e .0 in
-      let fits = finish R P o .fits in
+      let own = finish R x P o .own e .0 in
+      let fits = finish R x P o .fits in
       let client-is : o .timestamp .client ≡ o .id = same-client (o .timestamp .client) (o .id) (omega arith) in
-      let (w, id-is, timestamp-is, card-is, before) = reads-from R P o (rw client-is (correct-of R o)) in
+      let (w, id-is, timestamp-is, card-is, before) = reads-from R x P o (rw client-is (correct-of R x o)) in
       let same : w .id ≡ o .id = id-is ∙ client-is in
       (w, same, begun-is w same timestamp-is, timestamp-is, card-is)
     where
-      begun-is : (w : Write R) → w .id ≡ o .id → w .timestamp ≡ number (o .timestamp) → w .begun ≡ o .begun
+      begun-is : (w : Write R x) → w .id ≡ o .id → w .timestamp ≡ number (o .timestamp) → w .begun ≡ o .begun
       begun-is w same at =
           three-ways (w .begun) (o .begun)
           (λ l. let z = before-it l in absurd (omega arith)) (λ k. k)
-          (λ l. let z = write-above o w (finished-before R P o (w .begun) true l (rw (← same) (w .card, w .begins)) (w .not-refused)) in absurd (omega arith))
+          (λ l. let z = write-above o w (finished-before R x P o (w .begun) true l (rw (← same) (w .card, w .begins)) (w .not-refused)) in absurd (omega arith))
         where
           before-it : w .begun < o .begun → w .timestamp < number (o .timestamp)
           before-it l =
-              above-write R P (o .is-write) (o .begun) (number (o .timestamp)) e (finish R P o .above) (w .timestamp)
-              (begun-after R P w (o .begun) (o .is-write) l (rw same (o .begins)) (o .not-refused))
+              above-write R x P (o .is-write) (o .begun) (number (o .timestamp)) e (finish R x P o .above) (w .timestamp)
+              (begun-after R x P w (o .begun) (o .is-write) l (rw same (o .begins)) (o .not-refused))
 
   -- ---- The order
 
-  same : (a b : Operation R) → Same R a b → (placedAt R a ≡ placedAt R b) × (operationCard R a ≡ operationCard R b)
-  same (read o r) (read o′ r′) e = let one = same-operation R o o′ e in (ap number (one .same-timestamp), one .same-card)
+  same : (a b : Operation R x) → Same R x a b → (placedAt R x a ≡ placedAt R x b) × (operationCard R x a ≡ operationCard R x b)
+  same (read o r) (read o′ r′) e = let one = same-operation R x o o′ e in (ap number (one .same-timestamp), one .same-card)
   same (read o r) (write w) e = absurd e
   same (read o r) (faulty-write o′ r′ p f) e = absurd e
   same (write w) (read o r) e = absurd e
-  same (write w) (write w′) e = same-write R P w w′ e
+  same (write w) (write w′) e = same-write R x P w w′ e
   same (write w) (faulty-write o r p f) e = absurd e
   same (faulty-write o r p f) (read o′ r′) e = absurd e
   same (faulty-write o r p f) (write w) e = absurd e
-  same (faulty-write o r p f) (faulty-write o′ r′ p′ f′) e = (e, one-card R P o o′ e)
+  same (faulty-write o r p f) (faulty-write o′ r′ p′ f′) e = (e, one-card R x P o o′ e)
 
-  irreflexive : (a : Operation R) → Precedes R a a → ⊥
-  irreflexive a = not-itself R (placedAt R a) (isWrite R a) (doneAt R a)
+  irreflexive : (a : Operation R x) → Precedes R x a a → ⊥
+  irreflexive a = not-itself (placedAt R x a) (isWrite R x a) (doneAt R x a)
 
-  transitive : (a b c : Operation R) → Precedes R a b → Precedes R b c → Precedes R a c
-  transitive a b c = before-both R (placedAt R a) (placedAt R b) (placedAt R c) (isWrite R a) (isWrite R b) (isWrite R c) (doneAt R a) (doneAt R b) (doneAt R c)
+  transitive : (a b c : Operation R x) → Precedes R x a b → Precedes R x b c → Precedes R x a c
+  transitive a b c = before-both (placedAt R x a) (placedAt R x b) (placedAt R x c) (isWrite R x a) (isWrite R x b) (isWrite R x c) (doneAt R x a) (doneAt R x b) (doneAt R x c)
 
-  abbrev Laid : Operation R → Operation R → Type 0
-  Laid a b = Same R a b ⊎ (Precedes R a b ⊎ Precedes R b a)
+  abbrev Laid : Operation R x → Operation R x → Type 0
+  Laid a b = Same R x a b ⊎ (Precedes R x a b ⊎ Precedes R x b a)
 
   -- By their timestamps, if these differ.
-  by-timestamp : (a b : Operation R) → (placedAt R a ≡ placedAt R b → Laid a b) → Laid a b
-  by-timestamp a b same = three-ways {P = Laid a b} (placedAt R a) (placedAt R b) (λ l. inr (inl (inl l))) same (λ l. inr (inr (inl l)))
+  by-timestamp : (a b : Operation R x) → (placedAt R x a ≡ placedAt R x b → Laid a b) → Laid a b
+  by-timestamp a b same = three-ways {P = Laid a b} (placedAt R x a) (placedAt R x b) (λ l. inr (inl (inl l))) same (λ l. inr (inr (inl l)))
 
   -- A faulty client's timestamp is no write's of a correct client.
-  not-faulty : {A : Type 0} (w : Write R) (o : Finished R) → R .correct-client (o .timestamp .client) ≡ false → w .timestamp ≡ number (o .timestamp) → A
+  not-faulty : {A : Type 0} (w : Write R x) (o : Finished R x) → R .correct-client (o .timestamp .client) ≡ false → w .timestamp ≡ number (o .timestamp) → A
   not-faulty w o f e =
       let own = own-client w in
-      let fits = finish R P o .fits in
+      let fits = finish R x P o .fits in
       let same : w .id ≡ o .timestamp .client = same-client (w .id) (o .timestamp .client) (omega arith) in
-      let c : R .correct-client (o .timestamp .client) ≡ true = rw same at (correct-writer R w) in
+      let c : R .correct-client (o .timestamp .client) ≡ true = rw same at (correct-writer R x w) in
       apart (cc)
 
   -- Two reads, as the claims lay them.
-  laid-reads : (o o′ : Finished R) (r : o .is-write ≡ false) (r′ : o′ .is-write ≡ false) → Before R o o′ → Precedes R (read o r) (read o′ r′)
-  laid-reads o o′ r r′ x = rw (r, r′) at x
+  laid-reads : (o o′ : Finished R x) (r : o .is-write ≡ false) (r′ : o′ .is-write ≡ false) → Before R x o o′ → Precedes R x (read o r) (read o′ r′)
+  laid-reads o o′ r r′ it = rw (r, r′) at it
 
-  total : (a b : Operation R) → Laid a b
-  total (read o r) (read o′ r′) = ⊎-elim inl (λ x. inr (⊎-elim (λ y. inl (laid-reads o o′ r r′ y)) (λ y. inr (laid-reads o′ o r′ r y)) x)) (claimed R P o o′)
+  total : (a b : Operation R x) → Laid a b
+  total (read o r) (read o′ r′) = ⊎-elim inl (λ it. inr (⊎-elim (λ y. inl (laid-reads o o′ r r′ y)) (λ y. inr (laid-reads o′ o r′ r y)) it)) (claimed R x P o o′)
   total (read o r) (write w) = by-timestamp (read o r) (write w) (λ e. inr (inr (inr (sym e, tt))))
   total (read o r) (faulty-write o′ r′ p f) = by-timestamp (read o r) (faulty-write o′ r′ p f) (λ e. inr (inr (inr (sym e, tt))))
   total (write w) (read o r) = by-timestamp (write w) (read o r) (λ e. inr (inl (inr (e, tt))))
@@ -115,17 +116,17 @@ module _ (R : Run) (P : Premises R) where
 
   -- ---- It extends "ended before the other began"
 
-  extends : (a b : Operation R) (t t′ : ℕ) → EndsAt R a t → BeginsAt R b t′ → t < t′ → Precedes R a b
+  extends : (a b : Operation R x) (t t′ : ℕ) → EndsAt R x a t → BeginsAt R x b t′ → t < t′ → Precedes R x a b
   extends (read o r) (read o′ r′) t t′ e b l =
       let after = o′ .after in
-      ⊎-elim (λ z. inr (z, omega arith)) (λ z. inl z) (eq-or-lt-of-le (rises R P o o′ (omega arith)))
+      ⊎-elim (λ z. inr (z, omega arith)) (λ z. inl z) (eq-or-lt-of-le (rises R x P o o′ (omega arith)))
   extends (read o r) (write w) t t′ e b l = inl (write-above o w (omega arith))
   extends (read o r) (faulty-write o′ r′ p f) t t′ e b l = absurd b
   extends (write w) (read o′ r′) t t′ (o, same, e) b l =
-      let is = finished-with R P w o same in
-      ⊎-elim (λ z. inr (sym is ∙ z, tt)) (λ z. inl (omega arith)) (eq-or-lt-of-le (rises R P o o′ (omega arith)))
+      let is = finished-with R x P w o same in
+      ⊎-elim (λ z. inr (sym is ∙ z, tt)) (λ z. inl (omega arith)) (eq-or-lt-of-le (rises R x P o o′ (omega arith)))
   extends (write w) (write w′) t t′ (o, same, e) b l =
-      let is = finished-with R P w o same in
+      let is = finished-with R x P w o same in
       let above = write-above o w′ (omega arith) in
       inl (omega arith)
   extends (write w) (faulty-write o′ r′ p f) t t′ e b l = absurd b
@@ -134,39 +135,39 @@ module _ (R : Run) (P : Premises R) where
   -- ---- A read shows the last write before it
 
   -- A write at a read's timestamp is the last one before it.
-  last-at : (w : Operation R) (o : Finished R) (r : o .is-write ≡ false) → isWrite R w ≡ true → placedAt R w ≡ number (o .timestamp) → LastWrite R w (read o r)
+  last-at : (w : Operation R x) (o : Finished R x) (r : o .is-write ≡ false) → isWrite R x w ≡ true → placedAt R x w ≡ number (o .timestamp) → LastWrite R x w (read o r)
   last-at w o r is e = record { is-write = is; precedes = inr (e, rw is tt); is-last = λ w′ is′ l. go w′ is′ l }
     where
-      go : (w′ : Operation R) → isWrite R w′ ≡ true → Precedes R w′ (read o r) → Same R w′ w ⊎ Precedes R w′ w
+      go : (w′ : Operation R x) → isWrite R x w′ ≡ true → Precedes R x w′ (read o r) → Same R x w′ w ⊎ Precedes R x w′ w
       go w′ is′ (inl l) = inr (inl (omega arith))
       go w′ is′ (inr k) = by (total w′ w)
         where
-          by : Laid w′ w → Same R w′ w ⊎ Precedes R w′ w
-          by (inl x) = inl x
-          by (inr (inl x)) = inr x
+          by : Laid w′ w → Same R x w′ w ⊎ Precedes R x w′ w
+          by (inl it) = inl it
+          by (inr (inl it)) = inr it
           by (inr (inr (inl l))) = let same = k .0 in absurd (omega arith)
-          by (inr (inr (inr x))) = absurd (rw (is, is′) at (x .1))
+          by (inr (inr (inr it))) = absurd (rw (is, is′) at (it .1))
 
-  reads-last : (o : Finished R) (r : o .is-write ≡ false) → 1 ≤ number (o .timestamp) → (w : Operation R) × LastWrite R w (read o r) × (operationCard R w ≡ o .card)
+  reads-last : (o : Finished R x) (r : o .is-write ≡ false) → 1 ≤ number (o .timestamp) → (w : Operation R x) × LastWrite R x w (read o r) × (operationCard R x w ≡ o .card)
   reads-last o r p = go (R .correct-client (o .timestamp .client)) refl
     where
-      go : (b : Bool) → R .correct-client (o .timestamp .client) ≡ b → (w : Operation R) × LastWrite R w (read o r) × (operationCard R w ≡ o .card)
-      go true c = let (w, id-is, timestamp-is, card-is, before) = reads-from R P o c in (write w, last-at (write w) o r refl timestamp-is, card-is)
+      go : (b : Bool) → R .correct-client (o .timestamp .client) ≡ b → (w : Operation R x) × LastWrite R x w (read o r) × (operationCard R x w ≡ o .card)
+      go true c = let (w, id-is, timestamp-is, card-is, before) = reads-from R x P o c in (write w, last-at (write w) o r refl timestamp-is, card-is)
       go false f = (faulty-write o r p f, last-at (faulty-write o r p f) o r refl refl, refl)
 
-  write-positive : (w : Operation R) → isWrite R w ≡ true → 1 ≤ placedAt R w
+  write-positive : (w : Operation R x) → isWrite R x w ≡ true → 1 ≤ placedAt R x w
   write-positive (read o r) e = apart (cc)
-  write-positive (write w) e = chosen R P w .positive
+  write-positive (write w) e = chosen R x P w .positive
   write-positive (faulty-write o r p f) e = p
 
-  reads-start : (o : Finished R) (r : o .is-write ≡ false) → number (o .timestamp) ≡ 0 → (o .card ≡ startCard) × ((w : Operation R) → isWrite R w ≡ true → Precedes R w (read o r) → ⊥)
-  reads-start o r e = (start-shows R P o e, none-before)
+  reads-start : (o : Finished R x) (r : o .is-write ≡ false) → number (o .timestamp) ≡ 0 → (o .card ≡ startCard) × ((w : Operation R x) → isWrite R x w ≡ true → Precedes R x w (read o r) → ⊥)
+  reads-start o r e = (start-shows R x P o e, none-before)
     where
-      none-before : (w : Operation R) → isWrite R w ≡ true → Precedes R w (read o r) → ⊥
+      none-before : (w : Operation R x) → isWrite R x w ≡ true → Precedes R x w (read o r) → ⊥
       none-before w is (inl l) = omega arith
       none-before w is (inr k) = let p = write-positive w is in let same = k .0 in omega arith
 
-  pub atomic : Atomic R
+  pub atomic : Atomic R x
   atomic =
       record {
         has-write = has-write;

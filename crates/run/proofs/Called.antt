@@ -1,5 +1,5 @@
 -- The engines' calls, one for each event, leave the run's records and give its answers. Assumes nothing.
-use mathlib.Core.Path.{_≡_, refl, ap, _∙_}
+use mathlib.Core.Path.{_≡_, refl, sym, ap, subst, _∙_}
 use mathlib.Core.Bool.{Bool, true, false, cond}
 use mathlib.Core.List.{List}
 use mathlib.Core.Option.{Option, none, some}
@@ -10,50 +10,71 @@ use lib.ListN.{length}
 use Rattle.base.specs.Outcome.{Outcome, accepted, refused, guard}
 use Rattle.base.specs.Party.{isWriter}
 use Rattle.base.specs.declared.party.ClientId.{ClientId}
+use Rattle.base.specs.declared.party.RegisterId.{RegisterId}
 use Rattle.base.specs.declared.party.ReplicaId.{ReplicaId}
+use Rattle.wire.specs.Decode.{registerIn}
 use Rattle.wire.specs.Message.{longest}
+use Rattle.wire.specs.Writing.{unsigned, inFront}
+use Rattle.wire.specs.declared.message.Party.the-variants.{Client as AtClient}
+use Rattle.wire.proofs.OneForm.{found-register}
 use Rattle.protocol.specs.Client.{Answer, send, waits, done, ended, Turn, answered, clientAnswers, freshClient, beginWrite, beginRead, clientStep, beginWriteCall, beginReadCall, clientCall, ClientCall}
-use Rattle.protocol.specs.Replica.{Reply, replicaAnswers, freshReplica, madeReplica, replicaStep, replicaCall, ReplicaCall}
+use Rattle.protocol.specs.Bank.{partAt, freshBank, madeBank, placeIn, bankStep, BankCall, putBack, bankCall}
+use Rattle.protocol.specs.Replica.{Reply, replicaAnswers, replicaStep, ReplicaCall}
 use Rattle.protocol.specs.Viewer.{viewerStep, viewerCall}
 use Rattle.protocol.specs.declared.client.Client.{Client}
-use Rattle.protocol.specs.declared.replica.Replica.{Replica}
+use Rattle.protocol.specs.declared.client.ClientAnswer.the-variants.{Send}
+use Rattle.protocol.specs.declared.replica.Bank.{Bank}
+use Rattle.protocol.proofs.BankFacts.{part-itself}
+use Rattle.protocol.proofs.ClientFacts.{begins-write as begins-write-facts, begins-read as begins-read-facts}
 use Rattle.protocol.proofs.Calls.{replica-takes, begin-write-takes, begin-read-takes, client-step-takes, viewer-step-takes}
-use Rattle.run.specs.Calls.{givenByReplica, givenByClient, givenFor, calledAtReplica, calledAtClient, madeWith, hearingCall, calledReplica, calledClient, givenAt, CallsAreRun}
-use Rattle.run.specs.Run.{Event, begins-write, begins-read, to-replica, to-client, Run, nextReplica, nextClient, afterAtReplica, afterAtClient, clientHears, replicaAnswer, clientAnswer, event, replicaAt, clientAt, answerTo}
+use Rattle.run.specs.Calls.{withoutCard, givenByReplica, givenByClient, givenFor, calledAtReplica, calledAtClient, madeWith, hearingCall, calledReplica, calledClient, givenAt, CallsAreRun}
+use Rattle.run.specs.Run.{Event, begins-write, begins-read, to-replica, to-client, registerOf, Run, nextBank, nextClient, afterAtReplica, afterAtClient, clientHears, replicaAnswer, clientAnswer, event, bankAt, clientAt, answerTo}
+use Rattle.run.proofs.Turns.{good-client, hears-takes}
 
 -- ---- One call: the step's record, and the step's answer
 
-record ReplicaSays (before : Replica) (old : List ℕ) (step : Outcome Reply) (made : ReplicaCall) : Type 0 where
-  leaves : made .replica ≡ nextReplica before step
-  gives : givenByReplica made ≡ givenFor old (replicaAnswer step)
+-- at is the place of the message's register, x the register of the event.
+record ReplicaSays (at : ℕ) (x : RegisterId) (before : Bank) (old : List ℕ) (step : Outcome Reply) (made : BankCall) : Type 0 where
+  leaves : made .bank ≡ nextBank at before step
+  gives : givenByReplica made ≡ givenFor x old (replicaAnswer step)
 
 record ClientSays (before : Client) (old : List ℕ) (step : Outcome Turn) (made : ClientCall) : Type 0 where
   leaves : made .client ≡ nextClient before step
-  gives : givenByClient made ≡ givenFor old (clientAnswer step)
+  -- What is sent is for the register of the record afterwards.
+  gives : (x : RegisterId) → ((turn : Turn) → step ≡ accepted turn → turn .next .register ≡ x) → givenByClient made ≡ givenFor x old (clientAnswer step)
 
-replica-says : (before : Replica) (old : List ℕ) (step : Outcome Reply) → ReplicaSays before old step (replicaAnswers before old step)
-replica-says before old (accepted reply) = record { leaves = refl; gives = refl }
-replica-says before old (refused number) = record { leaves = refl; gives = refl }
+replica-says : (at : ℕ) (x : RegisterId) (before : Bank) (old : List ℕ) (step : Outcome Reply)
+    → ReplicaSays at x before old step (putBack at before (replicaAnswers x (partAt at before) old step))
+replica-says at x before old (accepted reply) = record { leaves = refl; gives = refl }
+replica-says at x before old (refused number) = record { leaves = part-itself before at; gives = refl }
 
 turn-says : (before : Client) (old : List ℕ) (answer : Answer) (next : Client) → ClientSays before old (accepted (record { answer = answer; next = next })) (answered old answer next)
-turn-says before old (send message) next = record { leaves = refl; gives = refl }
-turn-says before old waits next = record { leaves = refl; gives = refl }
-turn-says before old (done timestamp card signers) next = record { leaves = refl; gives = refl }
-turn-says before old ended next = record { leaves = refl; gives = refl }
+turn-says before old (send message) next =
+    record {
+      leaves = refl;
+      gives = λ x is. ap (λ (y : RegisterId). withoutCard (Send (length (unsigned y message))) (inFront (unsigned y message) old)) (is (record { answer = send message; next = next }) refl);
+    }
+turn-says before old waits next = record { leaves = refl; gives = λ x is. refl }
+turn-says before old (done timestamp card signers) next = record { leaves = refl; gives = λ x is. refl }
+turn-says before old ended next = record { leaves = refl; gives = λ x is. refl }
 
 client-says : (before : Client) (old : List ℕ) (step : Outcome Turn) → ClientSays before old step (clientAnswers before old step)
 client-says before old (accepted turn) = turn-says before old (turn .answer) (turn .next)
-client-says before old (refused number) = record { leaves = refl; gives = refl }
+client-says before old (refused number) = record { leaves = refl; gives = λ x is. refl }
 
 module _ (old : List ℕ) (long : longest ≤ length old) where
-  replica-called : (before : Replica) (bytes verdicts : List ℕ) → ReplicaSays before old (replicaStep before bytes verdicts) (replicaCall before bytes verdicts old)
-  replica-called before bytes verdicts = rw (replica-takes before bytes verdicts old long) (replica-says before old (replicaStep before bytes verdicts))
+  replica-called : (before : Bank) (bytes verdicts : List ℕ) → ReplicaSays (placeIn bytes) (registerIn bytes) before old (bankStep before bytes verdicts) (bankCall before bytes verdicts old)
+  unfolding bankCall bankStep
+  replica-called before bytes verdicts =
+      let part = partAt (placeIn bytes) before in
+      subst (λ (made : ReplicaCall). ReplicaSays (placeIn bytes) (registerIn bytes) before old (replicaStep part bytes verdicts) (putBack (placeIn bytes) before made))
+      (sym (replica-takes part bytes verdicts old long)) (replica-says (placeIn bytes) (registerIn bytes) before old (replicaStep part bytes verdicts))
 
-  write-called : (before : Client) (card : List ℕ) → ClientSays before old (beginWrite before card) (beginWriteCall before card old)
-  write-called before card = rw (begin-write-takes before old long card) (client-says before old (beginWrite before card))
+  write-called : (before : Client) (x : RegisterId) (card : List ℕ) → ClientSays before old (beginWrite before x card) (beginWriteCall before x card old)
+  write-called before x card = rw (begin-write-takes before old long x card) (client-says before old (beginWrite before x card))
 
-  read-called : (before : Client) → ClientSays before old (beginRead before) (beginReadCall before old)
-  read-called before = rw (begin-read-takes before old long) (client-says before old (beginRead before))
+  read-called : (before : Client) (x : RegisterId) → ClientSays before old (beginRead before x) (beginReadCall before x old)
+  read-called before x = rw (begin-read-takes before old long x) (client-says before old (beginRead before x))
 
   client-called : (before : Client) (bytes verdicts : List ℕ) → ClientSays before old (clientStep before bytes verdicts) (clientCall before bytes verdicts old)
   client-called before bytes verdicts = rw (client-step-takes before old long bytes verdicts) (client-says before old (clientStep before bytes verdicts))
@@ -69,25 +90,25 @@ module _ (old : List ℕ) (long : longest ≤ length old) where
       go false = viewer-called before bytes verdicts
 
   -- An event's call leaves the record that the event leaves.
-  replica-left : (id : ReplicaId) (e : Option Event) (before : Replica) → calledAtReplica id e old before ≡ afterAtReplica id e before
+  replica-left : (id : ReplicaId) (e : Option Event) (before : Bank) → calledAtReplica id e old before ≡ afterAtReplica id e before
   replica-left id none before = refl
-  replica-left id (some (begins-write at card)) before = refl
-  replica-left id (some (begins-read at)) before = refl
-  replica-left id (some (to-replica at bytes verdicts)) before = ap (λ (r : Replica). cond (eqb (at .0) (id .0)) r before) (replica-called before bytes verdicts .leaves)
+  replica-left id (some (begins-write at x card)) before = refl
+  replica-left id (some (begins-read at x)) before = refl
+  replica-left id (some (to-replica at bytes verdicts)) before = ap (λ (r : Bank). cond (eqb (at .0) (id .0)) r before) (replica-called before bytes verdicts .leaves)
   replica-left id (some (to-client at bytes verdicts)) before = refl
 
   client-left : (id : ClientId) (e : Option Event) (before : Client) → calledAtClient id e old before ≡ afterAtClient id e before
   client-left id none before = refl
-  client-left id (some (begins-write at card)) before = ap (λ (c : Client). cond (eqb (at .0) (id .0)) c before) (write-called before card .leaves)
-  client-left id (some (begins-read at)) before = ap (λ (c : Client). cond (eqb (at .0) (id .0)) c before) (read-called before .leaves)
+  client-left id (some (begins-write at x card)) before = ap (λ (c : Client). cond (eqb (at .0) (id .0)) c before) (write-called before x card .leaves)
+  client-left id (some (begins-read at x)) before = ap (λ (c : Client). cond (eqb (at .0) (id .0)) c before) (read-called before x .leaves)
   client-left id (some (to-replica at bytes verdicts)) before = refl
   client-left id (some (to-client at bytes verdicts)) before = ap (λ (c : Client). cond (eqb (at .0) (id .0)) c before) (hearing-called at before bytes verdicts .leaves)
 
 -- ---- All calls of a run
 
 module _ (R : Run) (output : ℕ → List ℕ) (long : (t : ℕ) → longest ≤ length (output t)) where
-  made-replica : (id : ReplicaId) → R .correct-replica id ≡ true → madeReplica (R .f) id ≡ freshReplica (R .f) id
-  unfolding madeReplica guard
+  made-replica : (id : ReplicaId) → R .correct-replica id ≡ true → madeBank (R .f) id ≡ freshBank (R .f) id
+  unfolding madeBank guard
   made-replica id c = rw (R .f-in-range, R .replicas-in-range id c)
 
   made-client : (id : ClientId) → R .correct-client id ≡ true → madeWith (R .f) id (R .first-nonce id) ≡ freshClient (R .f) id (R .first-nonce id)
@@ -99,8 +120,8 @@ module _ (R : Run) (output : ℕ → List ℕ) (long : (t : ℕ) → longest ≤
       go true q = let r = R .clients-in-range id c in rw (q, R .f-in-range, le-leb 1 (R .first-nonce id) (r .1))
       go false q = let r = R .clients-in-range id c in rw (q, R .f-in-range, r .0, le-leb 1 (R .first-nonce id) (r .1))
 
-  replicas : (id : ReplicaId) → R .correct-replica id ≡ true → (t : ℕ) → calledReplica R output id t ≡ replicaAt R id t
-  unfolding replicaAt calledReplica
+  replicas : (id : ReplicaId) → R .correct-replica id ≡ true → (t : ℕ) → calledReplica R output id t ≡ bankAt R id t
+  unfolding bankAt calledReplica
   replicas id c zero = made-replica id c
   replicas id c (suc t) = replica-left (output t) (long t) id (event R t) (calledReplica R output id t) ∙ ap (afterAtReplica id (event R t)) (replicas id c t)
 
@@ -109,14 +130,32 @@ module _ (R : Run) (output : ℕ → List ℕ) (long : (t : ℕ) → longest ≤
   clients id c zero = made-client id c
   clients id c (suc t) = client-left (output t) (long t) id (event R t) (calledClient R output id t) ∙ ap (afterAtClient id (event R t)) (clients id c t)
 
-  answers-to : (t : ℕ) (e : Event) → event R t ≡ some e → givenAt R output t e ≡ givenFor (output t) (answerTo R t (some e))
+  -- What a client's event leaves it with is for the event's register.
+  write-for : (id : ClientId) (t : ℕ) (x : RegisterId) (card : List ℕ) → event R t ≡ some (begins-write id x card) → (turn : Turn) → beginWrite (clientAt R id t) x card ≡ accepted turn → turn .next .register ≡ x
+  write-for id t x card q turn e =
+      let good = good-client R id (R .at-correct t (begins-write id x card) q) t in
+      begins-write-facts (clientAt R id t) x card turn (good .fits) (R .have-bytes t (begins-write id x card) q) e .register-is
+
+  read-for : (id : ClientId) (t : ℕ) (x : RegisterId) → event R t ≡ some (begins-read id x) → (turn : Turn) → beginRead (clientAt R id t) x ≡ accepted turn → turn .next .register ≡ x
+  read-for id t x q turn e = begins-read-facts (clientAt R id t) x turn (good-client R id (R .at-correct t (begins-read id x) q) t .fits) e .register-is
+
+  heard-for : (id : ClientId) (t : ℕ) (bytes verdicts : List ℕ) → event R t ≡ some (to-client id bytes verdicts) → (turn : Turn) → clientHears id (clientAt R id t) bytes verdicts ≡ accepted turn
+      → turn .next .register ≡ registerIn bytes
+  heard-for id t bytes verdicts q turn e =
+      let here = to-client id bytes verdicts in
+      let (message, decoded, facts) = hears-takes R id (clientAt R id t) bytes verdicts turn (good-client R id (R .at-correct t here q) t) (R .have-bytes t here q) e in
+      facts .same-register ∙ sym (found-register AtClient bytes (clientAt R id t .register) message decoded)
+
+  answers-to : (t : ℕ) (e : Event) → event R t ≡ some e → givenAt R output t e ≡ givenFor (registerOf e) (output t) (answerTo R t (some e))
   unfolding givenAt answerTo
-  answers-to t (begins-write id card) q = rw (clients id (R .at-correct t (begins-write id card) q) t) (write-called (output t) (long t) (clientAt R id t) card .gives)
-  answers-to t (begins-read id) q = rw (clients id (R .at-correct t (begins-read id) q) t) (read-called (output t) (long t) (clientAt R id t) .gives)
+  answers-to t (begins-write id x card) q =
+      rw (clients id (R .at-correct t (begins-write id x card) q) t) (write-called (output t) (long t) (clientAt R id t) x card .gives x (write-for id t x card q))
+  answers-to t (begins-read id x) q = rw (clients id (R .at-correct t (begins-read id x) q) t) (read-called (output t) (long t) (clientAt R id t) x .gives x (read-for id t x q))
   answers-to t (to-replica id bytes verdicts) q =
-      rw (replicas id (R .at-correct t (to-replica id bytes verdicts) q) t) (replica-called (output t) (long t) (replicaAt R id t) bytes verdicts .gives)
+      rw (replicas id (R .at-correct t (to-replica id bytes verdicts) q) t) (replica-called (output t) (long t) (bankAt R id t) bytes verdicts .gives)
   answers-to t (to-client id bytes verdicts) q =
-      rw (clients id (R .at-correct t (to-client id bytes verdicts) q) t) (hearing-called (output t) (long t) id (clientAt R id t) bytes verdicts .gives)
+      rw (clients id (R .at-correct t (to-client id bytes verdicts) q) t)
+      (hearing-called (output t) (long t) id (clientAt R id t) bytes verdicts .gives (registerIn bytes) (heard-for id t bytes verdicts q))
 
   -- For every run, whatever stood in the outputs.
   pub calls-are-run : CallsAreRun R output

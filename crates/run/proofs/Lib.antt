@@ -8,6 +8,7 @@ pub mod Operations
 pub mod Order
 pub mod Prefix
 pub mod ReadsFrom
+pub mod SameReplies
 pub mod SentMessages
 pub mod Slots
 pub mod Stages

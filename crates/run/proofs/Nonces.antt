@@ -8,6 +8,7 @@ use native.Mathlib.Omega.{arith}
 use native.Mathlib.Nat.{eq-or-lt-of-le, le-of-suc-le-suc}
 use Rattle.base.specs.Outcome.{accepted}
 use Rattle.base.specs.declared.party.ClientId.{ClientId}
+use Rattle.base.specs.declared.party.RegisterId.{RegisterId}
 use Rattle.wire.specs.Message.{Message, READ-STAMP, PREPARE, WRITE, READ, STAMP, PREPARED, WRITTEN, CARD}
 use Rattle.protocol.specs.Client.{Answer, send, waits, done, ended, Turn}
 use Rattle.protocol.specs.declared.client.Client.{Client}
@@ -35,7 +36,7 @@ isQuestion ended = false
 -- A client that takes a message asks nothing.
 quiet : (before : Client) (message : Message) (turn : Turn) → ClientCase before message turn → isQuestion (turn .answer) ≡ false
 quiet before message turn (stamp-counted s n p b k e₁ e₂ e₃ e₄ e₅ left) = ap isQuestion (left .answer-is)
-quiet before message turn (stamps-enough s n p b k next shown last e₁ e₂ e₃ e₄ e₅ e₆ e₇ e₈ e₉ left) = ap isQuestion (left .answer-is)
+quiet before message turn (stamps-enough s n p b k next shown last e₁ e₂ e₃ e₄ e₅ e₆ e₇ e₈ e₉ e₁₀ left) = ap isQuestion (left .answer-is)
 quiet before message turn (stamps-ended s n p b k e₁ e₂ left) = ap isQuestion (left .answer-is)
 quiet before message turn (prepared-counted s t k e₁ e₂ e₃ e₄ e₅ left) = ap isQuestion (left .answer-is)
 quiet before message turn (prepareds-enough s t k p e₁ e₂ e₃ e₄ e₅ e₆ e₇ e₈ e₉ left) = ap isQuestion (left .answer-is)
@@ -71,10 +72,10 @@ module _ (R : Run) (id : ClientId) (c : R .correct-client id ≡ true) where
     up : clientAt R id t .«last_nonce» ≤ clientAt R id (suc t) .«last_nonce»
     asks : (n : ℕ) (m : Message) → Asks id n m → At R t (client id) → answerAt R t ≡ accepted (send m) → n ≤ clientAt R id (suc t) .«last_nonce»
 
-  begun-moves : (t : ℕ) (question : Message) (phase : Phase) (card : List ℕ) (turn : Turn)
+  begun-moves : (t : ℕ) (x : RegisterId) (question : Message) (phase : Phase) (card : List ℕ) (turn : Turn)
       → ((n : ℕ) (m : Message) → Asks id n m → m ≡ question → n ≡ clientAt R id t .«last_nonce» + 1)
-      → Begun (clientAt R id t) question phase card turn → ClientStep R id t turn → Moves t
-  begun-moves t question phase card turn own b s =
+      → Begun (clientAt R id t) x question phase card turn → ClientStep R id t turn → Moves t
+  begun-moves t x question phase card turn own b s =
       let next : clientAt R id (suc t) .«last_nonce» ≡ clientAt R id t .«last_nonce» + 1 = rw (s .next-is) (b .nonce) in
       record {
         up = omega arith;
@@ -89,8 +90,8 @@ module _ (R : Run) (id : ClientId) (c : R .correct-client id ≡ true) where
     where
       go : ClientTurn R id t → Moves t
       go (rested same silent) = record { up = rw same (omega arith); asks = λ n m a at e. absurd (silent at (send m) e) }
-      go (wrote card turn e b s) = begun-moves t _ _ card turn (λ n m a q. stamps-nonce id _ n _ m a q) b s
-      go (asked turn e b s) = begun-moves t _ _ _ turn (λ n m a q. cards-nonce id _ n _ m a q) b s
+      go (wrote x card turn e b s) = begun-moves t x _ _ card turn (λ n m a q. stamps-nonce id _ n _ m a q) b s
+      go (asked x turn e b s) = begun-moves t x _ _ _ turn (λ n m a q. cards-nonce id _ n _ m a q) b s
       go (heard h) =
           let next : clientAt R id (suc t) .«last_nonce» ≡ clientAt R id t .«last_nonce» = rw (h .step .next-is) (h .facts .same-nonce) in
           record {
@@ -110,8 +111,8 @@ module _ (R : Run) (id : ClientId) (c : R .correct-client id ≡ true) where
       (eq-or-lt-of-le l)
 
   -- A question with a nonce above those used before t₀ was sent at t₀ or later.
-  pub asked-since : (t₀ t n : ℕ) (m : Message) → Asks id n m → clientAt R id t₀ .«last_nonce» < n → (e : Said R (client id) m t) → t₀ ≤ e .time
-  asked-since t₀ t n m a above e =
+  pub asked-since : (t₀ t n : ℕ) (x : RegisterId) (m : Message) → Asks id n m → clientAt R id t₀ .«last_nonce» < n → (e : Said R x (client id) m t) → t₀ ≤ e .time
+  asked-since t₀ t n x m a above e =
       ⊎-elim (λ (l : t₀ ≤ e .time). l)
       (λ (l : e .time < t₀).
       let used = moves (e .time) .asks n m a (e .by) (e .answered) in

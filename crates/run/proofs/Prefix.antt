@@ -8,6 +8,7 @@ use native.Mathlib.Omega.{arith}
 use lib.ListN.{take, getElem?}
 use Rattle.base.specs.Outcome.{Outcome, accepted, refused}
 use Rattle.base.specs.declared.party.ClientId.{ClientId}
+use Rattle.base.specs.declared.party.RegisterId.{RegisterId}
 use Rattle.base.specs.declared.party.ReplicaId.{ReplicaId}
 use Rattle.wire.specs.Acceptance.{Sender}
 use Rattle.wire.specs.Decode.{decode}
@@ -17,7 +18,7 @@ use Rattle.wire.specs.declared.message.Party.the-variants.{Replica as AtReplica
 use Rattle.run.specs.Claims.{Claims}
 use Rattle.run.specs.Prefix.{prefix}
 use Rattle.run.specs.Premises.{TrueVerdicts, TrueFor, TrueAt, eventCard, CardOfRun, Premises}
-use Rattle.run.specs.Run.{Event, begins-write, begins-read, to-replica, to-client, Run, afterAtReplica, afterAtClient, event, replicaAt, clientAt, answerTo, answerAt, Sent}
+use Rattle.run.specs.Run.{Event, begins-write, begins-read, to-replica, to-client, Run, afterAtReplica, afterAtClient, event, bankAt, clientAt, answerTo, answerAt, Sent}
 use Rattle.run.proofs.Demand3.{demand-3}
 use Rattle.run.proofs.Slots.{order}
 use Rattle.run.proofs.Turns.{apart}
@@ -42,11 +43,11 @@ module _ (R : Run) (n : ℕ) where
   event-same : (t : ℕ) → t < n → event S t ≡ event R t
   event-same t l = front n (R .events) t l
 
-  replica-same : (id : ReplicaId) (t : ℕ) → t ≤ n → replicaAt S id t ≡ replicaAt R id t
-  unfolding replicaAt
+  replica-same : (id : ReplicaId) (t : ℕ) → t ≤ n → bankAt S id t ≡ bankAt R id t
+  unfolding bankAt
   replica-same id zero l = refl
   replica-same id (suc t) l =
-      ap (λ (e : Option Event). afterAtReplica id e (replicaAt S id t)) (event-same t l) ∙ ap (afterAtReplica id (event R t)) (replica-same id t (omega arith))
+      ap (λ (e : Option Event). afterAtReplica id e (bankAt S id t)) (event-same t l) ∙ ap (afterAtReplica id (event R t)) (replica-same id t (omega arith))
 
   client-same : (id : ClientId) (t : ℕ) → t ≤ n → clientAt S id t ≡ clientAt R id t
   unfolding clientAt
@@ -57,8 +58,8 @@ module _ (R : Run) (n : ℕ) where
   answer-to : (t : ℕ) (e : Option Event) → t < n → answerTo S t e ≡ answerTo R t e
   unfolding answerTo
   answer-to t none l = refl
-  answer-to t (some (begins-write id card)) l = rw (client-same id t (omega arith)) refl
-  answer-to t (some (begins-read id)) l = rw (client-same id t (omega arith)) refl
+  answer-to t (some (begins-write id x card)) l = rw (client-same id t (omega arith)) refl
+  answer-to t (some (begins-read id x)) l = rw (client-same id t (omega arith)) refl
   answer-to t (some (to-replica id bytes verdicts)) l = rw (replica-same id t (omega arith)) refl
   answer-to t (some (to-client id bytes verdicts)) l = rw (client-same id t (omega arith)) refl
 
@@ -67,17 +68,19 @@ module _ (R : Run) (n : ℕ) where
 
   sent-same : (party : Sender) (bytes : List ℕ) (t : ℕ) → t ≤ n → Sent R party bytes t → Sent S party bytes t
   sent-same party bytes t l s =
-      let x = s .said in
-      let before = x .earlier in
-      let early : x .time < n = omega arith in
+      let said = s .said in
+      let before = said .earlier in
+      let early : said .time < n = omega arith in
       record {
+        register = s .register;
         message = s .message;
         said =
             record {
-              time = x .time;
+              time = said .time;
               earlier = before;
-              by = (x .by .0, event-same (x .time) early ∙ x .by .1, x .by .2);
-              answered = answer-same (x .time) early ∙ x .answered;
+              by = (said .by .0, event-same (said .time) early ∙ said .by .1, said .by .2);
+              register-is = said .register-is;
+              answered = answer-same (said .time) early ∙ said .answered;
             };
         same-bytes = s .same-bytes;
       }
@@ -88,15 +91,15 @@ module _ (R : Run) (n : ℕ) where
   true-same t (s ∷ ss) [] l h = tt
   true-same t (s ∷ ss) (v ∷ vs) l h = (λ one c. sent-same (s .signer) (s .covers) t l (h .0 one c), true-same t ss vs l (h .1))
 
-  true-for : (t : ℕ) (bytes verdicts : List ℕ) (out : Outcome Message) → t ≤ n → TrueFor R t bytes verdicts out → TrueFor S t bytes verdicts out
+  true-for : (t : ℕ) (bytes verdicts : List ℕ) (out : Outcome (RegisterId × Message)) → t ≤ n → TrueFor R t bytes verdicts out → TrueFor S t bytes verdicts out
   true-for t bytes verdicts (accepted m) l h = true-same t (signaturesOf bytes m) verdicts l h
   true-for t bytes verdicts (refused k) l h = tt
 
   true-at : (t : ℕ) (e : Option Event) → t ≤ n → TrueAt R t e → TrueAt S t e
   unfolding TrueAt
   true-at t none l h = tt
-  true-at t (some (begins-write id card)) l h = tt
-  true-at t (some (begins-read id)) l h = tt
+  true-at t (some (begins-write id x card)) l h = tt
+  true-at t (some (begins-read id x)) l h = tt
   true-at t (some (to-replica id bytes verdicts)) l h = true-for t bytes verdicts (decode AtReplica bytes) l h
   true-at t (some (to-client id bytes verdicts)) l h = true-for t bytes verdicts (decode AtClient bytes) l h
 
@@ -123,5 +126,5 @@ module _ (R : Run) (n : ℕ) where
       }
 
   -- So the claims hold at every moment of a run.
-  pub always : Premises R → Claims S
+  pub always : Premises R → (x : RegisterId) → Claims S x
   always P = demand-3 S (prefix-premises P)

@@ -1,57 +1,86 @@
 -- What correct parties sent, as messages: legal, and what true verdicts say of a message that passed. Assumes nothing.
-use mathlib.Core.Path.{_≡_, sym, subst}
+use mathlib.Core.Path.{_≡_, refl, sym, ap, subst}
 use mathlib.Core.Logic.{⊎-elim}
 use mathlib.Core.Bool.{true}
 use mathlib.Core.List.{List, [], _∷_, _++_}
-use Prim.Native.Nat.{ℕ, _+_, _≤_}
+use mathlib.Core.Option.{some}
+use Prim.Native.Nat.{ℕ, _+_, _≤_, _<_}
 use native.Mathlib.Omega.{arith}
 use borrow.Author.Tests.{eqb-true}
 use lib.Dec.{eqb}
 use lib.ListN.{length, drop}
 use Rattle.base.specs.Outcome.{accepted}
+use Rattle.base.specs.Party.{isRegister}
 use Rattle.base.specs.Rising.{listed}
 use Rattle.base.specs.declared.party.ClientId.{ClientId}
+use Rattle.base.specs.declared.party.RegisterId.{RegisterId}
 use Rattle.base.specs.declared.party.ReplicaId.{ReplicaId}
 use Rattle.base.proofs.Booleans.{and-true-both, or-true}
+use Rattle.base.proofs.Range.{bounds}
 use Rattle.wire.specs.Checks.{all, ownGenuine, genuine}
-use Rattle.wire.specs.Decode.{decode}
+use Rattle.wire.specs.Decode.{forRegister, decode, registerIn}
 use Rattle.wire.specs.Message.{Message, READ-STAMP, READ, body, Legal}
 use Rattle.wire.specs.Proof.{Entry, signers}
 use Rattle.wire.specs.Signatures.{Signature, signedBy, signaturesOf}
-use Rattle.wire.proofs.OneForm.{decoded-legal}
-use Rattle.wire.proofs.RoundTrip.{body-injective}
+use Rattle.wire.proofs.OneForm.{found-register, decoded-register, decoded-legal}
+use Rattle.wire.proofs.RoundTrip.{body-message, body-register}
 use Rattle.wire.specs.declared.message.Party.the-variants.{Replica as AtReplica, Client as AtClient}
-use Rattle.protocol.specs.Client.{send}
+use Rattle.protocol.specs.Client.{Answer, send}
 use Rattle.protocol.proofs.ClientCases.{LegalAnswer}
+use Rattle.protocol.proofs.Fit.{LegalMessage}
 use Rattle.run.specs.Premises.{TrueVerdicts, TrueFor, TrueAt, Premises}
 use Rattle.wire.specs.Acceptance.{senderOf, Sender, replica, client}
-use Rattle.run.specs.Run.{to-replica, to-client, Run, clientAt, answerAt, At, Correct, Said, Sent}
+use Rattle.run.specs.Run.{Event, begins-write, begins-read, to-replica, to-client, registerOf, Run, event, clientAt, answerAt, At, Correct, Said, Sent}
 use Rattle.run.proofs.Bodies.{covered}
-use Rattle.run.proofs.Turns.{apart, same-replica, ReplicaStep, replica-step, ClientTurn, rested, wrote, asked, heard, client-turn, Heard}
+use Rattle.run.proofs.Turns.{apart, same-replica, Answers, ReplicaStep, replica-step, step-register, ClientTurn, rested, wrote, asked, heard, client-turn, Heard}
 
 module _ (R : Run) where
-  pub said-later : (party : Sender) (message : Message) (t t′ : ℕ) → t ≤ t′ → Said R party message t → Said R party message t′
-  said-later party message t t′ l s = let before = s .earlier in record { time = s .time; earlier = omega arith; by = s .by; answered = s .answered }
+  pub said-later : (x : RegisterId) (party : Sender) (message : Message) (t t′ : ℕ) → t ≤ t′ → Said R x party message t → Said R x party message t′
+  said-later x party message t t′ l s = let before = s .earlier in record { time = s .time; earlier = omega arith; by = s .by; register-is = s .register-is; answered = s .answered }
 
-  -- What a correct party sends is legal.
-  pub sent-legal : (party : Sender) → Correct R party → (t : ℕ) (message : Message) → At R t party → answerAt R t ≡ accepted (send message) → Legal message
+  -- A replica that said a message answered with it.
+  pub said-answers : (x : RegisterId) (id : ReplicaId) (message : Message) (t : ℕ) (e : Said R x (replica id) message t) → Answers R x id (e .time) (send message)
+  said-answers x id message t e = (e .by, e .register-is, e .answered)
+
+  register-byte : (x : RegisterId) → isRegister x ≡ true → x .0 < 256
+  register-byte x e = let range = bounds 1 16 (x .0) e in omega (arith, range .1)
+
+  -- What a correct party sends is legal, for the register of its event.
+  pub sent-legal : (party : Sender) → Correct R party → (t : ℕ) (message : Message) (at : At R t party) → answerAt R t ≡ accepted (send message) → Legal (registerOf (at .0)) message
   sent-legal (replica id) c t m at a =
-      let s = replica-step R id c t (send m) at a in
+      let s = replica-step R (registerOf (at .0)) id c t (send m) (at, refl, a) in
       let same : s .reply .message ≡ m = cc (s .answer-is) in
-      subst Legal same (s .facts .legal)
+      let small = decoded-register AtReplica (s .bytes) (registerIn (s .bytes)) (s .message) (s .decoded) (R .have-bytes t (to-replica id (s .bytes) (s .verdicts)) (s .event-is)) in
+      subst LegalMessage same (s .facts .legal) (registerOf (at .0)) (subst (λ (x : RegisterId). x .0 < 256) (step-register R (registerOf (at .0)) id t s (send m) (at, refl, a)) small)
   sent-legal (client id) c t m at a = go (client-turn R id c t)
     where
-      go : ClientTurn R id t → Legal m
-      go (rested same silent) = absurd (silent at (send m) a)
-      go (wrote card turn e b s) = let same : READ-STAMP (clientAt R id t .id) (clientAt R id t .«last_nonce» + 1) ≡ m = cc (s .answer-is, b .sends) in subst Legal same (b .legal)
-      go (asked turn e b s) = let same : READ (clientAt R id t .id) (clientAt R id t .«last_nonce» + 1) ≡ m = cc (s .answer-is, b .sends) in subst Legal same (b .legal)
-      go (heard h) = let same : h .turn .answer ≡ send m = cc (h .step .answer-is) in subst LegalAnswer same (h .facts .legal)
+      -- The event is this one, and so its register.
+      here : (e : Event) → event R t ≡ some e → registerOf e .0 < 256 → LegalMessage m → Legal (registerOf (at .0)) m
+      here e q small legal = let one : e ≡ at .0 = cc (at .1) in legal (registerOf (at .0)) (subst (λ (x : RegisterId). x .0 < 256) (ap registerOf one) small)
 
-  -- A correct party that sent a legal message's bytes sent that message.
-  pub said : (party : Sender) → Correct R party → (message : Message) → Legal message → (t : ℕ) → Sent R party (body message) t → Said R party message t
-  said party c m legal t s =
+      go : ClientTurn R id t → Legal (registerOf (at .0)) m
+      go (rested same silent) = absurd (silent at (send m) a)
+      go (wrote x card turn e b s) =
+          let same : READ-STAMP (clientAt R id t .id) (clientAt R id t .«last_nonce» + 1) ≡ m = cc (s .answer-is, b .sends) in
+          here (begins-write id x card) e (register-byte x (b .registered)) (subst LegalMessage same (b .legal))
+      go (asked x turn e b s) =
+          let same : READ (clientAt R id t .id) (clientAt R id t .«last_nonce» + 1) ≡ m = cc (s .answer-is, b .sends) in
+          here (begins-read id x) e (register-byte x (b .registered)) (subst LegalMessage same (b .legal))
+      go (heard h) =
+          let same : h .turn .answer ≡ send m = cc (h .step .answer-is) in
+          let own = clientAt R id t .register in
+          let small = decoded-register AtClient (h .bytes) own (h .message) (h .decoded) (R .have-bytes t (to-client id (h .bytes) (h .verdicts)) (h .event-is)) in
+          here (to-client id (h .bytes) (h .verdicts)) (h .event-is) (subst (λ (x : RegisterId). x .0 < 256) (sym (found-register AtClient (h .bytes) own (h .message) (h .decoded))) small)
+          (subst LegalAnswer same (h .facts .legal))
+
+  -- A correct party that sent the bytes of a legal message for a register sent that message for it.
+  pub said : (party : Sender) → Correct R party → (x : RegisterId) (message : Message) → Legal x message → (t : ℕ) → Sent R party (body x message) t → Said R x party message t
+  said party c x m legal t s =
       let by = s .said in
-      subst (λ (x : Message). Said R party x t) (body-injective (s .message) m (sent-legal party c (by .time) (s .message) (by .by) (by .answered) .fits) (legal .fits) (s .same-bytes)) by
+      let sent : Legal (s .register) (s .message) = subst (λ (y : RegisterId). Legal y (s .message)) (by .register-is) (sent-legal party c (by .time) (s .message) (by .by) (by .answered)) in
+      let same-register = body-register (s .register) x (s .message) m (sent .fits) (legal .fits) (s .same-bytes) (sent .register-fits) (legal .register-fits) in
+      let same-message = body-message (s .register) x (s .message) m (sent .fits) (legal .fits) (s .same-bytes) in
+      subst (λ (y : RegisterId). Said R y party m t) same-register (subst (λ (n : Message). Said R (s .register) party n t) same-message by)
 
   -- ---- True verdicts
 
@@ -79,52 +108,55 @@ module _ (R : Run) where
   front-true t (s ∷ a) b (v ∷ vs) h = (h .0, front-true t a b vs (h .1))
 
   -- Entries whose verdicts are all 1: each correct signer sent its message.
-  pub entry-sent : (t : ℕ) (message : ReplicaId → Message) (entries : List Entry) (verdicts : List ℕ) → length entries ≤ length verdicts → genuine verdicts ≡ true
-      → TrueVerdicts R t (signedBy message entries) verdicts → (id : ReplicaId) → listed (signers entries) id ≡ true
-      → R .correct-replica id ≡ true → Sent R (replica id) (body (message id)) t
+  pub entry-sent : (t : ℕ) (x : RegisterId) (message : ReplicaId → Message) (entries : List Entry) (verdicts : List ℕ) → length entries ≤ length verdicts → genuine verdicts ≡ true
+      → TrueVerdicts R t (signedBy x message entries) verdicts → (id : ReplicaId) → listed (signers entries) id ≡ true
+      → R .correct-replica id ≡ true → Sent R (replica id) (body x (message id)) t
   unfolding TrueVerdicts listed all
-  entry-sent t message [] vs l g h id m c = apart (cc)
-  entry-sent t message (x ∷ xs) [] l g h id m c = absurd (omega arith)
-  entry-sent t message (x ∷ xs) (v ∷ vs) l g h id m c =
+  entry-sent t x message [] vs l g h id m c = apart (cc)
+  entry-sent t x message (entry ∷ entries) [] l g h id m c = absurd (omega arith)
+  entry-sent t x message (entry ∷ entries) (v ∷ vs) l g h id m c =
       let ones = and-true-both (eqb v 1) (all (λ v. eqb v 1) vs) g in
       ⊎-elim
-      (λ e. let same : x .signer ≡ id = same-replica (x .signer) id (sym (eqb-true (id .0) (x .signer .0) e)) in
-      subst (λ (i : ReplicaId). R .correct-replica i ≡ true → Sent R (replica i) (body (message i)) t) same (h .0 (eqb-true v 1 (ones .0))) c)
-      (λ e. entry-sent t message xs vs (omega arith) (ones .1) (h .1) id e c)
-      (or-true (eqb (id .0) (x .signer .0)) (listed (signers xs) id) m)
+      (λ e. let same : entry .signer ≡ id = same-replica (entry .signer) id (sym (eqb-true (id .0) (entry .signer .0) e)) in
+      subst (λ (i : ReplicaId). R .correct-replica i ≡ true → Sent R (replica i) (body x (message i)) t) same (h .0 (eqb-true v 1 (ones .0))) c)
+      (λ e. entry-sent t x message entries vs (omega arith) (ones .1) (h .1) id e c)
+      (or-true (eqb (id .0) (entry .signer .0)) (listed (signers entries) id) m)
 
   module _ (P : Premises R) where
-    -- The message that a client takes at event t was sent by its sender.
-    pub heard-true : (id : ClientId) (t : ℕ) (h : Heard R id t) → TrueVerdicts R t (signaturesOf (h .bytes) (h .message)) (h .verdicts)
+    -- The message that a client takes at event t was sent by its sender, for the client's register.
+    pub heard-true : (id : ClientId) (t : ℕ) (h : Heard R id t) → TrueVerdicts R t (signaturesOf (h .bytes) (forRegister (clientAt R id t .register) (h .message))) (h .verdicts)
     unfolding TrueAt
     heard-true id t h =
         let there : TrueFor R t (h .bytes) (h .verdicts) (decode AtClient (h .bytes)) = subst (TrueAt R t) (h .event-is) (P .true-verdicts t) in
         subst (TrueFor R t (h .bytes) (h .verdicts)) (h .decoded) there
 
-    pub heard-legal : (id : ClientId) (t : ℕ) (h : Heard R id t) → Legal (h .message)
-    heard-legal id t h = decoded-legal AtClient (h .bytes) (h .message) (h .decoded) (R .have-bytes t (to-client id (h .bytes) (h .verdicts)) (h .event-is))
+    pub heard-legal : (id : ClientId) (t : ℕ) (h : Heard R id t) → Legal (clientAt R id t .register) (h .message)
+    heard-legal id t h = decoded-legal AtClient (h .bytes) (clientAt R id t .register) (h .message) (h .decoded) (R .have-bytes t (to-client id (h .bytes) (h .verdicts)) (h .event-is))
 
-    pub heard-said : (id : ClientId) (t : ℕ) (h : Heard R id t) (m : Message) → h .message ≡ m → Correct R (senderOf m) → Said R (senderOf m) m t
-    heard-said id t h m e = subst (λ (x : Message). Correct R (senderOf x) → Said R (senderOf x) x t) e own
+    pub heard-said : (id : ClientId) (t : ℕ) (h : Heard R id t) (m : Message) → h .message ≡ m → Correct R (senderOf m) → Said R (clientAt R id t .register) (senderOf m) m t
+    heard-said id t h m e = subst (λ (n : Message). Correct R (senderOf n) → Said R (clientAt R id t .register) (senderOf n) n t) e own
       where
-        own : Correct R (senderOf (h .message)) → Said R (senderOf (h .message)) (h .message) t
+        own : Correct R (senderOf (h .message)) → Said R (clientAt R id t .register) (senderOf (h .message)) (h .message) t
         own c =
             let small = R .have-bytes t (to-client id (h .bytes) (h .verdicts)) (h .event-is) in
             let sent = own-sent t _ _ (h .verdicts) (h .facts .passed .own) (heard-true id t h) c in
-            said (senderOf (h .message)) c (h .message) (heard-legal id t h) t
-            (subst (λ (b : List ℕ). Sent R (senderOf (h .message)) b t) (covered AtClient (h .bytes) (h .message) small (h .decoded)) sent)
+            said (senderOf (h .message)) c (clientAt R id t .register) (h .message) (heard-legal id t h) t
+            (subst (λ (b : List ℕ). Sent R (senderOf (h .message)) b t) (covered AtClient (h .bytes) (clientAt R id t .register) (h .message) small (h .decoded)) sent)
 
-    -- So was the message that a replica takes.
-    pub step-said : (id : ReplicaId) (t : ℕ) (s : ReplicaStep R id t) (m : Message) → s .message ≡ m → Correct R (senderOf m) → Said R (senderOf m) m t
+    -- So was the message that a replica takes, for the register that it is for.
+    pub step-said : (x : RegisterId) (id : ReplicaId) (t : ℕ) (s : ReplicaStep R x id t) (answer : Answer) → Answers R x id t answer → (m : Message) → s .message ≡ m
+        → Correct R (senderOf m) → Said R x (senderOf m) m t
     unfolding TrueAt
-    step-said id t s m e = subst (λ (x : Message). Correct R (senderOf x) → Said R (senderOf x) x t) e own
+    step-said x id t s answer a m e c =
+        subst (λ (y : RegisterId). Said R y (senderOf m) m t) (step-register R x id t s answer a)
+        (subst (λ (n : Message). Correct R (senderOf n) → Said R (registerIn (s .bytes)) (senderOf n) n t) e own c)
       where
-        own : Correct R (senderOf (s .message)) → Said R (senderOf (s .message)) (s .message) t
+        own : Correct R (senderOf (s .message)) → Said R (registerIn (s .bytes)) (senderOf (s .message)) (s .message) t
         own c =
             let small = R .have-bytes t (to-replica id (s .bytes) (s .verdicts)) (s .event-is) in
             let there : TrueFor R t (s .bytes) (s .verdicts) (decode AtReplica (s .bytes)) = subst (TrueAt R t) (s .event-is) (P .true-verdicts t) in
-            let true-ones : TrueVerdicts R t (signaturesOf (s .bytes) (s .message)) (s .verdicts) = subst (TrueFor R t (s .bytes) (s .verdicts)) (s .decoded) there in
+            let true-ones : TrueVerdicts R t (signaturesOf (s .bytes) (forRegister (registerIn (s .bytes)) (s .message))) (s .verdicts) = subst (TrueFor R t (s .bytes) (s .verdicts)) (s .decoded) there in
             let sent = own-sent t _ _ (s .verdicts) (s .facts .passed .own) true-ones c in
-            let legal = decoded-legal AtReplica (s .bytes) (s .message) (s .decoded) small in
-            said (senderOf (s .message)) c (s .message) legal t
-            (subst (λ (b : List ℕ). Sent R (senderOf (s .message)) b t) (covered AtReplica (s .bytes) (s .message) small (s .decoded)) sent)
+            let legal = decoded-legal AtReplica (s .bytes) (registerIn (s .bytes)) (s .message) (s .decoded) small in
+            said (senderOf (s .message)) c (registerIn (s .bytes)) (s .message) legal t
+            (subst (λ (b : List ℕ). Sent R (senderOf (s .message)) b t) (covered AtReplica (s .bytes) (registerIn (s .bytes)) (s .message) small (s .decoded)) sent)

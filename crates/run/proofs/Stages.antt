@@ -75,7 +75,7 @@ module _ (before : Client) (turn : Turn) where
 
   pub stage : (message : Message) → ClientCase before message turn → Stage before turn
   stage message (stamp-counted sender nonce proof best counted m at new card b l) = stamping (ap isStamping at) (ap preparedFor at) card (l .answer-is)
-  stage message (stamps-enough sender nonce proof best counted next shown last m at new q s c d b t l) =
+  stage message (stamps-enough sender nonce proof best counted next shown last m at new q s c d b t w l) =
       prepares (number next) shown last (ap isStamping at) (ap preparedFor at) (ap isStamping (l .phase-is)) (ap preparedFor (l .phase-is)) (l .answer-is)
   stage message (stamps-ended sender nonce proof best counted m at l) = other _ _ _ at refl refl refl l
   stage message (prepared-counted sender timestamp counted m at new q c l) = kept _ _ _ (number timestamp) at refl refl refl refl refl l

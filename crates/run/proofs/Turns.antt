@@ -7,36 +7,44 @@ use Prim.Native.Nat.{ℕ, zero, suc, _+_, _^_, _≤_, _<_}
 use native.Mathlib.Omega.{arith}
 use borrow.Author.Tests.{eqb-true, eqb-false, eq-eqb}
 use lib.Dec.{eqb}
-use lib.ListN.{getD, replicate, length-replicate}
+use lib.ListN.{length, getD, replicate, length-replicate, length-set, getD-replicate}
 use Rattle.base.specs.BigEndian.{Bytes}
 use Rattle.base.specs.Outcome.{Outcome, accepted, refused}
-use Rattle.base.specs.Party.{replicaCount, isWriter}
+use Rattle.base.specs.Party.{replicaCount, isWriter, registerPlace}
 use Rattle.base.specs.declared.party.ClientId.{ClientId}
+use Rattle.base.specs.declared.party.RegisterId.{RegisterId}
 use Rattle.base.specs.declared.party.ReplicaId.{ReplicaId}
 use Rattle.base.proofs.Range.{bounds}
-use Rattle.wire.specs.Decode.{decode}
+use Rattle.base.proofs.Registers.{place-below}
+use Rattle.wire.specs.Decode.{forRegister, decode, registerIn}
 use Rattle.wire.specs.Layout.{signature}
 use Rattle.wire.specs.Message.{Message, READ-STAMP, READ}
 use Rattle.wire.proofs.Admitted.{Admitted, admitted-then}
-use Rattle.wire.proofs.OneForm.{decoded-fits, decoded-signature}
+use Rattle.wire.proofs.OneForm.{found-register, decoded-fits, decoded-signature}
 use Rattle.wire.specs.declared.message.Party.the-variants.{Replica as AtReplica, Client as AtClient}
 use Rattle.base.specs.ReplicaSet.{empty}
 use Rattle.base.specs.Timestamp.{start}
 use Rattle.protocol.specs.Parts.{startCard}
-use Rattle.protocol.specs.Client.{Answer, send, Turn, freshClient, beginWrite, beginRead, onReply, clientStep}
-use Rattle.protocol.specs.Replica.{Reply, freshRegister, onRequest, replicaStep}
-use Rattle.protocol.specs.Viewer.{onViewerReply, viewerStep}
+use Rattle.protocol.specs.Bank.{partAt, withPartAt, freshBank, placeIn, bankStep}
+use Rattle.protocol.specs.Client.{Answer, send, Turn, noWritten, freshClient, beginWrite, beginRead, clientStep}
+use Rattle.protocol.specs.Replica.{Reply, freshRegister, freshReplica, onRequest, replicaStep}
+use Rattle.protocol.specs.Viewer.{viewerStep}
 use Rattle.protocol.specs.declared.client.Client.{Client}
 use Rattle.protocol.specs.declared.client.Phase.{Phase}
 use Rattle.protocol.specs.declared.client.Phase.the-variants.{Stamps, Cards}
+use Rattle.protocol.specs.declared.client.Written.{Written}
+use Rattle.protocol.specs.declared.replica.Bank.{Bank}
+use Rattle.protocol.specs.declared.replica.Register.{Register}
 use Rattle.protocol.specs.declared.replica.Replica.{Replica}
 use Rattle.protocol.proofs.ArrayLaws.{bytes-zeros, zeros-fit}
-use Rattle.protocol.proofs.Fit.{SlotsFit, HeldFits, ReplicaFits, ClientFits}
+use Rattle.protocol.proofs.BankFacts.{fresh-part, part-elsewhere, part-there}
+use Rattle.protocol.proofs.Fit.{SlotsFit, HeldFits, ReplicaFits, WrittenKeptFits, ClientFits}
 use Rattle.protocol.proofs.ReplicaFacts.{ReplicaFacts, replica-facts}
 use Rattle.protocol.proofs.ClientCases.{Begun, PhaseFits, ClientFacts}
 use Rattle.protocol.proofs.ClientFacts.{begins-write as write-begun, begins-read as read-begun, client-facts, viewer-facts}
+use Rattle.protocol.proofs.Towards.{client-takes, viewer-takes}
 use Rattle.wire.specs.Acceptance.{Sender, replica, client}
-use Rattle.run.specs.Run.{Event, begins-write, begins-read, to-replica, to-client, Run, partyOf, nextReplica, nextClient, clientHears, replicaAnswer, clientAnswer, event, replicaAt, clientAt, answerTo, answerAt, At}
+use Rattle.run.specs.Run.{Event, begins-write, begins-read, to-replica, to-client, Run, partyOf, registerOf, nextBank, nextClient, clientHears, replicaAnswer, clientAnswer, event, bankAt, replicaAt, registerAt, clientAt, answerTo, answerAt, At}
 
 -- Two constructors are not equal.
 pub apart : {A : Type 0} → _≡_ {A = ℕ} 0 1 → A
@@ -67,6 +75,9 @@ fresh-held-fits : HeldFits (freshRegister .held)
 unfolding freshRegister
 fresh-held-fits = record { timestamp-fits = omega arith; card-fits = zeros-fit 17; digest-fits = zeros-fit 32; entries-fit = zeros-fit 715 }
 
+abbrev unwritten : Written
+unwritten = record { timestamp = start; «entry_count» = 0; entries = replicate 715 0 }
+
 fresh-client-fits : (f : ℕ) (id : ClientId) (nonce : ℕ) → id .0 < 256 → nonce < 2 ^ 64 → ClientFits (freshClient f id nonce)
 fresh-client-fits f id nonce low small = record {
   id-fits = low;
@@ -75,70 +86,14 @@ fresh-client-fits f id nonce low small = record {
   digest-fits = zeros-fit 32;
   entries-fit = zeros-fit 715;
   signatures-fit = zeros-fit 1024;
-  written-fits = omega arith;
-  written-entries-fit = zeros-fit 715;
+  written-long = length-replicate 16 unwritten;
+  written-fit = λ at inside. subst WrittenKeptFits (sym (getD-replicate 16 at unwritten noWritten inside)) (record { timestamp-fits = omega arith; entries-fit = zeros-fit 715 });
 }
 
 module _ (R : Run) where
-  -- ---- Replicas
-
-  pub correct-replica-range : (id : ReplicaId) → R .correct-replica id ≡ true → (1 ≤ id .0) × (id .0 ≤ replicaCount (R .f))
-  correct-replica-range id c = bounds 1 (replicaCount (R .f)) (id .0) (R .replicas-in-range id c)
-
-  pub record GoodReplica (id : ReplicaId) (before : Replica) : Type 0 where
-    pub f-is : before .f ≡ R .f
-    pub id-is : before .id ≡ id
-    pub fits : ReplicaFits before
-
   -- The party answers nothing at event t: it is not its event, or it is refused.
   abbrev pub Silent : Sender → ℕ → Type 0
   Silent party t = At R t party → (answer : Answer) → answerAt R t ≡ accepted answer → ⊥
-
-  pub record ReplicaStep (id : ReplicaId) (t : ℕ) : Type 0 where
-    pub bytes : List ℕ
-    pub verdicts : List ℕ
-    pub message : Message
-    pub reply : Reply
-    pub event-is : event R t ≡ some (to-replica id bytes verdicts)
-    pub decoded : decode AtReplica bytes ≡ accepted message
-    pub facts : ReplicaFacts (replicaAt R id t) verdicts message reply
-    pub next-is : replicaAt R id (suc t) ≡ reply .next
-    pub answer-is : answerAt R t ≡ accepted (send (reply .message))
-
-  pub data ReplicaTurn (id : ReplicaId) (t : ℕ) : Type 0 where
-    rests : replicaAt R id (suc t) ≡ replicaAt R id t → Silent (replica id) t → ReplicaTurn id t
-    steps : ReplicaStep id t → ReplicaTurn id t
-
-  replica-outcome : (id : ReplicaId) (t : ℕ) (bytes verdicts : List ℕ) (out : Outcome Reply) → event R t ≡ some (to-replica id bytes verdicts)
-      → replicaStep (replicaAt R id t) bytes verdicts ≡ out → (replicaAt R id (suc t) ≡ nextReplica (replicaAt R id t) out) × (answerAt R t ≡ replicaAnswer out)
-  unfolding replicaAt answerTo
-  replica-outcome id t bytes verdicts out e q = (rw (e, eq-eqb (id .0) (id .0) refl, q), rw (e, q))
-
-  replica-parts : (before : Replica) (bytes verdicts : List ℕ) (reply : Reply) → replicaStep before bytes verdicts ≡ accepted reply
-      → (message : Message) × Admitted AtReplica (before .f) bytes verdicts message × (onRequest before message ≡ accepted reply)
-  unfolding replicaStep
-  replica-parts before bytes verdicts reply e = admitted-then AtReplica (before .f) bytes verdicts (onRequest before) reply e
-
-  replica-here : (id : ReplicaId) (t : ℕ) (bytes verdicts : List ℕ) → GoodReplica id (replicaAt R id t) → event R t ≡ some (to-replica id bytes verdicts) → ReplicaTurn id t
-  replica-here id t bytes verdicts good e = go (replicaStep (replicaAt R id t) bytes verdicts) refl
-    where
-      go : (out : Outcome Reply) → replicaStep (replicaAt R id t) bytes verdicts ≡ out → ReplicaTurn id t
-      go (refused n) q = let both = replica-outcome id t bytes verdicts (refused n) e q in rests (both .0) (λ at answer a. apart (cc (both .1)))
-      go (accepted reply) q =
-          let both = replica-outcome id t bytes verdicts (accepted reply) e q in
-          let parts = replica-parts (replicaAt R id t) bytes verdicts reply q in
-          let message-fits = decoded-fits AtReplica bytes (parts .0) (parts .1 .decodes) (R .have-bytes t (to-replica id bytes verdicts) e) in
-          steps (record {
-            bytes = bytes;
-            verdicts = verdicts;
-            message = parts .0;
-            reply = reply;
-            event-is = e;
-            decoded = parts .1 .decodes;
-            facts = replica-facts (replicaAt R id t) verdicts (parts .0) reply (good .fits) message-fits (parts .1 .may-send) (parts .1 .passed) (parts .2);
-            next-is = both .0;
-            answer-is = both .1;
-          })
 
   -- There is no event, or it is another party's.
   no-event : (t : ℕ) (party : Sender) → event R t ≡ none → Silent party t
@@ -147,41 +102,191 @@ module _ (R : Run) where
   elsewhere : (t : ℕ) (party : Sender) (e : Event) → event R t ≡ some e → (partyOf e ≡ party → ⊥) → Silent party t
   elsewhere t party e q other at answer a = let same : e ≡ at .0 = cc (at .1) in other (ap partyOf same ∙ at .2)
 
-  replica-turn-of : (id : ReplicaId) (t : ℕ) → GoodReplica id (replicaAt R id t) → (e : Option Event) → event R t ≡ e → ReplicaTurn id t
-  unfolding replicaAt
-  replica-turn-of id t good none q = rests (rw q) (no-event t (replica id) q)
-  replica-turn-of id t good (some (begins-write at card)) q = rests (rw q) (elsewhere t (replica id) (begins-write at card) q (λ p. apart (cc)))
-  replica-turn-of id t good (some (begins-read at)) q = rests (rw q) (elsewhere t (replica id) (begins-read at) q (λ p. apart (cc)))
-  replica-turn-of id t good (some (to-client at bytes verdicts)) q = rests (rw q) (elsewhere t (replica id) (to-client at bytes verdicts) q (λ p. apart (cc)))
-  replica-turn-of id t good (some (to-replica at bytes verdicts)) q = go (eqb (at .0) (id .0)) refl
+  -- ---- Replicas, with all their registers
+
+  pub correct-replica-range : (id : ReplicaId) → R .correct-replica id ≡ true → (1 ≤ id .0) × (id .0 ≤ replicaCount (R .f))
+  correct-replica-range id c = bounds 1 (replicaCount (R .f)) (id .0) (R .replicas-in-range id c)
+
+  pub record GoodBank (id : ReplicaId) (before : Bank) : Type 0 where
+    pub f-is : before .f ≡ R .f
+    pub id-is : before .id ≡ id
+    pub long : length (before .registers) ≡ 16
+    pub fit : (at : ℕ) → at < 16 → ReplicaFits (partAt at before)
+
+  -- A replica takes a message: its register steps, and is put back.
+  record BankStep (id : ReplicaId) (t : ℕ) : Type 0 where
+    bytes : List ℕ
+    verdicts : List ℕ
+    message : Message
+    reply : Reply
+    event-is : event R t ≡ some (to-replica id bytes verdicts)
+    decoded : decode AtReplica bytes ≡ accepted (forRegister (registerIn bytes) message)
+    facts : ReplicaFacts (partAt (placeIn bytes) (bankAt R id t)) verdicts message reply
+    next-is : bankAt R id (suc t) ≡ withPartAt (placeIn bytes) (reply .next) (bankAt R id t)
+    answer-is : answerAt R t ≡ accepted (send (reply .message))
+
+  data BankTurn (id : ReplicaId) (t : ℕ) : Type 0 where
+    all-rest : bankAt R id (suc t) ≡ bankAt R id t → Silent (replica id) t → BankTurn id t
+    one-steps : BankStep id t → BankTurn id t
+
+  bank-outcome : (id : ReplicaId) (t : ℕ) (bytes verdicts : List ℕ) (out : Outcome Reply) → event R t ≡ some (to-replica id bytes verdicts)
+      → bankStep (bankAt R id t) bytes verdicts ≡ out → (bankAt R id (suc t) ≡ nextBank (placeIn bytes) (bankAt R id t) out) × (answerAt R t ≡ replicaAnswer out)
+  unfolding bankAt answerTo
+  bank-outcome id t bytes verdicts out e q = (rw (e, eq-eqb (id .0) (id .0) refl, q), rw (e, q))
+
+  bank-parts : (before : Bank) (bytes verdicts : List ℕ) (reply : Reply) → bankStep before bytes verdicts ≡ accepted reply
+      → (register : RegisterId) × (message : Message) × Admitted AtReplica (before .f) bytes verdicts register message × (onRequest (partAt (placeIn bytes) before) message ≡ accepted reply)
+  unfolding bankStep replicaStep
+  bank-parts before bytes verdicts reply e = admitted-then AtReplica (before .f) bytes verdicts (λ sent. onRequest (partAt (placeIn bytes) before) (sent .1)) reply e
+
+  bank-here : (id : ReplicaId) (t : ℕ) (bytes verdicts : List ℕ) → GoodBank id (bankAt R id t) → event R t ≡ some (to-replica id bytes verdicts) → BankTurn id t
+  bank-here id t bytes verdicts good e = go (bankStep (bankAt R id t) bytes verdicts) refl
     where
-      go : (b : Bool) → eqb (at .0) (id .0) ≡ b → ReplicaTurn id t
+      go : (out : Outcome Reply) → bankStep (bankAt R id t) bytes verdicts ≡ out → BankTurn id t
+      go (refused n) q = let both = bank-outcome id t bytes verdicts (refused n) e q in all-rest (both .0) (λ at answer a. apart (cc (both .1)))
+      go (accepted reply) q =
+          let both = bank-outcome id t bytes verdicts (accepted reply) e q in
+          let (register, message, passed, taken) = bank-parts (bankAt R id t) bytes verdicts reply q in
+          let is = found-register AtReplica bytes register message (passed .decodes) in
+          let message-fits = decoded-fits AtReplica bytes register message (passed .decodes) (R .have-bytes t (to-replica id bytes verdicts) e) in
+          one-steps (record {
+            bytes = bytes;
+            verdicts = verdicts;
+            message = message;
+            reply = reply;
+            event-is = e;
+            decoded = passed .decodes ∙ ap (λ (x : RegisterId). accepted (forRegister x message)) (sym is);
+            facts = replica-facts (partAt (placeIn bytes) (bankAt R id t)) verdicts message reply (good .fit (placeIn bytes) (place-below (registerIn bytes))) message-fits (passed .may-send) (passed .passed) taken;
+            next-is = both .0;
+            answer-is = both .1;
+          })
+
+  bank-turn-of : (id : ReplicaId) (t : ℕ) → GoodBank id (bankAt R id t) → (e : Option Event) → event R t ≡ e → BankTurn id t
+  unfolding bankAt
+  bank-turn-of id t good none q = all-rest (rw q) (no-event t (replica id) q)
+  bank-turn-of id t good (some (begins-write at x card)) q = all-rest (rw q) (elsewhere t (replica id) (begins-write at x card) q (λ p. apart (cc)))
+  bank-turn-of id t good (some (begins-read at x)) q = all-rest (rw q) (elsewhere t (replica id) (begins-read at x) q (λ p. apart (cc)))
+  bank-turn-of id t good (some (to-client at bytes verdicts)) q = all-rest (rw q) (elsewhere t (replica id) (to-client at bytes verdicts) q (λ p. apart (cc)))
+  bank-turn-of id t good (some (to-replica at bytes verdicts)) q = go (eqb (at .0) (id .0)) refl
+    where
+      go : (b : Bool) → eqb (at .0) (id .0) ≡ b → BankTurn id t
       go true k =
           let same = same-replica at id (eqb-true (at .0) (id .0) k) in
-          replica-here id t bytes verdicts good (q ∙ ap (λ (i : ReplicaId). some (to-replica i bytes verdicts)) same)
+          bank-here id t bytes verdicts good (q ∙ ap (λ (i : ReplicaId). some (to-replica i bytes verdicts)) same)
       go false k =
-          rests (rw (q, k)) (elsewhere t (replica id) (to-replica at bytes verdicts) q
+          all-rest (rw (q, k)) (elsewhere t (replica id) (to-replica at bytes verdicts) q
           (λ p. let same : at ≡ id = cc in eqb-false (at .0) (id .0) k (ap (λ (i : ReplicaId). i .0) same)))
 
-  pub good-replica : (id : ReplicaId) → R .correct-replica id ≡ true → (t : ℕ) → GoodReplica id (replicaAt R id t)
-  unfolding replicaAt
-  good-replica id c zero = let range = correct-replica-range id c in record { f-is = refl; id-is = refl; fits = record { id-fits = omega arith; slots-fit = fresh-slots-fit; held-fits = fresh-held-fits } }
-  good-replica id c (suc t) = go (good-replica id c t) (replica-turn-of id t (good-replica id c t) (event R t) refl)
+  -- The part that stepped fits, and so do the others.
+  step-fit : (id : ReplicaId) (t : ℕ) → GoodBank id (bankAt R id t) → (s : BankStep id t) → (at : ℕ) → at < 16 → ReplicaFits (partAt at (withPartAt (placeIn (s .bytes)) (s .reply .next) (bankAt R id t)))
+  step-fit id t good s at inside = go (eqb at (placeIn (s .bytes))) refl
     where
-      go : GoodReplica id (replicaAt R id t) → ReplicaTurn id t → GoodReplica id (replicaAt R id (suc t))
-      go good (rests same silent) = rw same good
-      go good (steps s) = rw (s .next-is) (record { f-is = s .facts .same-f ∙ good .f-is; id-is = s .facts .same-id ∙ good .id-is; fits = s .facts .fits })
+      stepped : ReplicaFits (partAt (placeIn (s .bytes)) (withPartAt (placeIn (s .bytes)) (s .reply .next) (bankAt R id t)))
+      stepped =
+          let fits = s .facts .fits in
+          let is = part-there (bankAt R id t) (placeIn (s .bytes)) (s .reply .next) (omega (arith, good .long, place-below (registerIn (s .bytes)))) in
+          record {
+            id-fits = subst (λ (i : ReplicaId). i .0 < 256) (s .facts .same-id) (fits .id-fits);
+            slots-fit = subst (λ (register : Register). SlotsFit (register .slots)) (sym is) (fits .slots-fit);
+            held-fits = subst (λ (register : Register). HeldFits (register .held)) (sym is) (fits .held-fits);
+          }
 
-  pub replica-turn : (id : ReplicaId) → R .correct-replica id ≡ true → (t : ℕ) → ReplicaTurn id t
-  replica-turn id c t = replica-turn-of id t (good-replica id c t) (event R t) refl
+      go : (b : Bool) → eqb at (placeIn (s .bytes)) ≡ b → ReplicaFits (partAt at (withPartAt (placeIn (s .bytes)) (s .reply .next) (bankAt R id t)))
+      go true e = subst (λ (p : ℕ). ReplicaFits (partAt p (withPartAt (placeIn (s .bytes)) (s .reply .next) (bankAt R id t)))) (sym (eqb-true at (placeIn (s .bytes)) e)) stepped
+      go false e = subst ReplicaFits (sym (part-elsewhere (bankAt R id t) (placeIn (s .bytes)) (s .reply .next) at (eqb-false at (placeIn (s .bytes)) e))) (good .fit at inside)
 
-  -- A replica that answers has stepped.
-  pub replica-step : (id : ReplicaId) → R .correct-replica id ≡ true → (t : ℕ) (answer : Answer) → At R t (replica id) → answerAt R t ≡ accepted answer → ReplicaStep id t
-  replica-step id c t answer at a = go (replica-turn id c t)
+  fresh-bank : (id : ReplicaId) → R .correct-replica id ≡ true → GoodBank id (freshBank (R .f) id)
+  fresh-bank id c =
+      let range = correct-replica-range id c in
+      let fits : ReplicaFits (freshReplica (R .f) id) = record { id-fits = omega arith; slots-fit = fresh-slots-fit; held-fits = fresh-held-fits } in
+      record { f-is = refl; id-is = refl; long = length-replicate 16 freshRegister; fit = λ at inside. subst ReplicaFits (sym (fresh-part (R .f) id at inside)) fits }
+
+  pub good-bank : (id : ReplicaId) → R .correct-replica id ≡ true → (t : ℕ) → GoodBank id (bankAt R id t)
+  unfolding bankAt
+  good-bank id c zero = fresh-bank id c
+  good-bank id c (suc t) = go (good-bank id c t) (bank-turn-of id t (good-bank id c t) (event R t) refl)
     where
-      go : ReplicaTurn id t → ReplicaStep id t
-      go (rests same silent) = absurd (silent at answer a)
-      go (steps s) = s
+      go : GoodBank id (bankAt R id t) → BankTurn id t → GoodBank id (bankAt R id (suc t))
+      go good (all-rest same silent) = subst (GoodBank id) (sym same) good
+      go good (one-steps s) =
+          subst (GoodBank id) (sym (s .next-is))
+          (record {
+            f-is = good .f-is;
+            id-is = good .id-is;
+            long = length-set (bankAt R id t .registers) (placeIn (s .bytes)) (s .reply .next .register) ∙ good .long;
+            fit = step-fit id t good s;
+          })
+
+  -- ---- One register of a replica: it steps with the messages at its place, and rests with all others
+
+  module _ (x : RegisterId) where
+    -- The replica's event t is for this register, and answered so.
+    abbrev pub Answers : ReplicaId → ℕ → Answer → Type 0
+    Answers id t answer = (at : At R t (replica id)) × (registerOf (at .0) ≡ x) × (answerAt R t ≡ accepted answer)
+
+    pub record ReplicaStep (id : ReplicaId) (t : ℕ) : Type 0 where
+      pub bytes : List ℕ
+      pub verdicts : List ℕ
+      pub message : Message
+      pub reply : Reply
+      pub event-is : event R t ≡ some (to-replica id bytes verdicts)
+      pub decoded : decode AtReplica bytes ≡ accepted (forRegister (registerIn bytes) message)
+      pub facts : ReplicaFacts (replicaAt R x id t) verdicts message reply
+      pub next-is : registerAt R x id (suc t) ≡ reply .next .register
+      pub answer-is : answerAt R t ≡ accepted (send (reply .message))
+
+    pub data ReplicaTurn (id : ReplicaId) (t : ℕ) : Type 0 where
+      rests : registerAt R x id (suc t) ≡ registerAt R x id t → ((answer : Answer) → Answers id t answer → ⊥) → ReplicaTurn id t
+      steps : ReplicaStep id t → ReplicaTurn id t
+
+    -- The step of a message at this register's place, and of one at another.
+    here : (id : ReplicaId) (t : ℕ) → GoodBank id (bankAt R id t) → (s : BankStep id t) → placeIn (s .bytes) ≡ registerPlace x → ReplicaStep id t
+    here id t good s e = record {
+      bytes = s .bytes;
+      verdicts = s .verdicts;
+      message = s .message;
+      reply = s .reply;
+      event-is = s .event-is;
+      decoded = s .decoded;
+      facts = subst (λ (at : ℕ). ReplicaFacts (partAt at (bankAt R id t)) (s .verdicts) (s .message) (s .reply)) e (s .facts);
+      next-is =
+          ap (λ (bank : Bank). partAt (registerPlace x) bank .register) (s .next-is)
+          ∙ subst (λ (at : ℕ). partAt (registerPlace x) (withPartAt at (s .reply .next) (bankAt R id t)) .register ≡ s .reply .next .register) (sym e)
+          (part-there (bankAt R id t) (registerPlace x) (s .reply .next) (omega (arith, good .long, place-below x)));
+      answer-is = s .answer-is;
+    }
+
+    away : (id : ReplicaId) (t : ℕ) (s : BankStep id t) → (placeIn (s .bytes) ≡ registerPlace x → ⊥) → ReplicaTurn id t
+    away id t s other =
+        rests
+        (ap (λ (bank : Bank). partAt (registerPlace x) bank .register) (s .next-is)
+        ∙ ap (λ (part : Replica). part .register) (part-elsewhere (bankAt R id t) (placeIn (s .bytes)) (s .reply .next) (registerPlace x) (λ e. other (sym e))))
+        (λ answer (at, is, a).
+        let one : at .0 ≡ to-replica id (s .bytes) (s .verdicts) = cc (at .1, s .event-is) in
+        other (ap registerPlace (sym (ap registerOf one) ∙ is)))
+
+    pub replica-turn : (id : ReplicaId) → R .correct-replica id ≡ true → (t : ℕ) → ReplicaTurn id t
+    replica-turn id c t = go (bank-turn-of id t (good-bank id c t) (event R t) refl)
+      where
+        go : BankTurn id t → ReplicaTurn id t
+        go (all-rest same silent) = rests (ap (λ (bank : Bank). partAt (registerPlace x) bank .register) same) (λ answer (at, is, a). silent at answer a)
+        go (one-steps s) = by (eqb (placeIn (s .bytes)) (registerPlace x)) refl
+          where
+            by : (b : Bool) → eqb (placeIn (s .bytes)) (registerPlace x) ≡ b → ReplicaTurn id t
+            by true e = steps (here id t (good-bank id c t) s (eqb-true (placeIn (s .bytes)) (registerPlace x) e))
+            by false e = away id t s (eqb-false (placeIn (s .bytes)) (registerPlace x) e)
+
+    -- A replica that answers for the register has stepped with it,
+    pub replica-step : (id : ReplicaId) → R .correct-replica id ≡ true → (t : ℕ) (answer : Answer) → Answers id t answer → ReplicaStep id t
+    replica-step id c t answer a = go (replica-turn id c t)
+      where
+        go : ReplicaTurn id t → ReplicaStep id t
+        go (rests same silent) = absurd (silent answer a)
+        go (steps s) = s
+
+    -- with a message for it.
+    pub step-register : (id : ReplicaId) (t : ℕ) (s : ReplicaStep id t) (answer : Answer) → Answers id t answer → registerIn (s .bytes) ≡ x
+    step-register id t s answer (at, is, a) = let one : at .0 ≡ to-replica id (s .bytes) (s .verdicts) = cc (at .1, s .event-is) in sym (ap registerOf one) ∙ is
 
   -- ---- Clients
 
@@ -198,29 +303,35 @@ module _ (R : Run) where
     pub next-is : clientAt R id (suc t) ≡ turn .next
     pub answer-is : answerAt R t ≡ accepted (turn .answer)
 
+  -- A client takes a message for its operation's register.
   pub record Heard (id : ClientId) (t : ℕ) : Type 0 where
     pub bytes : List ℕ
     pub verdicts : List ℕ
     pub message : Message
     pub turn : Turn
     pub event-is : event R t ≡ some (to-client id bytes verdicts)
-    pub decoded : decode AtClient bytes ≡ accepted message
+    pub decoded : decode AtClient bytes ≡ accepted (forRegister (clientAt R id t .register) message)
     pub facts : ClientFacts (clientAt R id t) verdicts message turn
     pub step : ClientStep id t turn
 
-  -- What begins at a client at event t.
-  abbrev pub WriteBegun : ClientId → ℕ → List ℕ → Turn → Type 0
-  WriteBegun id t card turn =
-      Begun (clientAt R id t) (READ-STAMP (clientAt R id t .id) (clientAt R id t .«last_nonce» + 1)) (Stamps (clientAt R id t .«last_nonce» + 1) start empty) card turn
+  pub heard-register : (id : ClientId) (t : ℕ) (h : Heard id t) (at : At R t (client id)) → registerOf (at .0) ≡ clientAt R id t .register
+  heard-register id t h at =
+      let one : at .0 ≡ to-client id (h .bytes) (h .verdicts) = cc (at .1, h .event-is) in
+      ap registerOf one ∙ found-register AtClient (h .bytes) (clientAt R id t .register) (h .message) (h .decoded)
 
-  abbrev pub ReadBegun : ClientId → ℕ → Turn → Type 0
-  ReadBegun id t turn =
-      Begun (clientAt R id t) (READ (clientAt R id t .id) (clientAt R id t .«last_nonce» + 1)) (Cards (clientAt R id t .«last_nonce» + 1) start empty empty) startCard turn
+  -- What begins at a client at event t.
+  abbrev pub WriteBegun : ClientId → ℕ → RegisterId → List ℕ → Turn → Type 0
+  WriteBegun id t x card turn =
+      Begun (clientAt R id t) x (READ-STAMP (clientAt R id t .id) (clientAt R id t .«last_nonce» + 1)) (Stamps (clientAt R id t .«last_nonce» + 1) start empty) card turn
+
+  abbrev pub ReadBegun : ClientId → ℕ → RegisterId → Turn → Type 0
+  ReadBegun id t x turn =
+      Begun (clientAt R id t) x (READ (clientAt R id t .id) (clientAt R id t .«last_nonce» + 1)) (Cards (clientAt R id t .«last_nonce» + 1) start empty empty) startCard turn
 
   pub data ClientTurn (id : ClientId) (t : ℕ) : Type 0 where
     rested : clientAt R id (suc t) ≡ clientAt R id t → Silent (client id) t → ClientTurn id t
-    wrote : (card : List ℕ) (turn : Turn) → event R t ≡ some (begins-write id card) → WriteBegun id t card turn → ClientStep id t turn → ClientTurn id t
-    asked : (turn : Turn) → event R t ≡ some (begins-read id) → ReadBegun id t turn → ClientStep id t turn → ClientTurn id t
+    wrote : (x : RegisterId) (card : List ℕ) (turn : Turn) → event R t ≡ some (begins-write id x card) → WriteBegun id t x card turn → ClientStep id t turn → ClientTurn id t
+    asked : (x : RegisterId) (turn : Turn) → event R t ≡ some (begins-read id x) → ReadBegun id t x turn → ClientStep id t turn → ClientTurn id t
     heard : Heard id t → ClientTurn id t
 
   -- What an event at a client leaves, by its outcome.
@@ -232,13 +343,13 @@ module _ (R : Run) where
   unfolding clientAt answerTo
   client-outcome id t bytes verdicts e = record { next-is = rw (e, eq-eqb (id .0) (id .0) refl); answer-is = rw e }
 
-  write-outcome : (id : ClientId) (t : ℕ) (card : List ℕ) → event R t ≡ some (begins-write id card) → Left id t (beginWrite (clientAt R id t) card)
+  write-outcome : (id : ClientId) (t : ℕ) (x : RegisterId) (card : List ℕ) → event R t ≡ some (begins-write id x card) → Left id t (beginWrite (clientAt R id t) x card)
   unfolding clientAt answerTo
-  write-outcome id t card e = record { next-is = rw (e, eq-eqb (id .0) (id .0) refl); answer-is = rw e }
+  write-outcome id t x card e = record { next-is = rw (e, eq-eqb (id .0) (id .0) refl); answer-is = rw e }
 
-  read-outcome : (id : ClientId) (t : ℕ) → event R t ≡ some (begins-read id) → Left id t (beginRead (clientAt R id t))
+  read-outcome : (id : ClientId) (t : ℕ) (x : RegisterId) → event R t ≡ some (begins-read id x) → Left id t (beginRead (clientAt R id t) x)
   unfolding clientAt answerTo
-  read-outcome id t e = record { next-is = rw (e, eq-eqb (id .0) (id .0) refl); answer-is = rw e }
+  read-outcome id t x e = record { next-is = rw (e, eq-eqb (id .0) (id .0) refl); answer-is = rw e }
 
   -- Refused, or accepted with a turn.
   by-outcome : (id : ClientId) (t : ℕ) (out : Outcome Turn) → Left id t out → ((turn : Turn) → out ≡ accepted turn → ClientStep id t turn → ClientTurn id t) → ClientTurn id t
@@ -246,42 +357,39 @@ module _ (R : Run) where
   by-outcome id t (accepted turn) left next = next turn refl (record { next-is = left .next-is; answer-is = left .answer-is })
 
   -- What a client takes, at either engine: the message, and the step's facts.
-  abbrev Takes : Client → List ℕ → List ℕ → Turn → Type 0
-  Takes before bytes verdicts turn = (message : Message) × (decode AtClient bytes ≡ accepted message) × ClientFacts before verdicts message turn
+  abbrev pub Takes : Client → List ℕ → List ℕ → Turn → Type 0
+  Takes before bytes verdicts turn = (message : Message) × (decode AtClient bytes ≡ accepted (forRegister (before .register) message)) × ClientFacts before verdicts message turn
 
   writer-takes : (before : Client) (bytes verdicts : List ℕ) (turn : Turn) → ClientFits before → PhaseFits (before .phase) → Bytes bytes → clientStep before bytes verdicts ≡ accepted turn
       → Takes before bytes verdicts turn
-  unfolding clientStep
   writer-takes before bytes verdicts turn fits phase-fits small e =
-      let parts = admitted-then AtClient (before .f) bytes verdicts (onReply before (signature bytes)) turn e in
-      let a = parts .1 in (
-        parts .0,
+      let (message, a, taken) = client-takes before bytes verdicts turn e in (
+        message,
         a .decodes,
-        client-facts before verdicts (signature bytes) (parts .0) turn fits phase-fits (decoded-fits AtClient bytes (parts .0) (a .decodes) small) (decoded-signature AtClient bytes (parts .0) (a .decodes) small) (a .ranged) (a .passed) (parts .2),
+        client-facts before verdicts (signature bytes) message turn fits phase-fits (decoded-fits AtClient bytes (before .register) message (a .decodes) small)
+            (decoded-signature AtClient bytes (before .register) message (a .decodes) small) (a .ranged) (a .passed) taken,
       )
 
-  viewer-takes : (before : Client) (bytes verdicts : List ℕ) (turn : Turn) → ClientFits before → PhaseFits (before .phase) → Bytes bytes → isWriter (before .id) ≡ false
+  view-takes : (before : Client) (bytes verdicts : List ℕ) (turn : Turn) → ClientFits before → PhaseFits (before .phase) → Bytes bytes → isWriter (before .id) ≡ false
       → viewerStep before bytes verdicts ≡ accepted turn → Takes before bytes verdicts turn
-  unfolding viewerStep
-  viewer-takes before bytes verdicts turn fits phase-fits small no-writer e =
-      let parts = admitted-then AtClient (before .f) bytes verdicts (onViewerReply before) turn e in
-      let a = parts .1 in (
-        parts .0,
+  view-takes before bytes verdicts turn fits phase-fits small no-writer e =
+      let (message, a, taken) = viewer-takes before bytes verdicts turn e in (
+        message,
         a .decodes,
-        viewer-facts before verdicts (parts .0) turn fits phase-fits no-writer (decoded-fits AtClient bytes (parts .0) (a .decodes) small) (a .ranged) (a .passed) (parts .2),
+        viewer-facts before verdicts message turn fits phase-fits no-writer (decoded-fits AtClient bytes (before .register) message (a .decodes) small) (a .ranged) (a .passed) taken,
       )
 
-  client-takes : (id : ClientId) (before : Client) (bytes verdicts : List ℕ) (turn : Turn) → GoodClient id before → Bytes bytes → clientHears id before bytes verdicts ≡ accepted turn
+  pub hears-takes : (id : ClientId) (before : Client) (bytes verdicts : List ℕ) (turn : Turn) → GoodClient id before → Bytes bytes → clientHears id before bytes verdicts ≡ accepted turn
       → Takes before bytes verdicts turn
-  client-takes id before bytes verdicts turn good small e = go (isWriter id) refl e
+  hears-takes id before bytes verdicts turn good small e = go (isWriter id) refl e
     where
       go : (w : Bool) → isWriter id ≡ w → cond w (clientStep before bytes verdicts) (viewerStep before bytes verdicts) ≡ accepted turn → Takes before bytes verdicts turn
       go true q e = writer-takes before bytes verdicts turn (good .fits) (good .phase-fits) small e
-      go false q e = viewer-takes before bytes verdicts turn (good .fits) (good .phase-fits) small (subst (λ (i : ClientId). isWriter i ≡ false) (sym (good .id-is)) q) e
+      go false q e = view-takes before bytes verdicts turn (good .fits) (good .phase-fits) small (subst (λ (i : ClientId). isWriter i ≡ false) (sym (good .id-is)) q) e
 
   client-here : (id : ClientId) (t : ℕ) (bytes verdicts : List ℕ) → GoodClient id (clientAt R id t) → event R t ≡ some (to-client id bytes verdicts) → ClientTurn id t
   client-here id t bytes verdicts good e = by-outcome id t (clientHears id (clientAt R id t) bytes verdicts) (client-outcome id t bytes verdicts e) (λ turn q step.
-      let taken = client-takes id (clientAt R id t) bytes verdicts turn good (R .have-bytes t (to-client id bytes verdicts) e) q in
+      let taken = hears-takes id (clientAt R id t) bytes verdicts turn good (R .have-bytes t (to-client id bytes verdicts) e) q in
       heard (record { bytes = bytes; verdicts = verdicts; message = taken .0; turn = turn; event-is = e; decoded = taken .1; facts = taken .2; step = step }))
 
   -- The event of a client, which is this one or another.
@@ -297,22 +405,22 @@ module _ (R : Run) where
   unfolding clientAt
   client-turn-of id t good none q = rested (rw q) (no-event t (client id) q)
   client-turn-of id t good (some (to-replica at bytes verdicts)) q = rested (rw q) (elsewhere t (client id) (to-replica at bytes verdicts) q (λ p. apart (cc)))
-  client-turn-of id t good (some (begins-write at card)) q =
-      at-client id at t (λ i. begins-write i card) refl q
-      (λ e. by-outcome id t (beginWrite (clientAt R id t) card) (write-outcome id t card e) (λ turn k step.
-      wrote card turn e (write-begun (clientAt R id t) card turn (good .fits) (R .have-bytes t (begins-write id card) e) k) step))
+  client-turn-of id t good (some (begins-write at x card)) q =
+      at-client id at t (λ i. begins-write i x card) refl q
+      (λ e. by-outcome id t (beginWrite (clientAt R id t) x card) (write-outcome id t x card e) (λ turn k step.
+      wrote x card turn e (write-begun (clientAt R id t) x card turn (good .fits) (R .have-bytes t (begins-write id x card) e) k) step))
       (λ k. rw (q, k))
-  client-turn-of id t good (some (begins-read at)) q =
-      at-client id at t begins-read refl q
-      (λ e. by-outcome id t (beginRead (clientAt R id t)) (read-outcome id t e) (λ turn k step.
-      asked turn e (read-begun (clientAt R id t) turn (good .fits) k) step))
+  client-turn-of id t good (some (begins-read at x)) q =
+      at-client id at t (λ i. begins-read i x) refl q
+      (λ e. by-outcome id t (beginRead (clientAt R id t) x) (read-outcome id t x e) (λ turn k step.
+      asked x turn e (read-begun (clientAt R id t) x turn (good .fits) k) step))
       (λ k. rw (q, k))
   client-turn-of id t good (some (to-client at bytes verdicts)) q =
       at-client id at t (λ i. to-client i bytes verdicts) refl q (client-here id t bytes verdicts good) (λ k. rw (q, k))
 
-  begun-good : (id : ClientId) (t : ℕ) (question : Message) (phase : Phase) (card : List ℕ) (turn : Turn) → GoodClient id (clientAt R id t) → PhaseFits phase
-      → Begun (clientAt R id t) question phase card turn → ClientStep id t turn → GoodClient id (clientAt R id (suc t))
-  begun-good id t question phase card turn good fits b s =
+  begun-good : (id : ClientId) (t : ℕ) (x : RegisterId) (question : Message) (phase : Phase) (card : List ℕ) (turn : Turn) → GoodClient id (clientAt R id t) → PhaseFits phase
+      → Begun (clientAt R id t) x question phase card turn → ClientStep id t turn → GoodClient id (clientAt R id (suc t))
+  begun-good id t x question phase card turn good fits b s =
       rw (s .next-is) (record { f-is = b .same-f ∙ good .f-is; id-is = b .same-id ∙ good .id-is; fits = b .fits; phase-fits = rw (b .phase-is) fits })
 
   pub good-client : (id : ClientId) → R .correct-client id ≡ true → (t : ℕ) → GoodClient id (clientAt R id t)
@@ -325,8 +433,8 @@ module _ (R : Run) where
     where
       go : GoodClient id (clientAt R id t) → ClientTurn id t → GoodClient id (clientAt R id (suc t))
       go good (rested same silent) = rw same good
-      go good (wrote card turn e b s) = begun-good id t _ _ card turn good (omega arith) b s
-      go good (asked turn e b s) = begun-good id t _ _ startCard turn good (omega arith) b s
+      go good (wrote x card turn e b s) = begun-good id t x _ _ card turn good (omega arith) b s
+      go good (asked x turn e b s) = begun-good id t x _ _ startCard turn good (omega arith) b s
       go good (heard h) = let facts = h .facts in rw (h .step .next-is) (record { f-is = facts .same-f ∙ good .f-is; id-is = facts .same-id ∙ good .id-is; fits = facts .fits; phase-fits = facts .phase-fits })
 
   pub client-turn : (id : ClientId) → R .correct-client id ≡ true → (t : ℕ) → ClientTurn id t

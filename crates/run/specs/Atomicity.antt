@@ -1,4 +1,4 @@
--- Atomic reads and writes, in the usual sense (linearizability): one order of all operations, as if each happened at one moment
+-- Atomic reads and writes of a register, in the usual sense (linearizability): one order of all its operations, as if each happened at one moment
 -- between its beginning and its end. As usual, a write that is under way may count. Faulty clients have no events: for each
 -- timestamp of theirs that a read shows, a write of theirs is added (BFT-linearizability).
 use mathlib.Core.Path.{_≡_}
@@ -7,19 +7,20 @@ use mathlib.Core.Bool.{Bool, true, false}
 use mathlib.Core.List.{List}
 use Prim.Native.Nat.{ℕ, _<_, _≤_}
 use Rattle.base.specs.Timestamp.{number}
+use Rattle.base.specs.declared.party.RegisterId.{RegisterId}
 use Rattle.wire.specs.Acceptance.{client}
 use Rattle.protocol.specs.Parts.{startCard}
 use Rattle.run.specs.Claims.{Finished, LiesBefore}
 use Rattle.run.specs.ReadsFrom.{Write}
 use Rattle.run.specs.Run.{Run}
 
-module _ (R : Run) where
+module _ (R : Run) (x : RegisterId) where
   -- What is put in order: the finished reads, the writes of correct clients that have their timestamp, and for a read that shows
   -- a faulty client's timestamp a write of that client.
   pub data Operation : Type 0 where
-    read : (o : Finished R) → o .is-write ≡ false → Operation
-    write : Write R → Operation
-    faulty-write : (o : Finished R) → o .is-write ≡ false → 1 ≤ number (o .timestamp) → R .correct-client (o .timestamp .client) ≡ false → Operation
+    read : (o : Finished R x) → o .is-write ≡ false → Operation
+    write : Write R x → Operation
+    faulty-write : (o : Finished R x) → o .is-write ≡ false → 1 ≤ number (o .timestamp) → R .correct-client (o .timestamp .client) ≡ false → Operation
 
   abbrev pub isWrite : Operation → Bool
   isWrite (read o r) = false
@@ -45,7 +46,7 @@ module _ (R : Run) where
 
   abbrev pub EndsAt : Operation → ℕ → Type 0
   EndsAt (read o r) t = o .finished ≡ t
-  EndsAt (write w) t = (o : Finished R) × (o .begun ≡ w .begun) × (o .finished ≡ t)
+  EndsAt (write w) t = (o : Finished R x) × (o .begun ≡ w .begun) × (o .finished ≡ t)
   EndsAt (faulty-write o r p f) t = ⊥
 
   -- Two that are one operation.
@@ -67,7 +68,7 @@ module _ (R : Run) where
   doneAt (faulty-write o r p f) = 0
 
   abbrev pub Precedes : Operation → Operation → Type 0
-  Precedes a b = LiesBefore R (placedAt a) (isWrite a) (doneAt a) (placedAt b) (isWrite b) (doneAt b)
+  Precedes a b = LiesBefore (placedAt a) (isWrite a) (doneAt a) (placedAt b) (isWrite b) (doneAt b)
 
   -- The last write before an operation.
   pub record LastWrite (w a : Operation) : Type 0 where
@@ -77,8 +78,8 @@ module _ (R : Run) where
 
   pub record Atomic : Type 0 where
     -- All finished operations are there: reads as they are, and each write,
-    pub has-write : (o : Finished R) → o .is-write ≡ true
-        → (w : Write R) × (w .id ≡ o .id) × (w .begun ≡ o .begun) × (w .timestamp ≡ number (o .timestamp)) × (w .card ≡ o .card)
+    pub has-write : (o : Finished R x) → o .is-write ≡ true
+        → (w : Write R x) × (w .id ≡ o .id) × (w .begun ≡ o .begun) × (w .timestamp ≡ number (o .timestamp)) × (w .card ≡ o .card)
     -- two that are one agree,
     pub same : (a b : Operation) → Same a b → (placedAt a ≡ placedAt b) × (operationCard a ≡ operationCard b)
     -- in a total order
@@ -88,7 +89,7 @@ module _ (R : Run) where
     -- that extends "ended before the other began",
     pub extends : (a b : Operation) (t t′ : ℕ) → EndsAt a t → BeginsAt b t′ → t < t′ → Precedes a b
     -- in which a read shows the card of the last write before it,
-    pub reads-last : (o : Finished R) (r : o .is-write ≡ false) → 1 ≤ number (o .timestamp) → (w : Operation) × LastWrite w (read o r) × (operationCard w ≡ o .card)
+    pub reads-last : (o : Finished R x) (r : o .is-write ≡ false) → 1 ≤ number (o .timestamp) → (w : Operation) × LastWrite w (read o r) × (operationCard w ≡ o .card)
     -- or the starting card where no write lies before it.
-    pub reads-start : (o : Finished R) (r : o .is-write ≡ false) → number (o .timestamp) ≡ 0
+    pub reads-start : (o : Finished R x) (r : o .is-write ≡ false) → number (o .timestamp) ≡ 0
         → (o .card ≡ startCard) × ((w : Operation) → isWrite w ≡ true → Precedes w (read o r) → ⊥)

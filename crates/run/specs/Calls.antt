@@ -9,20 +9,21 @@ use lib.Dec.{eqb}
 use lib.ListN.{length}
 use Rattle.base.specs.Outcome.{Outcome, accepted, refused}
 use Rattle.base.specs.declared.party.ClientId.{ClientId}
+use Rattle.base.specs.declared.party.RegisterId.{RegisterId}
 use Rattle.base.specs.declared.party.ReplicaId.{ReplicaId}
+use Rattle.protocol.specs.Bank.{madeBank, BankCall, bankCall}
 use Rattle.protocol.specs.Client.{Answer, send, waits, done, ended, madeClient, ClientCall, beginWriteCall, beginReadCall, clientCall}
 use Rattle.base.specs.Bytes.{filled}
 use Rattle.base.specs.Party.{isWriter}
-use Rattle.protocol.specs.Replica.{madeReplica, ReplicaCall, replicaCall}
 use Rattle.protocol.specs.Viewer.{madeViewer, viewerCall}
 use Rattle.protocol.specs.declared.client.Client.{Client}
 use Rattle.protocol.specs.declared.client.ClientAnswer.{ClientAnswer}
 use Rattle.protocol.specs.declared.client.ClientAnswer.the-variants.{Send, Counted, Done, Ended, Refused}
-use Rattle.protocol.specs.declared.replica.Replica.{Replica}
+use Rattle.protocol.specs.declared.replica.Bank.{Bank}
 use Rattle.protocol.specs.declared.replica.ReplicaAnswer.{ReplicaAnswer}
 use Rattle.protocol.specs.declared.replica.ReplicaAnswer.the-variants.{Send as ReplicaSend, Refused as ReplicaRefused}
 use Rattle.wire.specs.Writing.{unsigned, inFront}
-use Rattle.run.specs.Run.{Event, begins-write, begins-read, to-replica, to-client, Run, event, replicaAt, clientAt, answerAt}
+use Rattle.run.specs.Run.{Event, begins-write, begins-read, to-replica, to-client, registerOf, Run, event, bankAt, clientAt, answerAt}
 
 -- What a call gives back beside the record: its answer, the card array with its length, and the output.
 pub record Given : Type 0 where
@@ -40,7 +41,7 @@ abbrev pub asAnswer : ReplicaAnswer → ClientAnswer
 asAnswer (ReplicaSend n) = Send n
 asAnswer (ReplicaRefused number) = Refused number
 
-abbrev pub givenByReplica : ReplicaCall → Given
+abbrev pub givenByReplica : BankCall → Given
 givenByReplica call = withoutCard (asAnswer (call .answer)) (call .output)
 
 abbrev pub givenByClient : ClientCall → Given
@@ -48,13 +49,13 @@ givenByClient call = record { answer = call .answer; card-length = call .«card_
 
 -- What a run's answer is in a call whose output held `old`: "In every answer the lent output holds the message in front and its
 -- old bytes behind (only old bytes where nothing is sent)"; "A refusal is its number alone; record and lent bytes keep their
--- old contents."
-abbrev pub givenFor : List ℕ → Outcome Answer → Given
-givenFor old (accepted (send message)) = withoutCard (Send (length (unsigned message))) (inFront (unsigned message) old)
-givenFor old (accepted waits) = withoutCard Counted old
-givenFor old (accepted (done timestamp card signers)) = record { answer = Done timestamp signers; card-length = length card; card = filled 17 card; output = old }
-givenFor old (accepted ended) = withoutCard Ended old
-givenFor old (refused number) = withoutCard (Refused number) old
+-- old contents." A message is for the event's register.
+abbrev pub givenFor : RegisterId → List ℕ → Outcome Answer → Given
+givenFor x old (accepted (send message)) = withoutCard (Send (length (unsigned x message))) (inFront (unsigned x message) old)
+givenFor x old (accepted waits) = withoutCard Counted old
+givenFor x old (accepted (done timestamp card signers)) = record { answer = Done timestamp signers; card-length = length card; card = filled 17 card; output = old }
+givenFor x old (accepted ended) = withoutCard Ended old
+givenFor x old (refused number) = withoutCard (Refused number) old
 
 -- A client's calls by its number: how it is made, and what it makes of a message.
 abbrev pub madeWith : ℕ → ClientId → ℕ → Client
@@ -64,25 +65,25 @@ abbrev pub hearingCall : ClientId → Client → List ℕ → List ℕ → List 
 hearingCall id before bytes verdicts old = cond (isWriter id) (clientCall before bytes verdicts old) (viewerCall before bytes verdicts old)
 
 -- The record that the call of an event leaves to its party; another party's event leaves it.
-abbrev pub calledAtReplica : ReplicaId → Option Event → List ℕ → Replica → Replica
+abbrev pub calledAtReplica : ReplicaId → Option Event → List ℕ → Bank → Bank
 calledAtReplica id none old before = before
-calledAtReplica id (some (begins-write at card)) old before = before
-calledAtReplica id (some (begins-read at)) old before = before
-calledAtReplica id (some (to-replica at bytes verdicts)) old before = cond (eqb (at .0) (id .0)) (replicaCall before bytes verdicts old .replica) before
+calledAtReplica id (some (begins-write at x card)) old before = before
+calledAtReplica id (some (begins-read at x)) old before = before
+calledAtReplica id (some (to-replica at bytes verdicts)) old before = cond (eqb (at .0) (id .0)) (bankCall before bytes verdicts old .bank) before
 calledAtReplica id (some (to-client at bytes verdicts)) old before = before
 
 abbrev pub calledAtClient : ClientId → Option Event → List ℕ → Client → Client
 calledAtClient id none old before = before
-calledAtClient id (some (begins-write at card)) old before = cond (eqb (at .0) (id .0)) (beginWriteCall before card old .client) before
-calledAtClient id (some (begins-read at)) old before = cond (eqb (at .0) (id .0)) (beginReadCall before old .client) before
+calledAtClient id (some (begins-write at x card)) old before = cond (eqb (at .0) (id .0)) (beginWriteCall before x card old .client) before
+calledAtClient id (some (begins-read at x)) old before = cond (eqb (at .0) (id .0)) (beginReadCall before x old .client) before
 calledAtClient id (some (to-replica at bytes verdicts)) old before = before
 calledAtClient id (some (to-client at bytes verdicts)) old before = cond (eqb (at .0) (id .0)) (hearingCall at before bytes verdicts old .client) before
 
 -- `output t` is what the output that is lent to event t's call holds before it.
 module _ (R : Run) (output : ℕ → List ℕ) where
   -- The records before event t: those that set-up made, handed from call to call.
-  unfoldable pub calledReplica : ReplicaId → ℕ → Replica
-  calledReplica id zero = madeReplica (R .f) id
+  unfoldable pub calledReplica : ReplicaId → ℕ → Bank
+  calledReplica id zero = madeBank (R .f) id
   calledReplica id (suc t) = calledAtReplica id (event R t) (output t) (calledReplica id t)
 
   unfoldable pub calledClient : ClientId → ℕ → Client
@@ -91,15 +92,15 @@ module _ (R : Run) (output : ℕ → List ℕ) where
 
   -- What the call of an event at time t gives back.
   unfoldable pub givenAt : ℕ → Event → Given
-  givenAt t (begins-write id card) = givenByClient (beginWriteCall (calledClient id t) card (output t))
-  givenAt t (begins-read id) = givenByClient (beginReadCall (calledClient id t) (output t))
-  givenAt t (to-replica id bytes verdicts) = givenByReplica (replicaCall (calledReplica id t) bytes verdicts (output t))
+  givenAt t (begins-write id x card) = givenByClient (beginWriteCall (calledClient id t) x card (output t))
+  givenAt t (begins-read id x) = givenByClient (beginReadCall (calledClient id t) x (output t))
+  givenAt t (to-replica id bytes verdicts) = givenByReplica (bankCall (calledReplica id t) bytes verdicts (output t))
   givenAt t (to-client id bytes verdicts) = givenByClient (hearingCall id (calledClient id t) bytes verdicts (output t))
 
   pub record CallsAreRun : Type 0 where
     -- "Each is set up once, before the first event, with the run's f and its own number" .. "Its party gets the record that its
     -- own last event left, at first the fresh one, and nobody else writes that record."
-    pub replicas : (id : ReplicaId) → R .correct-replica id ≡ true → (t : ℕ) → calledReplica id t ≡ replicaAt R id t
+    pub replicas : (id : ReplicaId) → R .correct-replica id ≡ true → (t : ℕ) → calledReplica id t ≡ bankAt R id t
     pub clients : (id : ClientId) → R .correct-client id ≡ true → (t : ℕ) → calledClient id t ≡ clientAt R id t
     -- "Each event is one call, with a lent output of its own.": it gives the run's answer.
-    pub answers : (t : ℕ) (e : Event) → event R t ≡ some e → givenAt t e ≡ givenFor (output t) (answerAt R t)
+    pub answers : (t : ℕ) (e : Event) → event R t ≡ some e → givenAt t e ≡ givenFor (registerOf e) (output t) (answerAt R t)

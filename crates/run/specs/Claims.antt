@@ -1,4 +1,5 @@
--- The claims of demand 3: genuine prepared proofs, finished operations, and their order; and views beside them.
+-- The claims of demand 3 of one register: genuine prepared proofs, finished operations, and their order; and views beside them. Document 02,
+-- #103: "One digest per stamp, the order of reads and writes and #101's claim on screens are wanted per set."
 use mathlib.Core.Path.{_≡_}
 use mathlib.Core.Logic.{_⊎_}
 use mathlib.Core.Bool.{Bool, true, false}
@@ -11,6 +12,7 @@ use Rattle.base.specs.Outcome.{accepted}
 use Rattle.base.specs.Party.{isWriter, isViewer}
 use Rattle.base.specs.Timestamp.{number}
 use Rattle.base.specs.declared.party.ClientId.{ClientId}
+use Rattle.base.specs.declared.party.RegisterId.{RegisterId}
 use Rattle.base.specs.declared.replica_set.ReplicaSet.{ReplicaSet}
 use Rattle.base.specs.declared.timestamp.Timestamp.{Timestamp}
 use Rattle.protocol.specs.Client.{done, ended}
@@ -22,26 +24,6 @@ use Rattle.wire.specs.Acceptance.{client}
 use Rattle.run.specs.Run.{Event, begins-write, begins-read, Run, event, answerAt, At}
 
 module _ (R : Run) where
-  -- "A prepared proof, of any bytes and from anyone, is judged genuine with marks that are true at the end of the list."
-  -- "A proof is genuine when its marks are true and it passes 9 to 11."
-  pub record Genuine (proof : PreparedProof) : Type 0 where
-    pub bytes : List ℕ
-    pub verdicts : List ℕ
-    pub are-bytes : Bytes bytes
-    pub reads : readPrepared bytes ≡ accepted proof
-    pub one-each : length verdicts ≡ length (proof .entries)
-    pub passes : proofOutcome (R .f) (proof .entries) verdicts (proof .timestamp) ≡ accepted (signerSet (proof .entries))
-    pub true-verdicts : TrueVerdicts R (length (R .events)) (preparedSignatures proof) verdicts
-
-  -- "no two genuine prepared proofs .. carry one stamp and two digests"
-  abbrev pub OneDigest : Type 0
-  OneDigest = (proof proof′ : PreparedProof) → Genuine proof → Genuine proof′ → proof .timestamp ≡ proof′ .timestamp → proof .digest ≡ proof′ .digest
-
-  -- "A read or write begins with the event that begins it, unless refused." True for a write.
-  abbrev pub Begins : Bool → ClientId → Option Event → Type 0
-  Begins true id e = (card : List ℕ) × (e ≡ some (begins-write id card))
-  Begins false id e = e ≡ some (begins-read id)
-
   abbrev pub NotDone : ℕ → Type 0
   NotDone t = (timestamp : Timestamp) (card : List ℕ) (signers : ReplicaSet) → answerAt R t ≡ accepted (done timestamp card signers) → ⊥
 
@@ -49,6 +31,39 @@ module _ (R : Run) where
   pub record GoesOn (t : ℕ) : Type 0 where
     pub not-done : NotDone t
     pub not-ended : answerAt R t ≡ accepted ended → ⊥
+
+-- At one timestamp: "the write before the reads, and of two reads the one finished earlier"
+abbrev pub AtOneTimestamp : Bool → Bool → ℕ → ℕ → Type 0
+AtOneTimestamp true true at at′ = ⊥
+AtOneTimestamp true false at at′ = Unit {0}
+AtOneTimestamp false true at at′ = ⊥
+AtOneTimestamp false false at at′ = at < at′
+
+-- "The smaller stamp lies first": timestamp, whether a write, and when finished, of each.
+abbrev pub LiesBefore : ℕ → Bool → ℕ → ℕ → Bool → ℕ → Type 0
+LiesBefore s w at s′ w′ at′ = (s < s′) ⊎ ((s ≡ s′) × AtOneTimestamp w w′ at at′)
+
+-- What is claimed of register x.
+module _ (R : Run) (x : RegisterId) where
+  -- "A prepared proof, of any bytes and from anyone, is judged genuine with marks that are true at the end of the list."
+  -- "A proof is genuine when its marks are true and it passes 9 to 11.": for the register that it is shown for.
+  pub record Genuine (proof : PreparedProof) : Type 0 where
+    pub bytes : List ℕ
+    pub verdicts : List ℕ
+    pub are-bytes : Bytes bytes
+    pub reads : readPrepared bytes ≡ accepted proof
+    pub one-each : length verdicts ≡ length (proof .entries)
+    pub passes : proofOutcome (R .f) (proof .entries) verdicts (proof .timestamp) ≡ accepted (signerSet (proof .entries))
+    pub true-verdicts : TrueVerdicts R (length (R .events)) (preparedSignatures x proof) verdicts
+
+  -- "no two genuine prepared proofs .. carry one stamp and two digests"
+  abbrev pub OneDigest : Type 0
+  OneDigest = (proof proof′ : PreparedProof) → Genuine proof → Genuine proof′ → proof .timestamp ≡ proof′ .timestamp → proof .digest ≡ proof′ .digest
+
+  -- "A read or write begins with the event that begins it, unless refused." True for a write.
+  abbrev pub Begins : Bool → ClientId → Option Event → Type 0
+  Begins true id e = (card : List ℕ) × (e ≡ some (begins-write id x card))
+  Begins false id e = e ≡ some (begins-read id x)
 
   -- "It is finished by its desk's first done after that, if no ended comes between; its stamp and card are those of that done." So are
   -- the card's signers (document 02, #102).
@@ -67,7 +82,7 @@ module _ (R : Run) where
     pub after : begun < finished
     pub at-client : At R finished (client id)
     pub is-done : answerAt R finished ≡ accepted (done timestamp card signers)
-    pub none-between : (t : ℕ) → begun < t → t < finished → At R t (client id) → GoesOn t
+    pub none-between : (t : ℕ) → begun < t → t < finished → At R t (client id) → GoesOn R t
 
   -- A view (document 02, #101): a viewing client's, from its READ to the client's first done after that.
   pub record Viewed : Type 0 where
@@ -78,12 +93,12 @@ module _ (R : Run) where
     pub timestamp : Timestamp
     pub card : List ℕ
     pub signers : ReplicaSet
-    pub begins : event R begun ≡ some (begins-read id)
+    pub begins : event R begun ≡ some (begins-read id x)
     pub not-refused : Accepted R begun
     pub after : begun < finished
     pub at-client : At R finished (client id)
     pub is-done : answerAt R finished ≡ accepted (done timestamp card signers)
-    pub none-between : (t : ℕ) → begun < t → t < finished → At R t (client id) → NotDone t
+    pub none-between : (t : ℕ) → begun < t → t < finished → At R t (client id) → NotDone R t
 
   -- Two that are one operation. `same-operation` proves it of any two that begin with one event.
   pub record SameOperation (o o′ : Finished) : Type 0 where
@@ -97,17 +112,6 @@ module _ (R : Run) where
   -- "One finished before another began if the first's done stands earlier in the list than the other's beginning."
   abbrev pub FinishedBefore : Finished → Finished → Type 0
   FinishedBefore o o′ = o .finished < o′ .begun
-
-  -- At one timestamp: "the write before the reads, and of two reads the one finished earlier"
-  abbrev pub AtOneTimestamp : Bool → Bool → ℕ → ℕ → Type 0
-  AtOneTimestamp true true at at′ = ⊥
-  AtOneTimestamp true false at at′ = Unit {0}
-  AtOneTimestamp false true at at′ = ⊥
-  AtOneTimestamp false false at at′ = at < at′
-
-  -- "The smaller stamp lies first": timestamp, whether a write, and when finished, of each.
-  abbrev pub LiesBefore : ℕ → Bool → ℕ → ℕ → Bool → ℕ → Type 0
-  LiesBefore s w at s′ w′ at′ = (s < s′) ⊎ ((s ≡ s′) × AtOneTimestamp w w′ at at′)
 
   abbrev pub Before : Finished → Finished → Type 0
   Before o o′ = LiesBefore (number (o .timestamp)) (o .is-write) (o .finished) (number (o′ .timestamp)) (o′ .is-write) (o′ .finished)

@@ -4,6 +4,7 @@ pub mod Claims
 pub mod Prefix
 pub mod Premises
 pub mod ReadsFrom
+pub mod Replies
 pub mod Run
 pub mod Views
 pub mod Vouching

@@ -26,7 +26,7 @@ prefix R n =
       f-in-range = R .f-in-range;
       replicas-in-range = R .replicas-in-range;
       clients-in-range = R .clients-in-range;
-      writers-begin = λ t id card q. R .writers-begin t id card (in-prefix n (R .events) t (begins-write id card) q);
+      writers-begin = λ t id x card q. R .writers-begin t id x card (in-prefix n (R .events) t (begins-write id x card) q);
       have-bytes = λ t e q. R .have-bytes t e (in-prefix n (R .events) t e q);
       at-correct = λ t e q. R .at-correct t e (in-prefix n (R .events) t e q);
     }

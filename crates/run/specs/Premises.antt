@@ -7,6 +7,7 @@ use Prim.Native.Nat.{ℕ, _≤_}
 use Rattle.base.specs.Counting.{count}
 use Rattle.base.specs.Outcome.{Outcome, accepted, refused}
 use Rattle.base.specs.Party.{replicaCount}
+use Rattle.base.specs.declared.party.RegisterId.{RegisterId}
 use Rattle.protocol.specs.Client.{Answer}
 use Rattle.wire.specs.Decode.{decode}
 use Rattle.wire.specs.Message.{Message, READ-STAMP, PREPARE, WRITE, READ, STAMP, PREPARED, WRITTEN, CARD}
@@ -23,34 +24,35 @@ module _ (R : Run) where
   TrueVerdicts t (signature ∷ signatures) (verdict ∷ verdicts) =
       (verdict ≡ 1 → Correct R (signature .signer) → Sent R (signature .signer) (signature .covers) t) × TrueVerdicts t signatures verdicts
 
-  -- Asked only of bytes that are a message for their party (2 to 5 passed).
-  abbrev pub TrueFor : ℕ → List ℕ → List ℕ → Outcome Message → Type 0
-  TrueFor t bytes verdicts (accepted message) = TrueVerdicts t (signaturesOf bytes message) verdicts
+  -- Asked only of bytes that are a message for their party (2 to 5 passed). Document 02, #103: "an entry's seal is that of a message for the
+  -- set that its proof is shown for".
+  abbrev pub TrueFor : ℕ → List ℕ → List ℕ → Outcome (RegisterId × Message) → Type 0
+  TrueFor t bytes verdicts (accepted sent) = TrueVerdicts t (signaturesOf bytes sent) verdicts
   TrueFor t bytes verdicts (refused number) = Unit {0}
 
   unfoldable pub TrueAt : ℕ → Option Event → Type 0
   TrueAt t none = Unit {0}
-  TrueAt t (some (begins-write id card)) = Unit {0}
-  TrueAt t (some (begins-read id)) = Unit {0}
+  TrueAt t (some (begins-write id x card)) = Unit {0}
+  TrueAt t (some (begins-read id x)) = Unit {0}
   TrueAt t (some (to-replica id bytes verdicts)) = TrueFor t bytes verdicts (decode AtReplica bytes)
   TrueAt t (some (to-client id bytes verdicts)) = TrueFor t bytes verdicts (decode AtClient bytes)
 
   -- "The cards of a run are those that a write was begun with or that a message carried, in events not refused"
-  abbrev pub carriedBy : Outcome Message → Option (List ℕ)
-  carriedBy (accepted (WRITE id card proof)) = some card
-  carriedBy (accepted (CARD id nonce card proof addressed)) = some card
-  carriedBy (accepted (READ-STAMP id nonce)) = none
-  carriedBy (accepted (PREPARE id timestamp digest proof last)) = none
-  carriedBy (accepted (READ id nonce)) = none
-  carriedBy (accepted (STAMP id nonce proof addressed)) = none
-  carriedBy (accepted (PREPARED id timestamp digest)) = none
-  carriedBy (accepted (WRITTEN id timestamp)) = none
+  abbrev pub carriedBy : Outcome (RegisterId × Message) → Option (List ℕ)
+  carriedBy (accepted (x, WRITE id card proof)) = some card
+  carriedBy (accepted (x, CARD id nonce card proof addressed)) = some card
+  carriedBy (accepted (x, READ-STAMP id nonce)) = none
+  carriedBy (accepted (x, PREPARE id timestamp digest proof last)) = none
+  carriedBy (accepted (x, READ id nonce)) = none
+  carriedBy (accepted (x, STAMP id nonce proof addressed)) = none
+  carriedBy (accepted (x, PREPARED id timestamp digest)) = none
+  carriedBy (accepted (x, WRITTEN id timestamp)) = none
   carriedBy (refused number) = none
 
   abbrev pub eventCard : Option Event → Option (List ℕ)
   eventCard none = none
-  eventCard (some (begins-write id card)) = some card
-  eventCard (some (begins-read id)) = none
+  eventCard (some (begins-write id x card)) = some card
+  eventCard (some (begins-read id x)) = none
   eventCard (some (to-replica id bytes verdicts)) = carriedBy (decode AtReplica bytes)
   eventCard (some (to-client id bytes verdicts)) = carriedBy (decode AtClient bytes)
 

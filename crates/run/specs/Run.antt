@@ -9,36 +9,48 @@ use lib.Dec.{eqb}
 use lib.ListN.{getElem?}
 use Rattle.base.specs.BigEndian.{Bytes}
 use Rattle.base.specs.Outcome.{Outcome, accepted, refused}
-use Rattle.base.specs.Party.{isFaultBound, isReplica, isClient, isWriter}
+use Rattle.base.specs.Party.{isFaultBound, isReplica, isClient, isWriter, registerPlace}
 use Rattle.base.specs.declared.party.ClientId.{ClientId}
+use Rattle.base.specs.declared.party.RegisterId.{RegisterId}
 use Rattle.base.specs.declared.party.ReplicaId.{ReplicaId}
+use Rattle.protocol.specs.Bank.{partAt, withPartAt, freshBank, placeIn, bankStep}
 use Rattle.protocol.specs.Client.{Answer, send, Turn, freshClient, beginWrite, beginRead, clientStep}
-use Rattle.protocol.specs.Replica.{Reply, freshReplica, replicaStep}
+use Rattle.protocol.specs.Replica.{Reply}
 use Rattle.protocol.specs.Viewer.{viewerStep}
 use Rattle.protocol.specs.declared.client.Client.{Client}
+use Rattle.protocol.specs.declared.replica.Bank.{Bank}
+use Rattle.protocol.specs.declared.replica.Register.{Register}
 use Rattle.protocol.specs.declared.replica.Replica.{Replica}
 use Rattle.wire.specs.Acceptance.{Sender, replica, client}
+use Rattle.wire.specs.Decode.{registerIn}
 use Rattle.wire.specs.Message.{Message, body}
 
 -- "a desk begins a write of some card or begins a read; a holder or a desk is handed a message, of any bytes and length,
--- with marks of any number and value"
+-- with marks of any number and value". Document 02, #103: "A desk names its set at each beginning".
 pub data Event : Type 0 where
-  begins-write : ClientId → List ℕ → Event
-  begins-read : ClientId → Event
+  begins-write : ClientId → RegisterId → List ℕ → Event
+  begins-read : ClientId → RegisterId → Event
   to-replica : ReplicaId → List ℕ → List ℕ → Event
   to-client : ClientId → List ℕ → List ℕ → Event
 
 -- The party of an event, as a sender of messages.
 abbrev pub partyOf : Event → Sender
-partyOf (begins-write id card) = client id
-partyOf (begins-read id) = client id
+partyOf (begins-write id x card) = client id
+partyOf (begins-read id x) = client id
 partyOf (to-replica id bytes verdicts) = replica id
 partyOf (to-client id bytes verdicts) = client id
 
+-- The register of an event, and of what is answered to it: the one that is named, or that the message is for.
+abbrev pub registerOf : Event → RegisterId
+registerOf (begins-write id x card) = x
+registerOf (begins-read id x) = x
+registerOf (to-replica id bytes verdicts) = registerIn bytes
+registerOf (to-client id bytes verdicts) = registerIn bytes
+
 -- Bytes are below 256.
 abbrev pub HasBytes : Event → Type 0
-HasBytes (begins-write id card) = Bytes card
-HasBytes (begins-read id) = Unit {0}
+HasBytes (begins-write id x card) = Bytes card
+HasBytes (begins-read id x) = Unit {0}
 HasBytes (to-replica id bytes verdicts) = Bytes bytes
 HasBytes (to-client id bytes verdicts) = Bytes bytes
 
@@ -58,14 +70,14 @@ pub record Run : Type 0 where
   pub replicas-in-range : (id : ReplicaId) → correct-replica id ≡ true → isReplica f id ≡ true
   pub clients-in-range : (id : ClientId) → correct-client id ≡ true → (isClient id ≡ true) × (1 ≤ first-nonce id) × (first-nonce id < 2 ^ 64)
   -- A viewing client has no write to begin.
-  pub writers-begin : (t : ℕ) (id : ClientId) (card : List ℕ) → getElem? events t ≡ some (begins-write id card) → isWriter id ≡ true
+  pub writers-begin : (t : ℕ) (id : ClientId) (x : RegisterId) (card : List ℕ) → getElem? events t ≡ some (begins-write id x card) → isWriter id ≡ true
   pub have-bytes : (t : ℕ) (e : Event) → getElem? events t ≡ some e → HasBytes e
   pub at-correct : (t : ℕ) (e : Event) → getElem? events t ≡ some e → CorrectIn correct-replica correct-client (partyOf e)
 
--- What an event does to a record: "a refusal leaves it as it was".
-abbrev pub nextReplica : Replica → Outcome Reply → Replica
-nextReplica before (accepted reply) = reply .next
-nextReplica before (refused number) = before
+-- What an event does to a record: "a refusal leaves it as it was". A replica's step changes the register at its place.
+abbrev pub nextBank : ℕ → Bank → Outcome Reply → Bank
+nextBank at before (accepted reply) = withPartAt at (reply .next) before
+nextBank at before (refused number) = before
 
 abbrev pub nextClient : Client → Outcome Turn → Client
 nextClient before (accepted turn) = turn .next
@@ -76,17 +88,17 @@ abbrev pub clientHears : ClientId → Client → List ℕ → List ℕ → Outco
 clientHears id before bytes verdicts = cond (isWriter id) (clientStep before bytes verdicts) (viewerStep before bytes verdicts)
 
 -- "Its party gets the record that its own last event left"; another party's event leaves it.
-abbrev pub afterAtReplica : ReplicaId → Option Event → Replica → Replica
+abbrev pub afterAtReplica : ReplicaId → Option Event → Bank → Bank
 afterAtReplica id none before = before
-afterAtReplica id (some (begins-write at card)) before = before
-afterAtReplica id (some (begins-read at)) before = before
-afterAtReplica id (some (to-replica at bytes verdicts)) before = cond (eqb (at .0) (id .0)) (nextReplica before (replicaStep before bytes verdicts)) before
+afterAtReplica id (some (begins-write at x card)) before = before
+afterAtReplica id (some (begins-read at x)) before = before
+afterAtReplica id (some (to-replica at bytes verdicts)) before = cond (eqb (at .0) (id .0)) (nextBank (placeIn bytes) before (bankStep before bytes verdicts)) before
 afterAtReplica id (some (to-client at bytes verdicts)) before = before
 
 abbrev pub afterAtClient : ClientId → Option Event → Client → Client
 afterAtClient id none before = before
-afterAtClient id (some (begins-write at card)) before = cond (eqb (at .0) (id .0)) (nextClient before (beginWrite before card)) before
-afterAtClient id (some (begins-read at)) before = cond (eqb (at .0) (id .0)) (nextClient before (beginRead before)) before
+afterAtClient id (some (begins-write at x card)) before = cond (eqb (at .0) (id .0)) (nextClient before (beginWrite before x card)) before
+afterAtClient id (some (begins-read at x)) before = cond (eqb (at .0) (id .0)) (nextClient before (beginRead before x)) before
 afterAtClient id (some (to-replica at bytes verdicts)) before = before
 afterAtClient id (some (to-client at bytes verdicts)) before = cond (eqb (at .0) (id .0)) (nextClient before (clientHears at before bytes verdicts)) before
 
@@ -105,9 +117,9 @@ module _ (R : Run) where
   event t = getElem? (R .events) t
 
   -- The records before event t, "at first the fresh one".
-  unfoldable pub replicaAt : ReplicaId → ℕ → Replica
-  replicaAt id zero = freshReplica (R .f) id
-  replicaAt id (suc t) = afterAtReplica id (event t) (replicaAt id t)
+  unfoldable pub bankAt : ReplicaId → ℕ → Bank
+  bankAt id zero = freshBank (R .f) id
+  bankAt id (suc t) = afterAtReplica id (event t) (bankAt id t)
 
   unfoldable pub clientAt : ClientId → ℕ → Client
   clientAt id zero = freshClient (R .f) id (R .first-nonce id)
@@ -116,9 +128,9 @@ module _ (R : Run) where
   -- The answer to an event at time t; where there is none, a refusal without a number of document 01's.
   unfoldable pub answerTo : ℕ → Option Event → Outcome Answer
   answerTo t none = refused 0
-  answerTo t (some (begins-write id card)) = clientAnswer (beginWrite (clientAt id t) card)
-  answerTo t (some (begins-read id)) = clientAnswer (beginRead (clientAt id t))
-  answerTo t (some (to-replica id bytes verdicts)) = replicaAnswer (replicaStep (replicaAt id t) bytes verdicts)
+  answerTo t (some (begins-write id x card)) = clientAnswer (beginWrite (clientAt id t) x card)
+  answerTo t (some (begins-read id x)) = clientAnswer (beginRead (clientAt id t) x)
+  answerTo t (some (to-replica id bytes verdicts)) = replicaAnswer (bankStep (bankAt id t) bytes verdicts)
   answerTo t (some (to-client id bytes verdicts)) = clientAnswer (clientHears id (clientAt id t) bytes verdicts)
 
   abbrev pub answerAt : ℕ → Outcome Answer
@@ -130,15 +142,24 @@ module _ (R : Run) where
   abbrev pub Correct : Sender → Type 0
   Correct party = CorrectIn (R .correct-replica) (R .correct-client) party
 
-  -- "one of its earlier events was answered with it": the party said this message before event t.
-  pub record Said (party : Sender) (message : Message) (t : ℕ) : Type 0 where
+  -- One register of a replica before event t, with the replica's f and number, and alone.
+  abbrev pub replicaAt : RegisterId → ReplicaId → ℕ → Replica
+  replicaAt x id t = partAt (registerPlace x) (bankAt id t)
+
+  abbrev pub registerAt : RegisterId → ReplicaId → ℕ → Register
+  registerAt x id t = replicaAt x id t .register
+
+  -- "one of its earlier events was answered with it": the party said this message, for this register, before event t.
+  pub record Said (x : RegisterId) (party : Sender) (message : Message) (t : ℕ) : Type 0 where
     pub time : ℕ
     pub earlier : time < t
     pub by : At time party
+    pub register-is : registerOf (by .0) ≡ x
     pub answered : answerAt time ≡ accepted (send message)
 
   -- "A party sent a message earlier if one of its earlier events was answered with it, all bytes before the seal being equal."
   pub record Sent (party : Sender) (bytes : List ℕ) (t : ℕ) : Type 0 where
+    pub register : RegisterId
     pub message : Message
-    pub said : Said party message t
-    pub same-bytes : body message ≡ bytes
+    pub said : Said register party message t
+    pub same-bytes : body register message ≡ bytes

@@ -8,6 +8,7 @@ use borrow.Author.Tests.{eqb-false}
 use lib.Dec.{eqb}
 use lib.ListN.{getD}
 use Rattle.base.specs.Outcome.{Outcome, accepted, refused}
+use Rattle.base.specs.declared.party.RegisterId.{RegisterId}
 use Rattle.base.specs.declared.replica_set.ReplicaSet.{ReplicaSet}
 use Rattle.base.specs.declared.timestamp.Timestamp.{Timestamp}
 use Rattle.protocol.specs.Client.{Answer, send, waits, done, ended}
@@ -23,29 +24,29 @@ no-test h = absurd (false≢true h)
 abbrev doneCode : Timestamp → List ℕ → ReplicaSet → List ℕ
 doneCode timestamp card signers = timestamp .count ∷ timestamp .client .0 ∷ signers .0 ∷ card
 
--- A message counts by the bytes that its signature covers.
-unfoldable pub code : Outcome Answer → List ℕ
-code (accepted (send message)) = 0 ∷ body message
-code (accepted waits) = 1 ∷ []
-code (accepted (done timestamp card signers)) = 2 ∷ doneCode timestamp card signers
-code (accepted ended) = 3 ∷ []
-code (refused number) = 4 ∷ number ∷ []
+-- An answer to an event of a register; a message counts by the bytes that its signature covers.
+unfoldable pub code : RegisterId → Outcome Answer → List ℕ
+code x (accepted (send message)) = 0 ∷ body x message
+code x (accepted waits) = 1 ∷ []
+code x (accepted (done timestamp card signers)) = 2 ∷ doneCode timestamp card signers
+code x (accepted ended) = 3 ∷ []
+code x (refused number) = 4 ∷ number ∷ []
 
 other-code : {A : Type 0} (a b : ℕ) (xs ys : List ℕ) → eqb a b ≡ false → a ∷ xs ≡ b ∷ ys → A
 other-code a b xs ys test e = let heads : a ≡ b = cc in absurd (eqb-false a b test heads)
 
-pub is-sent : (answer : Outcome Answer) (message : Message) → code answer ≡ code (accepted (send message)) → (m : Message) × (answer ≡ accepted (send m)) × (body m ≡ body message)
+pub is-sent : (x : RegisterId) (answer : Outcome Answer) (message : Message) → code x answer ≡ code x (accepted (send message)) → (m : Message) × (answer ≡ accepted (send m)) × (body x m ≡ body x message)
 unfolding code
-is-sent (accepted (send m)) message e = (m, refl, cc)
-is-sent (accepted waits) message e = other-code 1 0 [] (body message) refl e
-is-sent (accepted (done timestamp card signers)) message e = other-code 2 0 (doneCode timestamp card signers) (body message) refl e
-is-sent (accepted ended) message e = other-code 3 0 [] (body message) refl e
-is-sent (refused number) message e = other-code 4 0 (number ∷ []) (body message) refl e
+is-sent x (accepted (send m)) message e = (m, refl, cc)
+is-sent x (accepted waits) message e = other-code 1 0 [] (body x message) refl e
+is-sent x (accepted (done timestamp card signers)) message e = other-code 2 0 (doneCode timestamp card signers) (body x message) refl e
+is-sent x (accepted ended) message e = other-code 3 0 [] (body x message) refl e
+is-sent x (refused number) message e = other-code 4 0 (number ∷ []) (body x message) refl e
 
-module _ (timestamp : Timestamp) (card : List ℕ) (signers : ReplicaSet) where
-  pub is-done : (answer : Outcome Answer) → code answer ≡ code (accepted (done timestamp card signers)) → answer ≡ accepted (done timestamp card signers)
+module _ (x : RegisterId) (timestamp : Timestamp) (card : List ℕ) (signers : ReplicaSet) where
+  pub is-done : (answer : Outcome Answer) → code x answer ≡ code x (accepted (done timestamp card signers)) → answer ≡ accepted (done timestamp card signers)
   unfolding code
-  is-done (accepted (send m)) e = other-code 0 2 (body m) (doneCode timestamp card signers) refl e
+  is-done (accepted (send m)) e = other-code 0 2 (body x m) (doneCode timestamp card signers) refl e
   is-done (accepted waits) e = other-code 1 2 [] (doneCode timestamp card signers) refl e
   is-done (accepted (done t c s)) e =
       let counted : t .count ≡ timestamp .count = cc in
@@ -56,30 +57,30 @@ module _ (timestamp : Timestamp) (card : List ℕ) (signers : ReplicaSet) where
   is-done (accepted ended) e = other-code 3 2 [] (doneCode timestamp card signers) refl e
   is-done (refused number) e = other-code 4 2 (number ∷ []) (doneCode timestamp card signers) refl e
 
-pub is-accepted : (answer : Outcome Answer) (told : Answer) → code answer ≡ code (accepted told) → (a : Answer) × (answer ≡ accepted a)
+pub is-accepted : (x : RegisterId) (answer : Outcome Answer) (told : Answer) → code x answer ≡ code x (accepted told) → (a : Answer) × (answer ≡ accepted a)
 unfolding code
-is-accepted (accepted a) told e = (a, refl)
-is-accepted (refused number) (send message) e = other-code 4 0 (number ∷ []) (body message) refl e
-is-accepted (refused number) waits e = other-code 4 1 (number ∷ []) [] refl e
-is-accepted (refused number) (done timestamp card signers) e = other-code 4 2 (number ∷ []) (doneCode timestamp card signers) refl e
-is-accepted (refused number) ended e = other-code 4 3 (number ∷ []) [] refl e
+is-accepted x (accepted a) told e = (a, refl)
+is-accepted x (refused number) (send message) e = other-code 4 0 (number ∷ []) (body x message) refl e
+is-accepted x (refused number) waits e = other-code 4 1 (number ∷ []) [] refl e
+is-accepted x (refused number) (done timestamp card signers) e = other-code 4 2 (number ∷ []) (doneCode timestamp card signers) refl e
+is-accepted x (refused number) ended e = other-code 4 3 (number ∷ []) [] refl e
 
-pub is-refused : (answer : Outcome Answer) (number : ℕ) → code answer ≡ code (refused number) → answer ≡ refused number
+pub is-refused : (x : RegisterId) (answer : Outcome Answer) (number : ℕ) → code x answer ≡ code x (refused number) → answer ≡ refused number
 unfolding code
-is-refused (accepted (send message)) number e = other-code 0 4 (body message) (number ∷ []) refl e
-is-refused (accepted waits) number e = other-code 1 4 [] (number ∷ []) refl e
-is-refused (accepted (done timestamp card signers)) number e = other-code 2 4 (doneCode timestamp card signers) (number ∷ []) refl e
-is-refused (accepted ended) number e = other-code 3 4 [] (number ∷ []) refl e
-is-refused (refused other) number e = let same : other ≡ number = cc in λ i. refused (same i)
+is-refused x (accepted (send message)) number e = other-code 0 4 (body x message) (number ∷ []) refl e
+is-refused x (accepted waits) number e = other-code 1 4 [] (number ∷ []) refl e
+is-refused x (accepted (done timestamp card signers)) number e = other-code 2 4 (doneCode timestamp card signers) (number ∷ []) refl e
+is-refused x (accepted ended) number e = other-code 3 4 [] (number ∷ []) refl e
+is-refused x (refused other) number e = let same : other ≡ number = cc in λ i. refused (same i)
 
 abbrev pub isRefused : Outcome Answer → Bool
 isRefused (accepted answer) = false
 isRefused (refused number) = true
 
 -- An answer is not what is told to be refused.
-pub not-refused : (answer : Answer) (told : Outcome Answer) → code (accepted answer) ≡ code told → isRefused told ≡ true → ⊥
-not-refused answer (accepted told) e h = no-test h
-not-refused answer (refused number) e h = let is = is-refused (accepted answer) number e in let z : _≡_ {A = ℕ} 0 1 = cc in omega arith
+pub not-refused : (x : RegisterId) (answer : Answer) (told : Outcome Answer) → code x (accepted answer) ≡ code x told → isRefused told ≡ true → ⊥
+not-refused x answer (accepted told) e h = no-test h
+not-refused x answer (refused number) e h = let is = is-refused x (accepted answer) number e in let z : _≡_ {A = ℕ} 0 1 = cc in omega arith
 
 -- What an answer's numbers say: neither done nor ended; counted.
 abbrev pub goesOn : List ℕ → Bool
@@ -88,10 +89,10 @@ goesOn numbers = not (eqb (getD numbers 0 0) 2 || eqb (getD numbers 0 0) 3)
 abbrev pub isCounted : List ℕ → Bool
 isCounted numbers = eqb (getD numbers 0 0) 1
 
-pub is-counted : (answer : Outcome Answer) → isCounted (code answer) ≡ true → answer ≡ accepted waits
+pub is-counted : (x : RegisterId) (answer : Outcome Answer) → isCounted (code x answer) ≡ true → answer ≡ accepted waits
 unfolding code
-is-counted (accepted (send message)) h = no-test h
-is-counted (accepted waits) h = refl
-is-counted (accepted (done timestamp card signers)) h = no-test h
-is-counted (accepted ended) h = no-test h
-is-counted (refused number) h = no-test h
+is-counted x (accepted (send message)) h = no-test h
+is-counted x (accepted waits) h = refl
+is-counted x (accepted (done timestamp card signers)) h = no-test h
+is-counted x (accepted ended) h = no-test h
+is-counted x (refused number) h = no-test h

@@ -19,7 +19,7 @@ use Rattle.wire.specs.Message.{Message, PREPARE, PREPARED}
 use Rattle.wire.specs.Proof.{PreparedProof}
 use Rattle.wire.specs.Sha256.{sha256}
 use Rattle.witness.proofs.Cards.{rightDigests, differentDigests}
-use Rattle.witness.proofs.Cast.{replica-1, replica-2, replica-3, replica-4, client-1, 1·1, entry, from-client, one, three}
+use Rattle.witness.proofs.Cast.{replica-1, replica-2, replica-3, replica-4, register-1, client-1, 1·1, entry, from-client, one, three}
 use Rattle.witness.proofs.Computing.{messages, steps}
 use Rattle.witness.proofs.Replay.{plays, freshStore, played}
 use Rattle.witness.proofs.Story.{Line, _↝_, each, wellTold, told, Told, hasBytes, allBytes, AllTrue, trueVerdicts, true-verdicts, NoOtherCards, different-digests, genuine-told}
@@ -33,8 +33,8 @@ pub record BoundNeeded : Type 0 where
   pub different-digests : (card card′ : List ℕ) → CardOfRun run card → CardOfRun run card′ → sha256 card ≡ sha256 card′ → card ≡ card′
   pub proof : PreparedProof
   pub proof′ : PreparedProof
-  pub genuine : Genuine run proof
-  pub genuine′ : Genuine run proof′
+  pub genuine : Genuine run register-1 proof
+  pub genuine′ : Genuine run register-1 proof′
   pub one-timestamp : proof .timestamp ≡ proof′ .timestamp
   pub two-digests : proof .digest ≡ proof′ .digest → ⊥
 
@@ -84,13 +84,13 @@ no-cards : NoOtherCards run story []
 unfolding story messages
 no-cards = refl
 
-genuine-a : Genuine run (proof-of digest-a replica-1)
+genuine-a : Genuine run register-1 (proof-of digest-a replica-1)
 unfolding run story steps allBytes trueVerdicts
-genuine-a = genuine-told run story as-told (proof-of digest-a replica-1) three refl refl refl refl refl
+genuine-a = genuine-told run story as-told register-1 (proof-of digest-a replica-1) three refl refl refl refl refl
 
-genuine-b : Genuine run (proof-of digest-b replica-2)
+genuine-b : Genuine run register-1 (proof-of digest-b replica-2)
 unfolding run story steps allBytes trueVerdicts
-genuine-b = genuine-told run story as-told (proof-of digest-b replica-2) three refl refl refl refl refl
+genuine-b = genuine-told run story as-told register-1 (proof-of digest-b replica-2) three refl refl refl refl refl
 
 pub bound-needed : BoundNeeded
 unfolding run count within rightDigests differentDigests
@@ -110,5 +110,5 @@ bound-needed =
     }
 
 -- The theorem about runs does not hold without its bound.
-pub claims-fail : (needed : BoundNeeded) → Claims (needed .run) → ⊥
+pub claims-fail : (needed : BoundNeeded) → Claims (needed .run) register-1 → ⊥
 claims-fail needed claims = needed .two-digests (claims .one-digest (needed .proof) (needed .proof′) (needed .genuine) (needed .genuine′) (needed .one-timestamp))

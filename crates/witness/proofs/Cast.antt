@@ -6,6 +6,7 @@ use mathlib.Core.Option.{none}
 use Prim.Native.Nat.{ℕ, _+_}
 use lib.ListN.{replicate}
 use Rattle.base.specs.declared.party.ClientId.{ClientId}
+use Rattle.base.specs.declared.party.RegisterId.{RegisterId}
 use Rattle.base.specs.declared.party.ReplicaId.{ReplicaId}
 use Rattle.base.specs.declared.replica_set.ReplicaSet.{ReplicaSet}
 use Rattle.base.specs.declared.timestamp.Timestamp.{Timestamp}
@@ -26,6 +27,12 @@ replica-3 = record { 0 = 3 }
 
 abbrev pub replica-4 : ReplicaId
 replica-4 = record { 0 = 4 }
+
+abbrev pub register-1 : RegisterId
+register-1 = record { 0 = 1 }
+
+abbrev pub register-2 : RegisterId
+register-2 = record { 0 = 2 }
 
 abbrev pub client-1 : ClientId
 client-1 = record { 0 = 1 }
@@ -70,11 +77,18 @@ by-1-2-4 = record { 0 = 0x000B }
 abbrev pub signature : ReplicaId → List ℕ
 signature id = replicate 64 (id .0)
 
+-- A message for a register; most runs are about the first.
+abbrev pub from-replica-for : RegisterId → ReplicaId → (ReplicaId → Message) → List ℕ
+from-replica-for x id message = encode x (message id) (signature id)
+
+abbrev pub from-client-for : RegisterId → ClientId → Message → List ℕ
+from-client-for x id message = encode x message (replicate 64 (100 + id .0))
+
 abbrev pub from-replica : ReplicaId → (ReplicaId → Message) → List ℕ
-from-replica id message = encode (message id) (signature id)
+from-replica = from-replica-for register-1
 
 abbrev pub from-client : ClientId → Message → List ℕ
-from-client id message = encode message (replicate 64 (100 + id .0))
+from-client = from-client-for register-1
 
 abbrev pub entry : ReplicaId → Entry
 entry id = record { signer = id; signature = signature id }

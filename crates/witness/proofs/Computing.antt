@@ -7,24 +7,25 @@ use Rattle.base.specs.ReplicaSet.{has, with, withAll}
 use Rattle.base.specs.Rising.{rising}
 use Rattle.base.specs.Same.{same}
 use Rattle.protocol.specs.Client.{gathered, beginWrite, beginRead, afterStamp, onStamp, afterPrepared, onPrepared, afterWritten, afterWriteBack, onWritten, afterCard, countCard, onCard, clientStep, onReply}
+use Rattle.protocol.specs.Bank.{noRegister, bankStep}
 use Rattle.protocol.specs.Replica.{freshRegister, afterPrepare, afterWrite, replicaStep, onRequest}
 use Rattle.protocol.specs.Viewer.{afterView, viewerStep, onViewerReply}
-use Rattle.run.specs.Run.{replicaAt, clientAt, answerTo}
+use Rattle.run.specs.Run.{bankAt, clientAt, answerTo}
 use Rattle.wire.specs.Card.{table, readFields, goodCardMap, readCard}
 use Rattle.wire.specs.Acceptance.{admits, admitted}
 use Rattle.wire.specs.Checks.{entriesOf, all, oneEach, shaped, proven, checked, proofOutcome}
-use Rattle.wire.specs.Decode.{decode, kinds, ofKind, framed}
+use Rattle.wire.specs.Decode.{kinds, ofKind, framed, messageIn, decode}
 use Rattle.wire.specs.Layout.{rules, place, field}
 use Rattle.wire.specs.Message.{fields, joined, body, encode}
 use Rattle.wire.specs.Proof.{entriesBytes, preparedBytes, writtenBytes, readEntries, readPrepared, readWritten}
 use Rattle.wire.specs.Sha256.{Ch, Maj, Σ₀, Σ₁, σ₀, σ₁, K, H⁰, paddingZeros, padded, wordOf, words, nextWord, schedule, T₁, T₂, rounds, nextHash, compress, hashValue, hashBytes, sha256}
 
 unfoldable pub messages : Unit {0}
-unfolding fromBytes toBytes guard within same rules place field kinds ofKind framed decode fields joined body encode entriesBytes preparedBytes writtenBytes readEntries readPrepared readWritten
+unfolding fromBytes toBytes guard within same rules place field kinds ofKind framed messageIn decode fields joined body encode entriesBytes preparedBytes writtenBytes readEntries readPrepared readWritten
 messages = tt
 
 unfoldable pub steps : Unit {0}
-unfolding messages count has with withAll rising entriesOf all oneEach shaped proven checked admits admitted proofOutcome table readFields goodCardMap readCard freshRegister afterPrepare afterWrite onRequest replicaStep gathered beginWrite beginRead afterStamp onStamp afterPrepared onPrepared afterWritten afterWriteBack onWritten afterCard countCard onCard onReply clientStep afterView onViewerReply viewerStep replicaAt clientAt answerTo
+unfolding messages count has with withAll rising entriesOf all oneEach shaped proven checked admits admitted proofOutcome table readFields goodCardMap readCard freshRegister afterPrepare afterWrite onRequest replicaStep noRegister bankStep gathered beginWrite beginRead afterStamp onStamp afterPrepared onPrepared afterWritten afterWriteBack onWritten afterCard countCard onCard onReply clientStep afterView onViewerReply viewerStep bankAt clientAt answerTo
 steps = tt
 
 unfoldable pub digests : Unit {0}

@@ -6,6 +6,8 @@ pub mod Computing
 pub mod FirstWrite
 pub mod NotEmpty
 pub mod Replay
+pub mod SameHanded
 pub mod Story
+pub mod TwoRegisters
 pub mod VerdictsNeeded
 pub mod Viewing

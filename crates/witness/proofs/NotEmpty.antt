@@ -12,6 +12,7 @@ use Rattle.base.specs.Outcome.{accepted, refused}
 use Rattle.base.specs.Range.{within}
 use Rattle.base.specs.ReplicaSet.{has}
 use Rattle.base.specs.declared.party.ClientId.{ClientId}
+use Rattle.base.specs.declared.party.RegisterId.{RegisterId}
 use Rattle.base.specs.declared.party.ReplicaId.{ReplicaId}
 use Rattle.base.specs.declared.timestamp.Timestamp.{Timestamp}
 use Rattle.protocol.specs.Client.{send, waits, done}
@@ -25,7 +26,7 @@ use Rattle.wire.specs.Message.{Message, READ-STAMP, PREPARE, WRITE, READ, STAMP
 use Rattle.wire.specs.Proof.{PreparedProof, WrittenProof}
 use Rattle.wire.specs.Sha256.{sha256}
 use Rattle.witness.proofs.Answers.{code}
-use Rattle.witness.proofs.Cast.{replica-1, replica-2, replica-3, replica-4, client-1, client-2, client-3, client-4, 1·1, 1·4, 2·2, 3·1, at-1·1, by-1-2-4, entry, from-replica, from-client, stale, one, three, four, seven, not-genuine, service, lathe, scrapped, service-digest, lathe-digest, cards, right-digests, different-cards}
+use Rattle.witness.proofs.Cast.{replica-1, replica-2, replica-3, replica-4, register-1, client-1, client-2, client-3, client-4, 1·1, 1·4, 2·2, 3·1, at-1·1, by-1-2-4, entry, from-replica, from-client, stale, one, three, four, seven, not-genuine, service, lathe, scrapped, service-digest, lathe-digest, cards, right-digests, different-cards}
 use Rattle.witness.proofs.Computing.{messages, steps, digests}
 use Rattle.witness.proofs.FirstWrite.{proof, prepared, write, written, shows, write-under-way, write-done}
 use Rattle.witness.proofs.Replay.{plays, freshStore, played}
@@ -113,7 +114,7 @@ story =
     write-under-way
     ++ write-done
     -- 16 to 21: client 2 reads. Replicas 1, 2 and 4 show 1.1: it is done in one phase.
-    ++ begins-read client-2 ↝ send (asks-card client-2)
+    ++ begins-read client-2 register-1 ↝ send (asks-card client-2)
     ∷ to-replica replica-1 (from-client client-2 (asks-card client-2)) one ↝ send (shows 1 client-2 replica-1)
     ∷ to-replica replica-2 (from-client client-2 (asks-card client-2)) one ↝ send (shows 1 client-2 replica-2)
     ∷ to-client client-2 (from-replica replica-1 (shows 1 client-2)) four ↝ waits
@@ -123,14 +124,14 @@ story =
     ∷ to-replica replica-3 (from-client client-4 (asks-1·4 service-digest)) one ↝ send (PREPARED replica-3 1·4 service-digest)
     ∷ to-replica replica-3 (from-client client-4 (asks-1·4 lathe-digest)) one ↛ 15
     -- 24 to 29: client 3 reads. Replica 4 shows 0.0, so that only two show 1.1: it is written back.
-    ∷ begins-read client-3 ↝ send (asks-card client-3)
+    ∷ begins-read client-3 register-1 ↝ send (asks-card client-3)
     ∷ to-replica replica-1 (from-client client-3 (asks-card client-3)) one ↝ send (shows 1 client-3 replica-1)
     ∷ to-replica replica-2 (from-client client-3 (asks-card client-3)) one ↝ send (shows 1 client-3 replica-2)
     ∷ to-client client-3 (from-replica replica-1 (shows 1 client-3)) four ↝ waits
     ∷ to-client client-3 (from-replica replica-2 (shows 1 client-3)) four ↝ waits
     ∷ to-client client-3 (from-replica replica-4 (stale 1 client-3)) one ↝ send write-back
     -- 30 to 35: before that is done client 2 begins a write. All show 1.1, so it asks for 2.2.
-    ∷ begins-write client-2 lathe ↝ send asks-stamp-2
+    ∷ begins-write client-2 register-1 lathe ↝ send asks-stamp-2
     ∷ to-replica replica-1 (from-client client-2 asks-stamp-2) one ↝ send (stamp-2 replica-1)
     ∷ to-replica replica-2 (from-client client-2 asks-stamp-2) one ↝ send (stamp-2 replica-2)
     ∷ to-client client-2 (from-replica replica-1 stamp-2) four ↝ waits
@@ -152,8 +153,8 @@ story =
     ∷ to-client client-2 (from-replica replica-2 written-2) one ↝ waits
     ∷ to-client client-2 (from-replica replica-4 written-2) one ↝ done at-2·2 lathe by-1-2-4
     -- 48 to 54: client 1 begins its second write, and is busy then. It asks for 3.1.
-    ∷ begins-write client-1 service ↝ send asks-stamp-3
-    ∷ begins-read client-1 ↛ 17
+    ∷ begins-write client-1 register-1 service ↝ send asks-stamp-3
+    ∷ begins-read client-1 register-1 ↛ 17
     ∷ to-replica replica-1 (from-client client-1 asks-stamp-3) one ↝ send (stamp-3 replica-1)
     ∷ to-replica replica-2 (from-client client-1 asks-stamp-3) one ↝ send (stamp-3 replica-2)
     ∷ to-client client-1 (from-replica replica-1 stamp-3) four ↝ waits
@@ -205,40 +206,40 @@ pub premises : Premises run
 unfolding run count within
 premises = premises-told run story as-told cards (lit≤ tt) verdicts-true no-other-cards right-digests different-cards
 
-pub claims : Claims run
+pub claims : (x : RegisterId) → Claims run x
 claims = demand-3 run premises
 
 -- ---- Its finished operations
 
-pub first-write : Finished run
+pub first-write : Finished run register-1
 unfolding story code messages
-first-write = finished-told run story as-told client-1 0 15 _ _ _ at-1·1 service by-1-2-4 refl (lit< tt) refl refl refl true (service, refl) refl
+first-write = finished-told run story as-told register-1 client-1 0 15 _ _ _ at-1·1 service by-1-2-4 refl (lit< tt) refl refl refl true (service, refl) refl
 
-pub read : Finished run
+pub read : Finished run register-1
 unfolding story code messages
-read = finished-told run story as-told client-2 16 21 _ _ _ at-1·1 service by-1-2-4 refl (lit< tt) refl refl refl false refl refl
+read = finished-told run story as-told register-1 client-2 16 21 _ _ _ at-1·1 service by-1-2-4 refl (lit< tt) refl refl refl false refl refl
 
 -- Client 2 sends nothing after its READ.
 pub in-one-phase : (t : ℕ) → 16 < t → t < 21 → At run t (client client-2) → answerAt run t ≡ accepted waits
 unfolding story code messages
 in-one-phase = only-counted run story as-told client-2 16 21 refl
 
-pub read-with-write-back : Finished run
+pub read-with-write-back : Finished run register-1
 unfolding story code messages
-read-with-write-back = finished-told run story as-told client-3 24 37 _ _ _ at-1·1 service by-1-2-4 refl (lit< tt) refl refl refl false refl refl
+read-with-write-back = finished-told run story as-told register-1 client-3 24 37 _ _ _ at-1·1 service by-1-2-4 refl (lit< tt) refl refl refl false refl refl
 
-pub second-write : Finished run
+pub second-write : Finished run register-1
 unfolding story code messages
-second-write = finished-told run story as-told client-2 30 47 _ _ _ at-2·2 lathe by-1-2-4 refl (lit< tt) refl refl refl true (lathe, refl) refl
+second-write = finished-told run story as-told register-1 client-2 30 47 _ _ _ at-2·2 lathe by-1-2-4 refl (lit< tt) refl refl refl true (lathe, refl) refl
 
-pub third-write : Finished run
+pub third-write : Finished run register-1
 unfolding story code messages
-third-write = finished-told run story as-told client-1 48 65 _ _ _ at-3·1 service by-1-2-4 refl (lit< tt) refl refl refl true (service, refl) refl
+third-write = finished-told run story as-told register-1 client-1 48 65 _ _ _ at-3·1 service by-1-2-4 refl (lit< tt) refl refl refl true (service, refl) refl
 
 -- ---- Who vouched for the cards
 
-pub vouched : Vouching run
-vouched = vouching run premises
+pub vouched : Vouching run register-1
+vouched = vouching run premises register-1
 
 -- All show replicas 1, 2 and 4, whose PREPAREDs made the proofs: the faulty replica's bit among them.
 pub signers : (first-write .signers ≡ by-1-2-4) × (read .signers ≡ by-1-2-4) × (read-with-write-back .signers ≡ by-1-2-4) × (second-write .signers ≡ by-1-2-4) × (third-write .signers ≡ by-1-2-4)
@@ -254,7 +255,7 @@ unfolding run story finished-told read-with-write-back has within
 signers-are-not-those-who-showed = (refl, refl, refl, refl)
 
 -- What the theorem says of that read: replica 2, which is correct, said PREPARED for its card.
-pub replica-2-vouched : Said run (replica replica-2) (PREPARED replica-2 1·1 (sha256 service)) 38
+pub replica-2-vouched : Said run register-1 (replica replica-2) (PREPARED replica-2 1·1 (sha256 service)) 38
 unfolding run finished-told read-with-write-back has within
 replica-2-vouched = ⊎-elim (λ nobody. let z = nobody .0 in absurd (omega arith)) (λ set. set .1 replica-2 refl refl) (vouched .operations read-with-write-back)
 
@@ -264,12 +265,12 @@ unfolding finished-told read-with-write-back second-write
 overlap = (lit< tt, lit< tt)
 
 -- The second write shows the proof of 1.1, the third one that of 2.2 and the client's own written proof of 1.1.
-pub second-shows : Sends run 35 (PREPARE client-2 2·2 lathe-digest (some proof) none)
-unfolding story
+pub second-shows : Sends run register-1 35 (PREPARE client-2 2·2 lathe-digest (some proof) none)
+unfolding story messages
 second-shows = sends-told run story as-told 35 _ prepare-2 refl
 
-pub third-shows : Sends run 54 (PREPARE client-1 3·1 service-digest (some proof-2) (some own-written))
-unfolding story
+pub third-shows : Sends run register-1 54 (PREPARE client-1 3·1 service-digest (some proof-2) (some own-written))
+unfolding story messages
 third-shows = sends-told run story as-told 54 _ prepare-3 refl
 
 -- ---- What is refused
@@ -299,8 +300,8 @@ pub replica-4-sent-nothing : (bytes : List ℕ) (t : ℕ) → Sent run (replica 
 replica-4-sent-nothing bytes t sent = let at = sent .said .by in replica-4-is-faulty (subst (Correct run) (at .2) (run .at-correct (sent .said .time) (at .0) (at .1)))
 
 -- Its PREPARED, with verdict 1, makes the quorum: the WRITE's proof has its signature.
-pub its-prepared-counts : (event run 10 ≡ some (to-client client-1 (from-replica replica-4 prepared) (1 ∷ []))) × Sends run 10 (WRITE client-1 service proof)
-unfolding run story
+pub its-prepared-counts : (event run 10 ≡ some (to-client client-1 (from-replica replica-4 prepared) (1 ∷ []))) × Sends run register-1 10 (WRITE client-1 service proof)
+unfolding run story messages
 its-prepared-counts = (refl, sends-told run story as-told 10 _ write refl)
 
 -- So does its WRITTEN.
@@ -309,16 +310,16 @@ unfolding run story
 its-written-counts = (refl, done-told run story as-told 15 _ at-1·1 service by-1-2-4 refl)
 
 -- Its CARD of 0.0 forces the write-back.
-pub its-stale-card-forces-write-back : (event run 29 ≡ some (to-client client-3 (from-replica replica-4 (stale 1 client-3)) (1 ∷ []))) × Sends run 29 (WRITE client-3 service proof)
-unfolding run story
+pub its-stale-card-forces-write-back : (event run 29 ≡ some (to-client client-3 (from-replica replica-4 (stale 1 client-3)) (1 ∷ []))) × Sends run register-1 29 (WRITE client-3 service proof)
+unfolding run story messages
 its-stale-card-forces-write-back = (refl, sends-told run story as-told 29 _ write-back refl)
 
 -- ---- Claims read off
 
-genuine-proof : Genuine run proof
+genuine-proof : Genuine run register-1 proof
 unfolding run story steps allBytes trueVerdicts
-genuine-proof = genuine-told run story as-told proof three refl refl refl refl refl
+genuine-proof = genuine-told run story as-told register-1 proof three refl refl refl refl refl
 
--- Whoever gathers a prepared proof of 1.1 has this digest in it.
-pub one-digest-at-1·1 : (other : PreparedProof) → Genuine run other → other .timestamp ≡ 1·1 → other .digest ≡ service-digest
-one-digest-at-1·1 other genuine at = claims .one-digest other proof genuine genuine-proof at
+-- Whoever gathers a prepared proof of 1.1 for register 1 has this digest in it.
+pub one-digest-at-1·1 : (other : PreparedProof) → Genuine run register-1 other → other .timestamp ≡ 1·1 → other .digest ≡ service-digest
+one-digest-at-1·1 other genuine at = claims register-1 .one-digest other proof genuine genuine-proof at

@@ -16,10 +16,10 @@ use Rattle.base.specs.Same.{same}
 use Rattle.base.specs.declared.party.ClientId.{ClientId}
 use Rattle.base.specs.declared.party.ReplicaId.{ReplicaId}
 use Rattle.protocol.specs.Client.{Answer, Turn, freshClient, beginWrite, beginRead}
-use Rattle.protocol.specs.Replica.{Reply, freshReplica, replicaStep}
+use Rattle.protocol.specs.Bank.{freshBank, placeIn, bankStep}
 use Rattle.protocol.specs.declared.client.Client.{Client}
-use Rattle.protocol.specs.declared.replica.Replica.{Replica}
-use Rattle.run.specs.Run.{Event, begins-write, begins-read, to-replica, to-client, nextReplica, nextClient, clientHears, afterAtReplica, afterAtClient, replicaAnswer, clientAnswer, Run, event, replicaAt, clientAt, answerTo}
+use Rattle.protocol.specs.declared.replica.Bank.{Bank}
+use Rattle.run.specs.Run.{Event, begins-write, begins-read, to-replica, to-client, registerOf, nextBank, nextClient, clientHears, afterAtReplica, afterAtClient, replicaAnswer, clientAnswer, Run, event, bankAt, clientAt, answerTo}
 use Rattle.base.proofs.Same.{same-equal}
 use Rattle.witness.proofs.Answers.{code}
 use Rattle.witness.proofs.Story.{Line, Each, eventsOf, Told}
@@ -57,7 +57,7 @@ records-right other (suc n) of (suc i) inside = records-right other n (λ j. of 
 -- ---- The store, and an event played with it
 
 pub record Store : Type 0 where
-  pub replicas : List Replica
+  pub replicas : List Bank
   pub clients : List Client
 
 abbrev replica-of : ℕ → ReplicaId
@@ -66,25 +66,25 @@ replica-of i = record { 0 = i }
 abbrev client-of : ℕ → ClientId
 client-of i = record { 0 = i }
 
-abbrev no-replica : Replica
-no-replica = freshReplica 1 (replica-of 0)
+abbrev no-replica : Bank
+no-replica = freshBank 1 (replica-of 0)
 
 abbrev no-client : Client
 no-client = freshClient 1 (client-of 0) 1
 
-abbrev replicaIn : Store → ReplicaId → Replica
+abbrev replicaIn : Store → ReplicaId → Bank
 replicaIn store id = getD (store .replicas) (id .0) no-replica
 
 abbrev clientIn : Store → ClientId → Client
 clientIn store id = getD (store .clients) (id .0) no-client
 
 abbrev inStore : Store → Event → Bool
-inStore store (begins-write id card) = ltb (id .0) (length (store .clients))
-inStore store (begins-read id) = ltb (id .0) (length (store .clients))
+inStore store (begins-write id x card) = ltb (id .0) (length (store .clients))
+inStore store (begins-read id x) = ltb (id .0) (length (store .clients))
 inStore store (to-replica id bytes verdicts) = ltb (id .0) (length (store .replicas))
 inStore store (to-client id bytes verdicts) = ltb (id .0) (length (store .clients))
 
-abbrev withReplica : Store → ReplicaId → Replica → Store
+abbrev withReplica : Store → ReplicaId → Bank → Store
 withReplica store id next = record { replicas = set (store .replicas) (id .0) next; clients = store .clients }
 
 abbrev withClient : Store → ClientId → Client → Store
@@ -95,11 +95,11 @@ record Played : Type 0 where
   answer : Outcome Answer
   next : Store
 
-abbrev atReplica : Store → ReplicaId → (Replica → Outcome Reply) → Played
-atReplica store id step =
+abbrev atReplica : Store → ReplicaId → List ℕ → List ℕ → Played
+atReplica store id bytes verdicts =
     let before = replicaIn store id in
-    let reply = step before in
-    record { answer = replicaAnswer reply; next = withReplica store id (nextReplica before reply) }
+    let reply = bankStep before bytes verdicts in
+    record { answer = replicaAnswer reply; next = withReplica store id (nextBank (placeIn bytes) before reply) }
 
 abbrev atClient : Store → ClientId → (Client → Outcome Turn) → Played
 atClient store id step =
@@ -108,9 +108,9 @@ atClient store id step =
     record { answer = clientAnswer turn; next = withClient store id (nextClient before turn) }
 
 abbrev play : Store → Event → Played
-play store (begins-write id card) = atClient store id (λ before. beginWrite before card)
-play store (begins-read id) = atClient store id beginRead
-play store (to-replica id bytes verdicts) = atReplica store id (λ before. replicaStep before bytes verdicts)
+play store (begins-write id x card) = atClient store id (λ before. beginWrite before x card)
+play store (begins-read id x) = atClient store id (λ before. beginRead before x)
+play store (to-replica id bytes verdicts) = atReplica store id bytes verdicts
 play store (to-client id bytes verdicts) = atClient store id (λ before. clientHears id before bytes verdicts)
 
 -- The lines' answers are those of their events, all at parties of the store.
@@ -119,58 +119,58 @@ unfolding code
 plays store [] = true
 plays store (line ∷ lines) =
     let played = play store (line .event) in
-    (inStore store (line .event) && same (code (played .answer)) (code (line .answer))) && plays (played .next) lines
+    (inStore store (line .event) && same (code (registerOf (line .event)) (played .answer)) (code (registerOf (line .event)) (line .answer))) && plays (played .next) lines
 
 module _ (R : Run) where
   -- The fresh records of replicas 1 to 4 and clients 1 to c; place 0 is no party's.
   abbrev pub freshStore : ℕ → Store
   freshStore c =
       record {
-        replicas = records 5 (λ i. freshReplica (R .f) (replica-of i));
+        replicas = records 5 (λ i. freshBank (R .f) (replica-of i));
         clients = records (suc c) (λ i. freshClient (R .f) (client-of i) (R .first-nonce (client-of i)));
       }
 
   -- The store has the run's records before event t.
   record Holds (t : ℕ) (store : Store) : Type 0 where
-    replicas : Right no-replica (store .replicas) (λ i. replicaAt R (replica-of i) t)
+    replicas : Right no-replica (store .replicas) (λ i. bankAt R (replica-of i) t)
     clients : Right no-client (store .clients) (λ i. clientAt R (client-of i) t)
 
   fresh-holds : (c : ℕ) → Holds 0 (freshStore c)
-  unfolding replicaAt clientAt
+  unfolding bankAt clientAt
   fresh-holds c =
       record {
-        replicas = records-right no-replica 5 (λ i. freshReplica (R .f) (replica-of i));
+        replicas = records-right no-replica 5 (λ i. freshBank (R .f) (replica-of i));
         clients = records-right no-client (suc c) (λ i. freshClient (R .f) (client-of i) (R .first-nonce (client-of i)));
       }
 
   -- What an event leaves to a party is what the run has next.
-  next-replica : (t : ℕ) (e : Event) → event R t ≡ some e → (i : ℕ) → afterAtReplica (replica-of i) (some e) (replicaAt R (replica-of i) t) ≡ replicaAt R (replica-of i) (suc t)
-  unfolding replicaAt
-  next-replica t e found i = ap (λ (x : Option Event). afterAtReplica (replica-of i) x (replicaAt R (replica-of i) t)) (sym found)
+  next-replica : (t : ℕ) (e : Event) → event R t ≡ some e → (i : ℕ) → afterAtReplica (replica-of i) (some e) (bankAt R (replica-of i) t) ≡ bankAt R (replica-of i) (suc t)
+  unfolding bankAt
+  next-replica t e found i = ap (λ (x : Option Event). afterAtReplica (replica-of i) x (bankAt R (replica-of i) t)) (sym found)
 
   next-client : (t : ℕ) (e : Event) → event R t ≡ some e → (i : ℕ) → afterAtClient (client-of i) (some e) (clientAt R (client-of i) t) ≡ clientAt R (client-of i) (suc t)
   unfolding clientAt
   next-client t e found i = ap (λ (x : Option Event). afterAtClient (client-of i) x (clientAt R (client-of i) t)) (sym found)
 
   still-holds : (t : ℕ) (store : Store) (e : Event) → event R t ≡ some e → inStore store e ≡ true → Holds t store → Holds (suc t) (play store e .next)
-  still-holds t store (begins-write id card) found there holds =
+  still-holds t store (begins-write id x card) found there holds =
       record {
-        replicas = λ i inside. holds .replicas i inside ∙ next-replica t (begins-write id card) found i;
+        replicas = λ i inside. holds .replicas i inside ∙ next-replica t (begins-write id x card) found i;
         clients = λ i inside.
-            steps-right no-client (store .clients) (λ j. clientAt R (client-of j) t) (id .0) (λ c. nextClient c (beginWrite c card)) (ltb-true (id .0) (length (store .clients)) there) (holds .clients) i inside
-            ∙ next-client t (begins-write id card) found i;
+            steps-right no-client (store .clients) (λ j. clientAt R (client-of j) t) (id .0) (λ c. nextClient c (beginWrite c x card)) (ltb-true (id .0) (length (store .clients)) there) (holds .clients) i inside
+            ∙ next-client t (begins-write id x card) found i;
       }
-  still-holds t store (begins-read id) found there holds =
+  still-holds t store (begins-read id x) found there holds =
       record {
-        replicas = λ i inside. holds .replicas i inside ∙ next-replica t (begins-read id) found i;
+        replicas = λ i inside. holds .replicas i inside ∙ next-replica t (begins-read id x) found i;
         clients = λ i inside.
-            steps-right no-client (store .clients) (λ j. clientAt R (client-of j) t) (id .0) (λ c. nextClient c (beginRead c)) (ltb-true (id .0) (length (store .clients)) there) (holds .clients) i inside
-            ∙ next-client t (begins-read id) found i;
+            steps-right no-client (store .clients) (λ j. clientAt R (client-of j) t) (id .0) (λ c. nextClient c (beginRead c x)) (ltb-true (id .0) (length (store .clients)) there) (holds .clients) i inside
+            ∙ next-client t (begins-read id x) found i;
       }
   still-holds t store (to-replica id bytes verdicts) found there holds =
       record {
         replicas = λ i inside.
-            steps-right no-replica (store .replicas) (λ j. replicaAt R (replica-of j) t) (id .0) (λ r. nextReplica r (replicaStep r bytes verdicts)) (ltb-true (id .0) (length (store .replicas)) there) (holds .replicas) i inside
+            steps-right no-replica (store .replicas) (λ j. bankAt R (replica-of j) t) (id .0) (λ r. nextBank (placeIn bytes) r (bankStep r bytes verdicts)) (ltb-true (id .0) (length (store .replicas)) there) (holds .replicas) i inside
             ∙ next-replica t (to-replica id bytes verdicts) found i;
         clients = λ i inside. holds .clients i inside ∙ next-client t (to-replica id bytes verdicts) found i;
       }
@@ -184,23 +184,24 @@ module _ (R : Run) where
 
   answers-right : (t : ℕ) (store : Store) (e : Event) → inStore store e ≡ true → Holds t store → answerTo R t (some e) ≡ play store e .answer
   unfolding answerTo
-  answers-right t store (begins-write id card) there holds = ap (λ (c : Client). clientAnswer (beginWrite c card)) (sym (holds .clients (id .0) (ltb-true (id .0) (length (store .clients)) there)))
-  answers-right t store (begins-read id) there holds = ap (λ (c : Client). clientAnswer (beginRead c)) (sym (holds .clients (id .0) (ltb-true (id .0) (length (store .clients)) there)))
+  answers-right t store (begins-write id x card) there holds = ap (λ (c : Client). clientAnswer (beginWrite c x card)) (sym (holds .clients (id .0) (ltb-true (id .0) (length (store .clients)) there)))
+  answers-right t store (begins-read id x) there holds = ap (λ (c : Client). clientAnswer (beginRead c x)) (sym (holds .clients (id .0) (ltb-true (id .0) (length (store .clients)) there)))
   answers-right t store (to-replica id bytes verdicts) there holds =
-      ap (λ (r : Replica). replicaAnswer (replicaStep r bytes verdicts)) (sym (holds .replicas (id .0) (ltb-true (id .0) (length (store .replicas)) there)))
+      ap (λ (r : Bank). replicaAnswer (bankStep r bytes verdicts)) (sym (holds .replicas (id .0) (ltb-true (id .0) (length (store .replicas)) there)))
   answers-right t store (to-client id bytes verdicts) there holds =
       ap (λ (c : Client). clientAnswer (clientHears id c bytes verdicts)) (sym (holds .clients (id .0) (ltb-true (id .0) (length (store .clients)) there)))
 
   each-played : (t : ℕ) (store : Store) (lines : List Line) → ((i : ℕ) → event R (t + i) ≡ getElem? (eventsOf lines) i) → Holds t store → plays store lines ≡ true
-      → Each (λ s line. code (answerTo R s (some (line .event))) ≡ code (line .answer)) t lines
+      → Each (λ s line. code (registerOf (line .event)) (answerTo R s (some (line .event))) ≡ code (registerOf (line .event)) (line .answer)) t lines
   unfolding plays
   each-played t store [] events holds test = tt
   each-played t store (line ∷ lines) events holds test =
-      let both = and-true-both (inStore store (line .event) && same (code (play store (line .event) .answer)) (code (line .answer))) (plays (play store (line .event) .next) lines) test in
-      let here = and-true-both (inStore store (line .event)) (same (code (play store (line .event) .answer)) (code (line .answer))) (both .0) in
+      let x = registerOf (line .event) in
+      let both = and-true-both (inStore store (line .event) && same (code x (play store (line .event) .answer)) (code x (line .answer))) (plays (play store (line .event) .next) lines) test in
+      let here = and-true-both (inStore store (line .event)) (same (code x (play store (line .event) .answer)) (code x (line .answer))) (both .0) in
       let now : t + 0 ≡ t = omega arith in
       let found : event R t ≡ some (line .event) = subst (λ (s : ℕ). event R s ≡ some (line .event)) now (events 0) in (
-        ap code (answers-right t store (line .event) (here .0) holds) ∙ same-equal (code (play store (line .event) .answer)) (code (line .answer)) (here .1),
+        ap (code x) (answers-right t store (line .event) (here .0) holds) ∙ same-equal (code x (play store (line .event) .answer)) (code x (line .answer)) (here .1),
         each-played (suc t) (play store (line .event) .next) lines (λ i. let then : t + suc i ≡ suc t + i = omega arith in subst (λ (s : ℕ). event R s ≡ getElem? (eventsOf lines) i) then (events (suc i)))
             (still-holds t store (line .event) found (here .0) holds) (both .1),
       )

@@ -18,6 +18,7 @@ use Rattle.base.specs.Party.{isWriter, isViewer}
 use Rattle.base.specs.Range.{within}
 use Rattle.base.specs.Same.{same}
 use Rattle.base.specs.declared.party.ClientId.{ClientId}
+use Rattle.base.specs.declared.party.RegisterId.{RegisterId}
 use Rattle.base.specs.declared.party.ReplicaId.{ReplicaId}
 use Rattle.base.specs.declared.replica_set.ReplicaSet.{ReplicaSet}
 use Rattle.base.specs.declared.timestamp.Timestamp.{Timestamp}
@@ -26,7 +27,7 @@ use Rattle.run.proofs.SentMessages.{said-later}
 use Rattle.run.specs.Claims.{GoesOn, Begins, Finished, Viewed, Genuine}
 use Rattle.run.specs.Premises.{TrueVerdicts, TrueFor, TrueAt, eventCard, Accepted, CardOfRun, FewFaulty, Premises}
 use Rattle.wire.specs.Acceptance.{Sender, replica, client}
-use Rattle.run.specs.Run.{Event, begins-write, begins-read, to-replica, to-client, partyOf, HasBytes, CorrectIn, Run, event, answerTo, answerAt, At, Sent}
+use Rattle.run.specs.Run.{Event, begins-write, begins-read, to-replica, to-client, partyOf, registerOf, HasBytes, CorrectIn, Run, event, answerTo, answerAt, At, Sent}
 use Rattle.wire.specs.Decode.{decode}
 use Rattle.wire.specs.Message.{Message, body}
 use Rattle.wire.specs.Proof.{PreparedProof, signerSet, preparedBytes, readPrepared}
@@ -123,21 +124,21 @@ all-bytes (b ∷ bytes) h (suc i) = all-bytes bytes (and-true-both (ltb b 256) (
 
 unfoldable pub hasBytes : Event → Bool
 unfolding allBytes
-hasBytes (begins-write id card) = allBytes card
-hasBytes (begins-read id) = true
+hasBytes (begins-write id x card) = allBytes card
+hasBytes (begins-read id x) = true
 hasBytes (to-replica id bytes verdicts) = allBytes bytes
 hasBytes (to-client id bytes verdicts) = allBytes bytes
 
 pub has-bytes : (e : Event) → hasBytes e ≡ true → HasBytes e
 unfolding hasBytes
-has-bytes (begins-write id card) h = all-bytes card h
-has-bytes (begins-read id) h = tt
+has-bytes (begins-write id x card) h = all-bytes card h
+has-bytes (begins-read id x) h = tt
 has-bytes (to-replica id bytes verdicts) h = all-bytes bytes h
 has-bytes (to-client id bytes verdicts) h = all-bytes bytes h
 
 abbrev writerBegins : Event → Bool
-writerBegins (begins-write id card) = isWriter id
-writerBegins (begins-read id) = true
+writerBegins (begins-write id x card) = isWriter id
+writerBegins (begins-read id x) = true
 writerBegins (to-replica id bytes verdicts) = true
 writerBegins (to-client id bytes verdicts) = true
 
@@ -184,7 +185,7 @@ module _ (r c : ℕ) (at-most-four : r ≤ 4) (at-most-96 : c ≤ 96) (lines : L
         f-in-range = inside 1 5 1 (lit≤ tt) (lit≤ tt);
         replicas-in-range = λ id h. let b = bounds 1 r (id .0) h in inside 1 4 (id .0) (b .0) (omega arith);
         clients-in-range = λ id h. let b = bounds 1 c (id .0) h in (inside 1 96 (id .0) (b .0) (omega arith), lit≤ tt, lit< tt);
-        writers-begin = λ t id card found. well-told t (begins-write id card) found .1;
+        writers-begin = λ t id x card found. well-told t (begins-write id x card) found .1;
         have-bytes = λ t e found. has-bytes e (well-told t e found .0);
         at-correct = λ t e found. correct-in (replicasTo r) (clientsTo c) (partyOf e) (well-told t e found .2);
       }
@@ -207,26 +208,27 @@ same-party-self : (p : Sender) → sameParty p p ≡ true
 same-party-self (replica a) = eq-eqb (a .0) (a .0) refl
 same-party-self (client a) = eq-eqb (a .0) (a .0) refl
 
-abbrev sends : List ℕ → Bool → Outcome Answer → Bool
-sends bytes true (accepted (send message)) = same (body message) bytes
-sends bytes true (accepted waits) = false
-sends bytes true (accepted (done timestamp card signers)) = false
-sends bytes true (accepted ended) = false
-sends bytes true (refused number) = false
-sends bytes false answer = false
+-- The answer to an event of a register, if it is the party's.
+abbrev sends : List ℕ → RegisterId → Bool → Outcome Answer → Bool
+sends bytes x true (accepted (send message)) = same (body x message) bytes
+sends bytes x true (accepted waits) = false
+sends bytes x true (accepted (done timestamp card signers)) = false
+sends bytes x true (accepted ended) = false
+sends bytes x true (refused number) = false
+sends bytes x false answer = false
 
-message-sent : (bytes : List ℕ) (by : Bool) (answer : Outcome Answer) → sends bytes by answer ≡ true
-    → (by ≡ true) × ((message : Message) × (answer ≡ accepted (send message)) × (body message ≡ bytes))
-message-sent bytes true (accepted (send message)) h = (refl, (message, refl, same-equal (body message) bytes h))
-message-sent bytes true (accepted waits) h = no-test h
-message-sent bytes true (accepted (done timestamp card signers)) h = no-test h
-message-sent bytes true (accepted ended) h = no-test h
-message-sent bytes true (refused number) h = no-test h
-message-sent bytes false answer h = no-test h
+message-sent : (bytes : List ℕ) (x : RegisterId) (by : Bool) (answer : Outcome Answer) → sends bytes x by answer ≡ true
+    → (by ≡ true) × ((message : Message) × (answer ≡ accepted (send message)) × (body x message ≡ bytes))
+message-sent bytes x true (accepted (send message)) h = (refl, (message, refl, same-equal (body x message) bytes h))
+message-sent bytes x true (accepted waits) h = no-test h
+message-sent bytes x true (accepted (done timestamp card signers)) h = no-test h
+message-sent bytes x true (accepted ended) h = no-test h
+message-sent bytes x true (refused number) h = no-test h
+message-sent bytes x false answer h = no-test h
 
 abbrev sentIn : Sender → List ℕ → Option Line → Bool
 sentIn party bytes none = false
-sentIn party bytes (some line) = sends bytes (sameParty (partyOf (line .event)) party) (line .answer)
+sentIn party bytes (some line) = sends bytes (registerOf (line .event)) (sameParty (partyOf (line .event)) party) (line .answer)
 
 -- Whether one of the first t lines is the party's and sends these bytes.
 sentBefore : List Line → Sender → List ℕ → ℕ → Bool
@@ -238,7 +240,7 @@ sentBefore lines party bytes (suc t) = sentIn party bytes (getElem? lines t) || 
 -- The party's answers between two events are good.
 abbrev pub goodBetween : (List ℕ → Bool) → Sender → ℕ → ℕ → ℕ → Line → Bool
 goodBetween good party begun finished t line =
-    leb t begun || (leb finished t || (not (sameParty (partyOf (line .event)) party) || good (code (line .answer))))
+    leb t begun || (leb finished t || (not (sameParty (partyOf (line .event)) party) || good (code (registerOf (line .event)) (line .answer))))
 
 abbrev pub AllBetween : List Line → (List ℕ → Bool) → Sender → ℕ → ℕ → Type 0
 AllBetween lines good party begun finished = each (goodBetween good party begun finished) 0 lines ≡ true
@@ -262,13 +264,13 @@ module _ (R : Run) (lines : List Line) where
   trueVerdicts t (signature ∷ signatures) [] = true
   trueVerdicts t (signature ∷ signatures) (verdict ∷ verdicts) = isTrue t signature verdict && trueVerdicts t signatures verdicts
 
-  abbrev trueFor : ℕ → List ℕ → List ℕ → Outcome Message → Bool
-  trueFor t bytes verdicts (accepted message) = trueVerdicts t (signaturesOf bytes message) verdicts
+  abbrev trueFor : ℕ → List ℕ → List ℕ → Outcome (RegisterId × Message) → Bool
+  trueFor t bytes verdicts (accepted sent) = trueVerdicts t (signaturesOf bytes sent) verdicts
   trueFor t bytes verdicts (refused number) = true
 
   abbrev trueEvent : ℕ → Event → Bool
-  trueEvent t (begins-write id card) = true
-  trueEvent t (begins-read id) = true
+  trueEvent t (begins-write id x card) = true
+  trueEvent t (begins-read id x) = true
   trueEvent t (to-replica id bytes verdicts) = trueFor t bytes verdicts (decode AtReplica bytes)
   trueEvent t (to-client id bytes verdicts) = trueFor t bytes verdicts (decode AtClient bytes)
 
@@ -276,14 +278,14 @@ module _ (R : Run) (lines : List Line) where
   abbrev pub AllTrue : Type 0
   AllTrue = each (λ t line. trueEvent t (line .event)) 0 lines ≡ true
 
--- Event t is answered with this message, by the bytes that its signature covers.
-abbrev pub Sends : Run → ℕ → Message → Type 0
-Sends R t message = (m : Message) × (answerAt R t ≡ accepted (send m)) × (body m ≡ body message)
+-- Event t is answered with this message for register x, by the bytes that its signature covers.
+abbrev pub Sends : Run → RegisterId → ℕ → Message → Type 0
+Sends R x t message = (m : Message) × (answerAt R t ≡ accepted (send m)) × (body x m ≡ body x message)
 
 -- The lines are those of the run: its events, and the answers that it gives.
 pub record Told (R : Run) (lines : List Line) : Type 0 where
   pub events : R .events ≡ eventsOf lines
-  pub answers : Each (λ t line. code (answerTo R t (some (line .event))) ≡ code (line .answer)) 0 lines
+  pub answers : Each (λ t line. code (registerOf (line .event)) (answerTo R t (some (line .event))) ≡ code (registerOf (line .event)) (line .answer)) 0 lines
 
 module _ (R : Run) (lines : List Line) (told : Told R lines) where
   event-is : (t : ℕ) → event R t ≡ eventIn (getElem? lines t)
@@ -292,13 +294,14 @@ module _ (R : Run) (lines : List Line) (told : Told R lines) where
   pub event-told : (t : ℕ) (line : Line) → getElem? lines t ≡ some line → event R t ≡ some (line .event)
   event-told t line at = event-is t ∙ ap eventIn at
 
-  pub answer-told : (t : ℕ) (line : Line) → getElem? lines t ≡ some line → code (answerAt R t) ≡ code (line .answer)
+  pub answer-told : (t : ℕ) (line : Line) → getElem? lines t ≡ some line → code (registerOf (line .event)) (answerAt R t) ≡ code (registerOf (line .event)) (line .answer)
   answer-told t line at =
-      ap (λ (e : Option Event). code (answerTo R t e)) (event-told t line at)
-      ∙ each-at (λ s l. code (answerTo R s (some (l .event))) ≡ code (l .answer)) t lines line (told .answers) at
+      ap (λ (e : Option Event). code (registerOf (line .event)) (answerTo R t e)) (event-told t line at)
+      ∙ each-at (λ s l. code (registerOf (l .event)) (answerTo R s (some (l .event))) ≡ code (registerOf (l .event)) (l .answer)) t lines line (told .answers) at
 
   later : {party : Sender} {bytes : List ℕ} {t : ℕ} → Sent R party bytes t → Sent R party bytes (suc t)
-  later {party} {bytes} {t} s = record { message = s .message; said = said-later R party (s .message) t (suc t) (omega arith) (s .said); same-bytes = s .same-bytes }
+  later {party} {bytes} {t} s =
+      record { register = s .register; message = s .message; said = said-later R (s .register) party (s .message) t (suc t) (omega arith) (s .said); same-bytes = s .same-bytes }
 
   sent : (party : Sender) (bytes : List ℕ) (t : ℕ) → sentBefore lines party bytes t ≡ true → Sent R party bytes t
   unfolding sentBefore
@@ -308,11 +311,20 @@ module _ (R : Run) (lines : List Line) (told : Told R lines) where
       here : (line : Option Line) → getElem? lines t ≡ line → sentIn party bytes line ≡ true → Sent R party bytes (suc t)
       here none at test = no-test test
       here (some line) at test =
-          let m = message-sent bytes (sameParty (partyOf (line .event)) party) (line .answer) test in
-          let s = is-sent (answerAt R t) (m .1 .0) (answer-told t line at ∙ ap code (m .1 .1)) in
+          let x = registerOf (line .event) in
+          let m = message-sent bytes x (sameParty (partyOf (line .event)) party) (line .answer) test in
+          let s = is-sent x (answerAt R t) (m .1 .0) (answer-told t line at ∙ ap (code x) (m .1 .1)) in
           record {
+            register = x;
             message = s .0;
-            said = record { time = t; earlier = omega arith; by = (line .event, event-told t line at, same-party (partyOf (line .event)) party (m .0)); answered = s .1 };
+            said =
+                record {
+                  time = t;
+                  earlier = omega arith;
+                  by = (line .event, event-told t line at, same-party (partyOf (line .event)) party (m .0));
+                  register-is = refl;
+                  answered = s .1;
+                };
             same-bytes = s .2 ∙ m .1 .2;
           }
 
@@ -332,14 +344,14 @@ module _ (R : Run) (lines : List Line) (told : Told R lines) where
         true-for-all t signatures verdicts (both .1),
       )
 
-  true-for : (t : ℕ) (bytes verdicts : List ℕ) (outcome : Outcome Message) → trueFor R lines t bytes verdicts outcome ≡ true → TrueFor R t bytes verdicts outcome
-  true-for t bytes verdicts (accepted message) h = true-for-all t (signaturesOf bytes message) verdicts h
+  true-for : (t : ℕ) (bytes verdicts : List ℕ) (outcome : Outcome (RegisterId × Message)) → trueFor R lines t bytes verdicts outcome ≡ true → TrueFor R t bytes verdicts outcome
+  true-for t bytes verdicts (accepted sent) h = true-for-all t (signaturesOf bytes sent) verdicts h
   true-for t bytes verdicts (refused number) h = tt
 
   true-event : (t : ℕ) (e : Event) → trueEvent R lines t e ≡ true → TrueAt R t (some e)
   unfolding TrueAt
-  true-event t (begins-write id card) h = tt
-  true-event t (begins-read id) h = tt
+  true-event t (begins-write id x card) h = tt
+  true-event t (begins-read id x) h = tt
   true-event t (to-replica id bytes verdicts) h = true-for t bytes verdicts (decode AtReplica bytes) h
   true-event t (to-client id bytes verdicts) h = true-for t bytes verdicts (decode AtClient bytes) h
 
@@ -364,7 +376,7 @@ module _ (R : Run) (lines : List Line) (told : Told R lines) where
       go (some line) at =
           let test = each-tested (isKnownOrRefused R lines cards) (of-run .time) lines line no-other at in
           let (answer, answered) = of-run .not-refused in
-          ⊎-elim (λ is-refused. absurd (not-refused answer (line .answer) (sym (ap code answered) ∙ answer-told (of-run .time) line at) is-refused))
+          ⊎-elim (λ is-refused. absurd (not-refused (registerOf (line .event)) answer (line .answer) (sym (ap (code (registerOf (line .event))) answered) ∙ answer-told (of-run .time) line at) is-refused))
           (λ is-known. subst (λ (c : Option (List ℕ)). isKnownIfThere cards c ≡ true) (carried (some line) at) is-known)
           (or-true (isRefused (line .answer)) (isKnownIfThere cards (eventCard R (some (line .event)))) test)
 
@@ -378,8 +390,10 @@ module _ (R : Run) (lines : List Line) (told : Told R lines) where
 
   -- ---- Between two events
 
-  between : (good : List ℕ → Bool) (party : Sender) (begun finished : ℕ) → AllBetween lines good party begun finished → (t : ℕ) → begun < t → t < finished → At R t party → good (code (answerAt R t)) ≡ true
-  between good party begun finished all t after before at = ap good (answer-told t (line .0) (line .1)) ∙ tested-here
+  between : (good : List ℕ → Bool) (party : Sender) (begun finished : ℕ) → AllBetween lines good party begun finished → (t : ℕ) → begun < t → t < finished → (at : At R t party)
+      → good (code (registerOf (at .0)) (answerAt R t)) ≡ true
+  between good party begun finished all t after before at =
+      subst (λ (e : Event). good (code (registerOf e) (answerAt R t)) ≡ true) (line .2) (ap good (answer-told t (line .0) (line .1)) ∙ tested-here)
     where
       line : (line : Line) × (getElem? lines t ≡ some line) × (line .event ≡ at .0)
       line = lineOf lines t (at .0) (sym (ap (λ (es : List Event). getElem? es t) (told .events)) ∙ at .1)
@@ -387,7 +401,7 @@ module _ (R : Run) (lines : List Line) (told : Told R lines) where
       by-party : sameParty (partyOf (line .0 .event)) party ≡ true
       by-party = ap (λ (e : Event). sameParty (partyOf e) party) (line .2) ∙ ap (λ (p : Sender). sameParty p party) (at .2) ∙ same-party-self party
 
-      tested-here : good (code (line .0 .answer)) ≡ true
+      tested-here : good (code (registerOf (line .0 .event)) (line .0 .answer)) ≡ true
       tested-here =
           let test = each-tested (goodBetween good party begun finished) t lines (line .0) all (line .1) in
           rw (lt-leb t begun after, lt-leb finished t before, by-party) at test
@@ -395,38 +409,39 @@ module _ (R : Run) (lines : List Line) (told : Told R lines) where
   pub none-between : (id : ClientId) (begun finished : ℕ) → AllBetween lines goesOn (client id) begun finished → (t : ℕ) → begun < t → t < finished → At R t (client id) → GoesOn R t
   unfolding code
   none-between id begun finished all t after before at =
+      let x = registerOf (at .0) in
       let goes-on = between goesOn (client id) begun finished all t after before at in
-      record { not-done = λ timestamp card signers is. no-test (sym (ap goesOn (ap code is)) ∙ goes-on); not-ended = λ is. no-test (sym (ap goesOn (ap code is)) ∙ goes-on) }
+      record { not-done = λ timestamp card signers is. no-test (sym (ap goesOn (ap (code x) is)) ∙ goes-on); not-ended = λ is. no-test (sym (ap goesOn (ap (code x) is)) ∙ goes-on) }
 
   pub only-counted : (id : ClientId) (begun finished : ℕ) → AllBetween lines isCounted (client id) begun finished → (t : ℕ) → begun < t → t < finished → At R t (client id) → answerAt R t ≡ accepted waits
-  only-counted id begun finished all t after before at = is-counted (answerAt R t) (between isCounted (client id) begun finished all t after before at)
+  only-counted id begun finished all t after before at = is-counted (registerOf (at .0)) (answerAt R t) (between isCounted (client id) begun finished all t after before at)
 
   -- ---- What a line says of the run
 
-  pub sends-told : (t : ℕ) (e : Event) (message : Message) → getElem? lines t ≡ some (e ↝ send message) → Sends R t message
-  sends-told t e message at = is-sent (answerAt R t) message (answer-told t (e ↝ send message) at)
+  pub sends-told : (t : ℕ) (e : Event) (message : Message) → getElem? lines t ≡ some (e ↝ send message) → Sends R (registerOf e) t message
+  sends-told t e message at = is-sent (registerOf e) (answerAt R t) message (answer-told t (e ↝ send message) at)
 
   pub done-told : (t : ℕ) (e : Event) (timestamp : Timestamp) (card : List ℕ) (signers : ReplicaSet) → getElem? lines t ≡ some (e ↝ done timestamp card signers)
       → answerAt R t ≡ accepted (done timestamp card signers)
-  done-told t e timestamp card signers at = is-done timestamp card signers (answerAt R t) (answer-told t (e ↝ done timestamp card signers) at)
+  done-told t e timestamp card signers at = is-done (registerOf e) timestamp card signers (answerAt R t) (answer-told t (e ↝ done timestamp card signers) at)
 
   pub refused-told : (t : ℕ) (e : Event) (number : ℕ) → getElem? lines t ≡ some (e ↛ number) → answerAt R t ≡ refused number
-  refused-told t e number at = is-refused (answerAt R t) number (answer-told t (e ↛ number) at)
+  refused-told t e number at = is-refused (registerOf e) (answerAt R t) number (answer-told t (e ↛ number) at)
 
   -- A client's operation that begins and is done, with neither done nor ended between: a writer's, and a view.
-  module _ (id : ClientId) (begun finished : ℕ) (first last : Event) (answer : Answer) (timestamp : Timestamp) (card : List ℕ) (signers : ReplicaSet)
+  module _ (x : RegisterId) (id : ClientId) (begun finished : ℕ) (first last : Event) (answer : Answer) (timestamp : Timestamp) (card : List ℕ) (signers : ReplicaSet)
       (begun-at : getElem? lines begun ≡ some (first ↝ answer)) (after : begun < finished)
       (done-at : getElem? lines finished ≡ some (last ↝ done timestamp card signers)) (by : partyOf last ≡ client id) (all : AllBetween lines goesOn (client id) begun finished) where
-    pub begins-told : (w : Bool) → Begins R w id (some first) → Begins R w id (event R begun)
-    begins-told w begins = subst (Begins R w id) (sym (event-told begun (first ↝ answer) begun-at)) begins
+    pub begins-told : (w : Bool) → Begins R x w id (some first) → Begins R x w id (event R begun)
+    begins-told w begins = subst (Begins R x w id) (sym (event-told begun (first ↝ answer) begun-at)) begins
 
     pub not-refused-told : Accepted R begun
-    not-refused-told = is-accepted (answerAt R begun) answer (answer-told begun (first ↝ answer) begun-at)
+    not-refused-told = is-accepted (registerOf first) (answerAt R begun) answer (answer-told begun (first ↝ answer) begun-at)
 
     pub done-by : At R finished (client id)
     done-by = (last, event-told finished (last ↝ done timestamp card signers) done-at, by)
 
-    unfoldable pub finished-told : (w : Bool) → Begins R w id (some first) → isWriter id ≡ true → Finished R
+    unfoldable pub finished-told : (w : Bool) → Begins R x w id (some first) → isWriter id ≡ true → Finished R x
     finished-told w begins by-writer =
         record {
           id = id;
@@ -445,7 +460,7 @@ module _ (R : Run) (lines : List Line) (told : Told R lines) where
           none-between = none-between id begun finished all;
         }
 
-    unfoldable pub viewed-told : Begins R false id (some first) → isViewer id ≡ true → Viewed R
+    unfoldable pub viewed-told : Begins R x false id (some first) → isViewer id ≡ true → Viewed R x
     viewed-told begins by-viewer =
         record {
           id = id;
@@ -463,11 +478,11 @@ module _ (R : Run) (lines : List Line) (told : Told R lines) where
           none-between = λ t l l′ at. none-between id begun finished all t l l′ at .not-done;
         }
 
-  -- A prepared proof that passes 9 to 11 with verdicts that are true at the end of the run.
-  pub genuine-told : (proof : PreparedProof) (verdicts : List ℕ) → allBytes (preparedBytes proof) ≡ true → readPrepared (preparedBytes proof) ≡ accepted proof
+  -- A prepared proof that passes 9 to 11 with verdicts that are true at the end of the run, for a register.
+  pub genuine-told : (x : RegisterId) (proof : PreparedProof) (verdicts : List ℕ) → allBytes (preparedBytes proof) ≡ true → readPrepared (preparedBytes proof) ≡ accepted proof
       → length verdicts ≡ length (proof .entries) → proofOutcome (R .f) (proof .entries) verdicts (proof .timestamp) ≡ accepted (signerSet (proof .entries))
-      → trueVerdicts R lines (length (R .events)) (preparedSignatures proof) verdicts ≡ true → Genuine R proof
-  genuine-told proof verdicts bytes reads one-each passes true-verdicts =
+      → trueVerdicts R lines (length (R .events)) (preparedSignatures x proof) verdicts ≡ true → Genuine R x proof
+  genuine-told x proof verdicts bytes reads one-each passes true-verdicts =
       record {
         bytes = preparedBytes proof;
         verdicts = verdicts;
@@ -475,5 +490,5 @@ module _ (R : Run) (lines : List Line) (told : Told R lines) where
         reads = reads;
         one-each = one-each;
         passes = passes;
-        true-verdicts = true-for-all (length (R .events)) (preparedSignatures proof) verdicts true-verdicts;
+        true-verdicts = true-for-all (length (R .events)) (preparedSignatures x proof) verdicts true-verdicts;
       }

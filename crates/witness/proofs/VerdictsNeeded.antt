@@ -22,7 +22,7 @@ use Rattle.wire.specs.Message.{Message, READ, CARD}
 use Rattle.wire.specs.Proof.{PreparedProof}
 use Rattle.wire.specs.Sha256.{sha256}
 use Rattle.witness.proofs.Answers.{code}
-use Rattle.witness.proofs.Cast.{replica-1, replica-2, replica-3, client-1, client-2, 1·1, at-1·1, by-1-2-3, entry, from-replica, stale, one, four, service, service-digest, cards, right-digests, different-cards}
+use Rattle.witness.proofs.Cast.{replica-1, replica-2, replica-3, register-1, client-1, client-2, 1·1, at-1·1, by-1-2-3, entry, from-replica, stale, one, four, service, service-digest, cards, right-digests, different-cards}
 use Rattle.witness.proofs.Computing.{messages, steps, digests}
 use Rattle.witness.proofs.Replay.{plays, freshStore, played}
 use Rattle.witness.proofs.Story.{Line, _↝_, each, wellTold, told, Told, hasBytes, NoOtherCards, different-digests, finished-told}
@@ -32,7 +32,7 @@ pub record VerdictsNeeded : Type 0 where
   pub run : Run
   pub few-faulty : count (replicaCount (run .f)) (λ id. not (run .correct-replica id)) ≤ run .f
   pub different-digests : (card card′ : List ℕ) → CardOfRun run card → CardOfRun run card′ → sha256 card ≡ sha256 card′ → card ≡ card′
-  pub claims-fail : Claims run → ⊥
+  pub claims-fail : Claims run register-1 → ⊥
 
 -- ---- What happens: client 1 reads 1.1 and then client 2 reads 0.0, although nobody wrote
 
@@ -44,11 +44,11 @@ later id = CARD id 1 service (some proof) client-1
 
 story : List Line
 story =
-    begins-read client-1 ↝ send (READ client-1 1)
+    begins-read client-1 register-1 ↝ send (READ client-1 1)
     ∷ to-client client-1 (from-replica replica-1 later) four ↝ waits
     ∷ to-client client-1 (from-replica replica-2 later) four ↝ waits
     ∷ to-client client-1 (from-replica replica-3 later) four ↝ done at-1·1 service by-1-2-3
-    ∷ begins-read client-2 ↝ send (READ client-2 1)
+    ∷ begins-read client-2 register-1 ↝ send (READ client-2 1)
     ∷ to-client client-2 (from-replica replica-1 (stale 1 client-2)) one ↝ waits
     ∷ to-client client-2 (from-replica replica-2 (stale 1 client-2)) one ↝ waits
     ∷ to-client client-2 (from-replica replica-3 (stale 1 client-2)) one ↝ done start startCard empty
@@ -73,13 +73,13 @@ no-other-cards : NoOtherCards run story cards
 unfolding story messages cards
 no-other-cards = refl
 
-finished-later : Finished run
+finished-later : Finished run register-1
 unfolding story code messages
-finished-later = finished-told run story as-told client-1 0 3 _ _ _ at-1·1 service by-1-2-3 refl (lit< tt) refl refl refl false refl refl
+finished-later = finished-told run story as-told register-1 client-1 0 3 _ _ _ at-1·1 service by-1-2-3 refl (lit< tt) refl refl refl false refl refl
 
-finished-stale : Finished run
+finished-stale : Finished run register-1
 unfolding story code messages
-finished-stale = finished-told run story as-told client-2 4 7 _ _ _ start startCard empty refl (lit< tt) refl refl refl false refl refl
+finished-stale = finished-told run story as-told register-1 client-2 4 7 _ _ _ start startCard empty refl (lit< tt) refl refl refl false refl refl
 
 pub verdicts-needed : VerdictsNeeded
 unfolding run count within finished-told finished-later finished-stale
@@ -96,4 +96,4 @@ verdicts-needed =
 pub not-all-true : (needed : VerdictsNeeded) → ((t : ℕ) → TrueAt (needed .run) t (event (needed .run) t)) → ⊥
 not-all-true needed true-verdicts =
     needed .claims-fail
-    (demand-3 (needed .run) (record { few-faulty = needed .few-faulty; true-verdicts = true-verdicts; different-digests = needed .different-digests }))
+    (demand-3 (needed .run) (record { few-faulty = needed .few-faulty; true-verdicts = true-verdicts; different-digests = needed .different-digests }) register-1)

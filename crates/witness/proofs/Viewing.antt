@@ -21,7 +21,7 @@ use Rattle.run.specs.Run.{begins-read, to-replica, to-client, Run, event, Corre
 use Rattle.wire.specs.Acceptance.{replica}
 use Rattle.wire.specs.Message.{Message, READ}
 use Rattle.witness.proofs.Answers.{code}
-use Rattle.witness.proofs.Cast.{replica-1, replica-2, replica-3, replica-4, client-1, viewer-65, at-1·1, by-1-2-4, from-replica, from-client, stale, one, four, service, cards, right-digests, different-cards}
+use Rattle.witness.proofs.Cast.{replica-1, replica-2, replica-3, replica-4, register-1, client-1, viewer-65, at-1·1, by-1-2-4, from-replica, from-client, stale, one, four, service, cards, right-digests, different-cards}
 use Rattle.witness.proofs.Computing.{messages, steps, digests}
 use Rattle.witness.proofs.FirstWrite.{shows, write-under-way, write-done}
 use Rattle.witness.proofs.Replay.{plays, freshStore, played}
@@ -29,9 +29,9 @@ use Rattle.witness.proofs.Story.{Line, _↝_, each, wellTold, told, Tol
 
 -- A view begun after a write was done shows that write and its signers, although the CARD that makes its quorum is a faulty replica's and shows 0.0.
 pub record ShowsWrite (R : Run) : Type 0 where
-  pub write : Finished R
+  pub write : Finished R register-1
   pub write-is : (write .is-write ≡ true) × (write .timestamp ≡ at-1·1) × (write .card ≡ service) × (write .signers ≡ by-1-2-4)
-  pub view : Viewed R
+  pub view : Viewed R register-1
   pub begun-after : write .finished < view .begun
   pub faulty : ReplicaId
   pub is-faulty : Correct R (replica faulty) → ⊥
@@ -42,10 +42,10 @@ pub record ShowsWrite (R : Run) : Type 0 where
 -- While a write is under way a view shows its timestamp, and the viewing client's next view an earlier one. In an order by
 -- timestamps the second view would lie before the first, which was done before it began.
 pub record FallsBack (R : Run) : Type 0 where
-  pub write : Finished R
+  pub write : Finished R register-1
   pub is-write : write .is-write ≡ true
-  pub first : Viewed R
-  pub second : Viewed R
+  pub first : Viewed R register-1
+  pub second : Viewed R register-1
   pub one-client : first .id ≡ second .id
   pub under-way : (write .begun < first .begun) × (second .finished < write .finished)
   pub same-timestamp : first .timestamp ≡ write .timestamp
@@ -59,7 +59,7 @@ pub record FallsBack (R : Run) : Type 0 where
 -- A view, of six events: replicas a and b are asked, and b shows 0.0. So does replica 4, which is faulty and makes the quorum.
 abbrev view : ℕ → ReplicaId → (ℕ → ClientId → ReplicaId → Message) → List ℕ → ReplicaId → Answer → List Line
 view nonce a card verdicts b shown =
-    begins-read viewer-65 ↝ send (READ viewer-65 nonce)
+    begins-read viewer-65 register-1 ↝ send (READ viewer-65 nonce)
     ∷ to-replica a (from-client viewer-65 (READ viewer-65 nonce)) one ↝ send (card nonce viewer-65 a)
     ∷ to-replica b (from-client viewer-65 (READ viewer-65 nonce)) one ↝ send (stale nonce viewer-65 b)
     ∷ to-client viewer-65 (from-replica a (card nonce viewer-65)) verdicts ↝ waits
@@ -110,21 +110,21 @@ premises = premises-told run story as-told cards (lit≤ tt) verdicts-true no-ot
 
 -- ---- The write and the views
 
-write : Finished run
+write : Finished run register-1
 unfolding story code messages
-write = finished-told run story as-told client-1 0 27 _ _ _ at-1·1 service by-1-2-4 refl (lit< tt) refl refl refl true (service, refl) refl
+write = finished-told run story as-told register-1 client-1 0 27 _ _ _ at-1·1 service by-1-2-4 refl (lit< tt) refl refl refl true (service, refl) refl
 
-first-view : Viewed run
+first-view : Viewed run register-1
 unfolding story code messages
-first-view = viewed-told run story as-told viewer-65 12 17 _ _ _ at-1·1 service by-1-2-4 refl (lit< tt) refl refl refl refl refl
+first-view = viewed-told run story as-told register-1 viewer-65 12 17 _ _ _ at-1·1 service by-1-2-4 refl (lit< tt) refl refl refl refl refl
 
-second-view : Viewed run
+second-view : Viewed run register-1
 unfolding story code messages
-second-view = viewed-told run story as-told viewer-65 18 23 _ _ _ start startCard empty refl (lit< tt) refl refl refl refl refl
+second-view = viewed-told run story as-told register-1 viewer-65 18 23 _ _ _ start startCard empty refl (lit< tt) refl refl refl refl refl
 
-third-view : Viewed run
+third-view : Viewed run register-1
 unfolding story code messages
-third-view = viewed-told run story as-told viewer-65 28 33 _ _ _ at-1·1 service by-1-2-4 refl (lit< tt) refl refl refl refl refl
+third-view = viewed-told run story as-told register-1 viewer-65 28 33 _ _ _ at-1·1 service by-1-2-4 refl (lit< tt) refl refl refl refl refl
 
 pub shows-write : ShowsWrite run
 unfolding run story within finished-told viewed-told write third-view
@@ -143,11 +143,11 @@ shows-write =
 
 -- The claim about views, at this one.
 pub not-earlier : number (shows-write .write .timestamp) ≤ number (shows-write .view .timestamp)
-not-earlier = demand-3 run premises .view-after (shows-write .write) (shows-write .view) (shows-write .begun-after)
+not-earlier = demand-3 run premises register-1 .view-after (shows-write .write) (shows-write .view) (shows-write .begun-after)
 
 -- The theorem about signers, at this one.
-pub view-vouched : VouchedFor run (shows-write .view .timestamp) (shows-write .view .card) (shows-write .view .signers) (suc (shows-write .view .finished))
-view-vouched = vouching run premises .views (shows-write .view)
+pub view-vouched : VouchedFor run register-1 (shows-write .view .timestamp) (shows-write .view .card) (shows-write .view .signers) (suc (shows-write .view .finished))
+view-vouched = vouching run premises register-1 .views (shows-write .view)
 
 pub falls-back : FallsBack run
 unfolding finished-told viewed-told write first-view second-view

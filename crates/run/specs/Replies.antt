@@ -1,0 +1,59 @@
+-- Document 02, #103: "where a holder, set up alike in two runs, gets the same messages for a set in one order with the same marks, it gives
+-- the same replies and refusals for it."
+use mathlib.Core.Path.{_≡_}
+use mathlib.Core.Bool.{Bool, true, false, _&&_, cond}
+use mathlib.Core.List.{List, [], _∷_}
+use mathlib.Core.Option.{some}
+use Prim.Native.Nat.{ℕ, suc}
+use lib.Dec.{eqb}
+use Rattle.base.specs.Outcome.{Outcome, accepted, refused}
+use Rattle.base.specs.declared.party.RegisterId.{RegisterId}
+use Rattle.base.specs.declared.party.ReplicaId.{ReplicaId}
+use Rattle.protocol.specs.Client.{Answer}
+use Rattle.wire.specs.Decode.{registerIn, framed}
+use Rattle.run.specs.Run.{Event, begins-write, begins-read, to-replica, to-client, Run, answerTo}
+
+-- A message with its verdicts (marks).
+pub record Handed : Type 0 where
+  pub bytes : List ℕ
+  pub verdicts : List ℕ
+
+abbrev pub passes : Outcome (Unit {0}) → Bool
+passes (accepted done) = true
+passes (refused number) = false
+
+-- A message for register x: 2 to 4 let it through, and its register byte is x, which may be no register's number.
+abbrev pub isFor : RegisterId → List ℕ → Bool
+isFor x bytes = passes (framed bytes (accepted tt)) && eqb (registerIn bytes .0) (x .0)
+
+module _ (id : ReplicaId) (x : RegisterId) where
+  -- What replica `id` is handed for register x, of these events, in order.
+  abbrev pub handedIn : List Event → List Handed
+  handedIn [] = []
+  handedIn (begins-write at y card ∷ events) = handedIn events
+  handedIn (begins-read at y ∷ events) = handedIn events
+  handedIn (to-replica at bytes verdicts ∷ events) =
+      cond (eqb (at .0) (id .0) && isFor x bytes) (record { bytes = bytes; verdicts = verdicts } ∷ handedIn events) (handedIn events)
+  handedIn (to-client at bytes verdicts ∷ events) = handedIn events
+
+  -- What it answers, the first of these events being event t of the run.
+  abbrev pub answersIn : Run → ℕ → List Event → List (Outcome Answer)
+  answersIn R t [] = []
+  answersIn R t (begins-write at y card ∷ events) = answersIn R (suc t) events
+  answersIn R t (begins-read at y ∷ events) = answersIn R (suc t) events
+  answersIn R t (to-replica at bytes verdicts ∷ events) =
+      cond (eqb (at .0) (id .0) && isFor x bytes) (answerTo R t (some (to-replica at bytes verdicts)) ∷ answersIn R (suc t) events) (answersIn R (suc t) events)
+  answersIn R t (to-client at bytes verdicts ∷ events) = answersIn R (suc t) events
+
+abbrev pub handedFor : Run → ReplicaId → RegisterId → List Handed
+handedFor R id x = handedIn id x (R .events)
+
+-- Its replies, which are for register x as well, and its refusals.
+abbrev pub answersFor : Run → ReplicaId → RegisterId → List (Outcome Answer)
+answersFor R id x = answersIn id x R 0 (R .events)
+
+-- Set up alike: with the same f and the same number. For every x; where it is no register's number, all answers are refusals.
+abbrev pub SameReplies : Run → Run → Type 0
+SameReplies R R′ =
+    R .f ≡ R′ .f → (id : ReplicaId) → R .correct-replica id ≡ true → R′ .correct-replica id ≡ true → (x : RegisterId)
+    → handedFor R id x ≡ handedFor R′ id x → answersFor R id x ≡ answersFor R′ id x

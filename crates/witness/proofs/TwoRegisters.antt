@@ -1,0 +1,128 @@
+-- A run at f = 1 that meets the premises, in which one client writes registers 1 and 2 at one timestamp: one digest for each register, and so
+-- two for the timestamp. Assumes nothing.
+use mathlib.Core.Path.{_≡_, refl, ap}
+use mathlib.Core.Bool.{true}
+use mathlib.Core.List.{List, _∷_, _++_}
+use Prim.Native.Nat.{ℕ}
+use native.Mathlib.Omega.{arith}
+use lib.Dec.{lit<, lit≤}
+use lib.ListN.{getD}
+use Rattle.base.specs.Counting.{count}
+use Rattle.base.specs.Outcome.{refused}
+use Rattle.base.specs.Range.{within}
+use Rattle.run.proofs.Demand3.{demand-3}
+use Rattle.run.specs.Claims.{Finished, Genuine}
+use Rattle.run.specs.Premises.{Premises}
+use Rattle.run.specs.Run.{to-client, Run, answerAt}
+use Rattle.wire.specs.Proof.{PreparedProof}
+use Rattle.witness.proofs.Answers.{code}
+use Rattle.witness.proofs.Cast.{replica-1, register-1, register-2, client-1, at-1·1, by-1-2-4, from-replica, one, three, service, lathe, service-digest, lathe-digest, cards, right-digests, different-cards}
+use Rattle.witness.proofs.Computing.{messages, steps, digests}
+use Rattle.witness.proofs.FirstWrite.{proof-of, written, under-way, finishing}
+use Rattle.witness.proofs.Replay.{plays, freshStore, played}
+use Rattle.witness.proofs.Story.{Line, _↛_, each, wellTold, told, Told, hasBytes, NoOtherCards, AllTrue, trueVerdicts, premises-told, refused-told, finished-told, allBytes, genuine-told}
+
+-- Two writes of one client, of registers 1 and 2, at one timestamp with different cards; and a genuine prepared proof of each.
+pub record TwoDigests (R : Run) : Type 0 where
+  pub first : Finished R register-1
+  pub second : Finished R register-2
+  pub are-writes : (first .is-write ≡ true) × (second .is-write ≡ true)
+  pub one-client : first .id ≡ second .id
+  pub one-timestamp : first .timestamp ≡ second .timestamp
+  pub two-cards : first .card ≡ second .card → ⊥
+  pub proof : PreparedProof
+  pub proof′ : PreparedProof
+  pub genuine : Genuine R register-1 proof
+  pub genuine′ : Genuine R register-2 proof′
+  pub proofs-alike : proof .timestamp ≡ proof′ .timestamp
+  pub two-digests : proof .digest ≡ proof′ .digest → ⊥
+
+-- ---- What happens: replicas 1 to 3 and client 1 are correct
+
+story : List Line
+unfolding under-way finishing
+story =
+    -- 0 to 15: client 1 writes `service` to register 1.
+    under-way register-1 1 service service-digest
+    ++ finishing register-1 1 service service-digest
+    -- 16 to 27: then `lathe` to register 2, where nobody wrote: it asks for 1.1 again, and shows no written proof.
+    ++ under-way register-2 2 lathe lathe-digest
+    -- 28: a WRITTEN of 1.1 comes once more, but for register 1: it does not count.
+    ++ (to-client client-1 (from-replica replica-1 written) one ↛ 18
+    -- 29 to 32: the second write is done.
+    ∷ finishing register-2 2 lathe lathe-digest)
+
+well-told : each (wellTold 3 1) 0 story ≡ true
+unfolding story messages hasBytes
+well-told = refl
+
+pub run : Run
+run = told 3 1 (lit≤ tt) (lit≤ tt) story well-told
+
+answers-as-told : plays (freshStore run 1) story ≡ true
+unfolding run story steps digests plays
+answers-as-told = refl
+
+as-told : Told run story
+unfolding run
+as-told = played run 1 story refl answers-as-told
+
+verdicts-true : AllTrue run story
+unfolding run story messages trueVerdicts
+verdicts-true = refl
+
+no-other-cards : NoOtherCards run story cards
+unfolding story messages cards
+no-other-cards = refl
+
+pub premises : Premises run
+unfolding run count within
+premises = premises-told run story as-told cards (lit≤ tt) verdicts-true no-other-cards right-digests different-cards
+
+-- ---- The writes, and a genuine proof of each
+
+first-write : Finished run register-1
+unfolding story code messages
+first-write = finished-told run story as-told register-1 client-1 0 15 _ _ _ at-1·1 service by-1-2-4 refl (lit< tt) refl refl refl true (service, refl) refl
+
+second-write : Finished run register-2
+unfolding story code messages
+second-write = finished-told run story as-told register-2 client-1 16 32 _ _ _ at-1·1 lathe by-1-2-4 refl (lit< tt) refl refl refl true (lathe, refl) refl
+
+genuine-first : Genuine run register-1 (proof-of service-digest)
+unfolding run story steps allBytes trueVerdicts
+genuine-first = genuine-told run story as-told register-1 (proof-of service-digest) three refl refl refl refl refl
+
+genuine-second : Genuine run register-2 (proof-of lathe-digest)
+unfolding run story steps allBytes trueVerdicts
+genuine-second = genuine-told run story as-told register-2 (proof-of lathe-digest) three refl refl refl refl refl
+
+different : service-digest ≡ lathe-digest → ⊥
+different e = let first : _≡_ {A = ℕ} 0x1d 0x49 = ap (λ (digest : List ℕ). getD digest 0 0) e in omega arith
+
+pub two-digests : TwoDigests run
+unfolding finished-told first-write second-write
+two-digests =
+    record {
+      first = first-write;
+      second = second-write;
+      are-writes = (refl, refl);
+      one-client = refl;
+      one-timestamp = refl;
+      two-cards = λ e. let third : _≡_ {A = ℕ} 0x01 0x03 = ap (λ (card : List ℕ). getD card 2 0) e in omega arith;
+      proof = proof-of service-digest;
+      proof′ = proof-of lathe-digest;
+      genuine = genuine-first;
+      genuine′ = genuine-second;
+      proofs-alike = refl;
+      two-digests = different;
+    }
+
+-- What the theorem says of them: the second write's proof is genuine for its own register alone.
+pub not-for-the-other : Genuine run register-1 (proof-of lathe-digest) → ⊥
+not-for-the-other genuine = different (demand-3 run premises register-1 .one-digest (proof-of service-digest) (proof-of lathe-digest) genuine-first genuine refl)
+
+-- The WRITTEN of the other register is not awaited, although its timestamp is.
+pub refusal : answerAt run 28 ≡ refused 18
+unfolding story
+refusal = refused-told run story as-told 28 _ 18 refl
