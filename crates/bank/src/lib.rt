@@ -65,7 +65,7 @@ pub fn fresh(f: u8, id: ReplicaId) -> NewBank
 }
 
 // Where the register stands that a message is for, by the last byte before the signature. A message for none is refused wherever
-// it is judged, so that no test is made here.
+// it is judged, so that the tests and their order are the step's alone.
 fn place_of(message: &[u8]) -> usize
     ensures { λ r. ⌜ r ≡ registerPlace (lastRegister (now (message .entry))) ⌝ }
 {
