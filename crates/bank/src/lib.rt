@@ -13,9 +13,10 @@ use replica::fresh_register;
 use replica::register_in_place;
 use wire::parts::last_register;
 ghost use mathlib.Core.Path.{_≡_};
+ghost use Prim.Native.Nat.{_<_};
 ghost use Rattle.base.specs.Party.{registerPlace, replicaSetup, setupOutcome};
-ghost use Rattle.protocol.specs.Bank.{freshBank, madeBank};
 ghost use Rattle.wire.specs.Parts.{lastRegister};
+ghost use Rattle.protocol.specs.Bank.{partAt, withPartAt, freshBank, madeBank};
 ghost use Rattle.bank.specs.Stepping.{BankSteps};
 
 // A replica as it is set up. Where that is refused its record is a fresh one of replica 0, for f = 0.
@@ -60,11 +61,35 @@ pub fn fresh(f: u8, id: ReplicaId) -> NewBank
 }
 
 // Where the register stands that a message is for, found without a walk over its fields. A message for none is refused wherever it
-// is judged, so that no test is made here.
+// is judged, so that the tests and their order are the step's alone.
 fn place_of(message: &[u8]) -> usize
     ensures { λ r. ⌜ r ≡ registerPlace (lastRegister (now (message .entry))) ⌝ }
 {
     register_place(last_register(message))
+}
+
+// One register's part of a bank, by its place.
+fn part_at(bank: Bank, at: usize) -> Replica
+    requires { ⌜ at < 16 ⌝ }
+    ensures { λ r. ⌜ r ≡ partAt at bank ⌝ }
+{
+    let register = bank.registers[at];
+    Replica {
+        f: bank.f,
+        id: bank.id,
+        register: register,
+    }
+}
+
+// The bank with another part there.
+fn with_part_at(bank: Bank, at: usize, part: Replica) -> Bank
+    requires { ⌜ at < 16 ⌝ }
+    ensures { λ r. ⌜ r ≡ withPartAt at part bank ⌝ }
+{
+    let register = part.register;
+    let mut left = bank;
+    left.registers[at] = register;
+    left
 }
 
 // A message is handed to a replica, with a verdict for each signature and an output for the reply.
@@ -72,21 +97,13 @@ pub fn step(bank: Bank, message: &[u8], verdicts: &[u8], out: &mut [u8]) -> Bank
     ensures { λ r. ⌜ BankSteps bank (now (message .entry)) (now (verdicts .entry)) (now (out .entry)) (r .answer) (r .bank) (now (out .exit)) ⌝ }
 {
     let at = place_of(message);
-    let register = bank.registers[at];
-    let part = Replica {
-        f: bank.f,
-        id: bank.id,
-        register: register,
-    };
+    let part = part_at(bank, at);
     let stepped = replica::step(part, message, verdicts, out);
     let answer = stepped.answer;
     let next = stepped.replica;
-    let taken = next.register;
-    let mut left = bank;
-    left.registers[at] = taken;
     BankStepped {
         answer: answer,
-        bank: left,
+        bank: with_part_at(bank, at, next),
     }
 }
 

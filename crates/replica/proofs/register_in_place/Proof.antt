@@ -53,7 +53,7 @@ use Rattle.protocol.specs.declared.replica.Slots.{Slots}
 use Rattle.replica.specs.declared.Prepared.{Prepared}
 use Rattle.replica.specs.declared.Stepped.{Stepped}
 use Rattle.protocol.specs.Replica.{withSlots, withHeld}
-use Rattle.replica.specs.Stepping.{putting, changed, partOf, Steps, Changes}
+use Rattle.replica.specs.Stepping.{putting, partOf, Steps, Changes}
 use Rattle.base.proofs.party.ReplicaId as I
 use Rattle.base.proofs.party.ReplicaId.Laws as I′
 use Rattle.protocol.proofs.replica.Held as L

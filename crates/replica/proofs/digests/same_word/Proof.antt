@@ -1,5 +1,4 @@
 -- `replica::digests::same_word` meets its contract. Assumes nothing.
-use mathlib.Core.Path.{_≡_}
 use native.Mathlib.Omega.{arith}
 use borrow.Author.Needs.{needs}
 use Rattle.replica.proofs.Words.{word-same}
