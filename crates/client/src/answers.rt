@@ -34,6 +34,13 @@ pub(super) fn refused(number: u8, client: Client) -> Stepped
     plain(ClientAnswer::Refused(number), client)
 }
 
+// The reply counts, and the client waits in this phase.
+pub(super) fn waits(client: Client, phase: Phase) -> Stepped
+    ensures { λ r. ⌜ r ≡ plain ClientAnswer.Counted (withPhase phase client) ⌝ }
+{
+    plain(ClientAnswer::Counted, with_phase(client, phase))
+}
+
 // The message that was written is to be sent.
 pub(super) fn sent(encoded: Encoded, client: Client) -> Stepped
     ensures { λ r. ⌜ r ≡ sentAs encoded client ⌝ }

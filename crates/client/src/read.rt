@@ -1,9 +1,9 @@
 // The replies to READ: CARDs of a read or a view, and the WRITTENs that end a write-back.
 use crate::Stepped;
 use crate::answers::done;
-use crate::answers::plain;
 use crate::answers::refused;
 use crate::answers::sent;
+use crate::answers::waits;
 use crate::record::with_phase;
 use crate::replies::best_of;
 use crate::replies::is_awaited;
@@ -16,7 +16,6 @@ use base::refusal::NOT_AWAITED;
 use base::replica_set::ReplicaSet;
 use base::timestamp::Timestamp;
 use protocol::client::Client;
-use protocol::client::ClientAnswer;
 use protocol::client::Phase;
 ghost use mathlib.Core.Path.{_≡_};
 ghost use Prim.Native.Nat.{_≤_};
@@ -80,7 +79,7 @@ fn count_card(
     let f = client.f;
     if !counted.is_quorum(f) {
         let waiting = Phase::Cards(nonce, best, counted, showed);
-        return plain(ClientAnswer::Counted, with_phase(client, waiting));
+        return waits(client, waiting);
     }
     match role {
         Role::Ordinary => after_card(client, best, showed, out),
@@ -123,7 +122,7 @@ pub(super) fn after_write_back(client: Client, timestamp: Timestamp, counted: Re
 {
     if !counted.is_quorum(client.f) {
         let waiting = Phase::WriteBack(timestamp, counted);
-        return plain(ClientAnswer::Counted, with_phase(client, waiting));
+        return waits(client, waiting);
     }
     done(timestamp, client)
 }

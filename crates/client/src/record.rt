@@ -83,59 +83,54 @@ pub(super) fn beginning(
 }
 
 // The prepared proof of the bytes, with its signers, in place of the one that was kept.
-pub(super) fn with_proof(client: Client, proof: &[u8], signers: ReplicaSet) -> Client
+pub(super) fn with_proof(mut client: Client, proof: &[u8], signers: ReplicaSet) -> Client
     requires { ⌜ Whole (now proof) × (signers ≡ signerSet (preparedFrom (now proof) .entries)) ⌝ }
     ensures { λ r. ⌜ r ≡ withProof (preparedFrom (now (proof .entry))) client ⌝ }
 {
     let digest = digest_array(parts::digest(proof));
     let entries = entries_array(parts::entries(proof));
-    let mut next = client;
-    next.digest = digest;
-    next.signers = signers;
-    next.entry_count = parts::entry_count(proof);
-    next.entries = entries;
-    next
+    client.digest = digest;
+    client.signers = signers;
+    client.entry_count = parts::entry_count(proof);
+    client.entries = entries;
+    client
 }
 
-pub(super) fn with_card(client: Client, card: &[u8]) -> Client
+pub(super) fn with_card(mut client: Client, card: &[u8]) -> Client
     requires { ⌜ length (now card) ≤ 17 ⌝ }
     ensures { λ r. ⌜ r ≡ withCard (now (card .entry)) client ⌝ }
 {
     let kept = card_array(card);
-    let mut next = client;
-    next.card_length = card.len() as u8;
-    next.card = kept;
-    next
+    client.card_length = card.len() as u8;
+    client.card = kept;
+    client
 }
 
 // The digest of the card that is written; the best reply's proof is no longer needed.
-pub(super) fn with_digest(client: Client, digest: [u8; DIGEST]) -> Client
+pub(super) fn with_digest(mut client: Client, digest: [u8; DIGEST]) -> Client
     ensures { λ r. ⌜ r ≡ withDigest digest client ⌝ }
 {
-    let mut next = client;
-    next.digest = digest;
-    next.signers = ReplicaSet::empty();
-    next.entry_count = 0;
-    next.entries = [0; ENTRIES_ROOM];
-    next
+    client.digest = digest;
+    client.signers = ReplicaSet::empty();
+    client.entry_count = 0;
+    client.entries = [0; ENTRIES_ROOM];
+    client
 }
 
-pub(super) fn with_signatures(client: Client, signatures: [u8; SIGNATURES_ROOM]) -> Client
+pub(super) fn with_signatures(mut client: Client, signatures: [u8; SIGNATURES_ROOM]) -> Client
     ensures { λ r. ⌜ r ≡ withSignatures signatures client ⌝ }
 {
-    let mut next = client;
-    next.signatures = signatures;
-    next
+    client.signatures = signatures;
+    client
 }
 
 // The proof is built, and its signers are kept in place of the signatures.
-pub(super) fn with_signers(client: Client, signers: ReplicaSet) -> Client
+pub(super) fn with_signers(mut client: Client, signers: ReplicaSet) -> Client
     ensures { λ r. ⌜ r ≡ withSigners signers (withSignatures (replicate 1024 0) client) ⌝ }
 {
-    let mut next = client;
-    next.signatures = [0; SIGNATURES_ROOM];
-    next.signers = signers;
-    next
+    client.signatures = [0; SIGNATURES_ROOM];
+    client.signers = signers;
+    client
 }
 
 // The counted replicas and their signatures as a proof's entries.
@@ -147,7 +142,11 @@ pub(super) fn built(client: Client, counted: ReplicaSet) -> Built
 }
 
 // The client's own write is finished: its WRITTENs are the last written proof of its register.
-pub(super) fn with_last_written(client: Client, timestamp: Timestamp, counted: ReplicaSet) -> Client
+pub(super) fn with_last_written(
+    mut client: Client,
+    timestamp: Timestamp,
+    counted: ReplicaSet,
+) -> Client
     ensures { λ r. ⌜ r ≡ withLastWritten timestamp (built client counted (client .signatures)) client ⌝ }
 {
     let proof = built(client, counted);
@@ -159,9 +158,8 @@ pub(super) fn with_last_written(client: Client, timestamp: Timestamp, counted: R
     };
     let own = client.register;
     let at = register_place(own);
-    let mut next = client;
-    next.written[at] = last;
-    next
+    client.written[at] = last;
+    client
 }
 
 // The last written proof of the operation's register.

@@ -5,6 +5,7 @@ use crate::answers::done;
 use crate::answers::plain;
 use crate::answers::refused;
 use crate::answers::sent;
+use crate::answers::waits;
 use crate::record::built;
 use crate::record::last_written;
 use crate::record::with_digest;
@@ -84,10 +85,7 @@ fn after_stamp(
     if counted.is_quorum(client.f) {
         return to_prepare(client, best, out);
     }
-    plain(
-        ClientAnswer::Counted,
-        with_phase(client, Phase::Stamps(nonce, best, counted)),
-    )
+    waits(client, Phase::Stamps(nonce, best, counted))
 }
 
 // A STAMP, and the phase that it meets.
@@ -133,7 +131,7 @@ fn after_prepared(
 {
     if !counted.is_quorum(client.f) {
         let waiting = Phase::Prepareds(timestamp, counted);
-        return plain(ClientAnswer::Counted, with_phase(client, waiting));
+        return waits(client, waiting);
     }
     let proof = built(client, counted);
     let register = client.register;
@@ -189,7 +187,7 @@ fn after_written(client: Client, timestamp: Timestamp, counted: ReplicaSet) -> S
     let f = client.f;
     if !counted.is_quorum(f) {
         let waiting = Phase::Writtens(timestamp, counted);
-        return plain(ClientAnswer::Counted, with_phase(client, waiting));
+        return waits(client, waiting);
     }
     done(timestamp, with_last_written(client, timestamp, counted))
 }

@@ -92,7 +92,7 @@ fn addressed(command: Command, count: u8) -> Addressee
 }
 
 // A client's call, and what that leaves.
-fn client_turn(world: World, id: ClientId, call: Call, line: &[u8], store: &mut [u8]) -> Turned
+fn client_turn(mut world: World, id: ClientId, call: Call, line: &[u8], store: &mut [u8]) -> Turned
     ensures { λ r. ⌜ Plays (clientTurn world (now (store .entry)) id call (now (line .entry))) r (now (store .exit)) ⌝ }
 {
     let log = world.log;
@@ -103,11 +103,10 @@ fn client_turn(world: World, id: ClientId, call: Call, line: &[u8], store: &mut 
     let answer = stepped.answer;
     let card = stepped.card;
     let longer = logged(log, answer);
-    let mut after = world;
-    after.clients[i] = next;
-    after.log = longer;
+    world.clients[i] = next;
+    world.log = longer;
     Turned {
-        world: after,
+        world: world,
         saying: Saying {
             what: said(log.count, answer),
             card: card,
@@ -117,7 +116,7 @@ fn client_turn(world: World, id: ClientId, call: Call, line: &[u8], store: &mut 
 }
 
 // A replica's call, and what that leaves.
-fn replica_turn(world: World, id: ReplicaId, m: usize, store: &mut [u8]) -> Turned
+fn replica_turn(mut world: World, id: ReplicaId, m: usize, store: &mut [u8]) -> Turned
     ensures { λ r. ⌜ Plays (replicaTurn world (now (store .entry)) id m) r (now (store .exit)) ⌝ }
 {
     let log = world.log;
@@ -128,11 +127,10 @@ fn replica_turn(world: World, id: ReplicaId, m: usize, store: &mut [u8]) -> Turn
     let given = stepped.answer;
     let answer = reply(given);
     let longer = logged(log, answer);
-    let mut after = world;
-    after.replicas[i] = next;
-    after.log = longer;
+    world.replicas[i] = next;
+    world.log = longer;
     Turned {
-        world: after,
+        world: world,
         saying: without_card(said(log.count, answer)),
     }
 }

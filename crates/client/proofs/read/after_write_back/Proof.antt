@@ -12,8 +12,8 @@ use Rattle.client.proofs.read.after_write_back.Tie as tie
 returns : tie.Need-returns
 unfolding afterWriteBack
 returns c =
-    let a = c .before .before .before .before .args in
-    λ old before. rw (sym (c .before .before .before .is-quorum .ensures) ∙ not-true _ (c .before .before .if1 .taken)) (plain-call (c .plain .result) old (withPhase (WriteBack (a .timestamp) (a .counted)) (a .client)) Counted (rw (c .before .with-phase .ensures) at (c .plain .ensures)))
+    let a = c .before .before .before .args in
+    λ old before. rw (sym (c .before .before .is-quorum .ensures) ∙ not-true _ (c .before .if1 .taken)) (plain-call (c .waits .result) old (withPhase (WriteBack (a .timestamp) (a .counted)) (a .client)) Counted (c .waits .ensures))
 
 returns-2 : tie.Need-returns-2
 unfolding afterWriteBack
@@ -25,7 +25,6 @@ pub after-write-back-spec : {M : Type 1} → statement M
 after-write-back-spec =
     tie.close
     (tie.spec
-    (λ c κs. search needs)
     (λ c κs. search needs)
     (λ c κs. search needs)
     returns

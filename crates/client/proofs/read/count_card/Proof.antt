@@ -13,8 +13,8 @@ use Rattle.client.proofs.read.count_card.Tie as tie
 returns : tie.Need-returns
 unfolding countCard
 returns c =
-    let a = c .before .before .before .before .before .args in
-    λ before. rw (sym (c .before .before .before .is-quorum .ensures) ∙ not-true _ (c .before .before .if1 .taken)) (plain-call (c .plain .result) (a .out .now) (withPhase (Cards (a .nonce) (a .best) (a .counted) (a .showed)) (a .client)) Counted (rw (c .before .with-phase .ensures) at (c .plain .ensures)))
+    let a = c .before .before .before .before .args in
+    λ before. rw (sym (c .before .before .is-quorum .ensures) ∙ not-true _ (c .before .if1 .taken)) (plain-call (c .waits .result) (a .out .now) (withPhase (Cards (a .nonce) (a .best) (a .counted) (a .showed)) (a .client)) Counted (c .waits .ensures))
 
 returns-2 : tie.Need-returns-2
 unfolding countCard
@@ -34,7 +34,6 @@ pub count-card-spec : {M : Type 1} → statement M
 count-card-spec =
     tie.close
     (tie.spec
-    (λ c κs. search needs)
     (λ c κs. search needs)
     (λ c κs. search needs)
     returns

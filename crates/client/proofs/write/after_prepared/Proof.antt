@@ -18,8 +18,8 @@ use Rattle.client.proofs.write.after_prepared.Tie as tie
 returns : tie.Need-returns
 unfolding afterPrepared
 returns c =
-    let a = c .before .before .before .before .before .args in
-    λ before. rw (sym (c .before .before .before .is-quorum .ensures) ∙ not-true _ (c .before .before .if1 .taken)) (plain-call (c .plain .result) (a .out .now) (withPhase (Prepareds (a .timestamp) (a .counted)) (a .client)) Counted (rw (c .before .with-phase .ensures) at (c .plain .ensures)))
+    let a = c .before .before .before .before .args in
+    λ before. rw (sym (c .before .before .is-quorum .ensures) ∙ not-true _ (c .before .if1 .taken)) (plain-call (c .waits .result) (a .out .now) (withPhase (Prepareds (a .timestamp) (a .counted)) (a .client)) Counted (c .waits .ensures))
 
 returns-2 : tie.Need-returns-2
 unfolding afterPrepared
@@ -34,7 +34,7 @@ returns-2 c =
     let made = kept-built (a .client) (a .counted) long (b .built .result .count) (b .built .result .signers) (b .built .result .entries) (b .built .ensures) in
     let proof : PreparedProof = record { timestamp = number (a .timestamp); digest = a .client .digest; entries = built (a .client) (a .counted) signatures } in
     let to = withPhase (Writtens (a .timestamp) empty) (withSigners (signerSet (proof .entries)) (withSignatures (zeros 1_024) (a .client))) in
-    let sent = rw (c .before .with-phase2 .ensures, c .before .before .with-signers .ensures, b .built .ensures .who, c .before .before .before .empty .ensures) at (c .sent .ensures) in
+    let sent = rw (c .before .with-phase .ensures, c .before .before .with-signers .ensures, b .built .ensures .who, c .before .before .before .empty .ensures) at (c .sent .ensures) in
     λ before. rw (sym (enough .before .is-quorum .ensures) ∙ not-false _ (enough .if1 .left))
     (sends (a .out .now) (wrote .write-write .last .0) (WRITE (a .client .id) (currentCard (a .client)) proof) (s .pre) (wrote .write-write .result) (c .sent .result) to (rw made at (wrote .write-write .ensures)) sent)
 
@@ -42,7 +42,6 @@ pub after-prepared-spec : {M : Type 1} → statement M
 after-prepared-spec =
     tie.close
     (tie.spec
-    (λ c κs. search needs)
     (λ c κs. search needs)
     (λ c κs. search needs)
     returns

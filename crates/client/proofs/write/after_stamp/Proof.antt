@@ -15,8 +15,8 @@ returns c = λ before. rw (sym (c .before .before .before .before .before .is-qu
 returns-2 : tie.Need-returns-2
 unfolding afterStamp
 returns-2 c =
-    let a = c .before .before .before .before .before .args in
-    λ before. rw (sym (c .before .before .before .is-quorum .ensures) ∙ c .before .before .if1 .left) (plain-call (c .plain .result) (a .out .now) (withPhase (Stamps (a .nonce) (a .best) (a .counted)) (a .client)) Counted (rw (c .before .with-phase .ensures) at (c .plain .ensures)))
+    let a = c .before .before .before .before .args in
+    λ before. rw (sym (c .before .before .is-quorum .ensures) ∙ c .before .if1 .left) (plain-call (c .waits .result) (a .out .now) (withPhase (Stamps (a .nonce) (a .best) (a .counted)) (a .client)) Counted (c .waits .ensures))
 
 pub after-stamp-spec : {M : Type 1} → statement M
 after-stamp-spec =
@@ -26,6 +26,5 @@ after-stamp-spec =
     (λ c κs. search needs)
     (λ c. search needs)
     returns
-    (λ c κs. search needs)
     (λ c κs. search needs)
     returns-2)
