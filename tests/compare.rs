@@ -169,8 +169,7 @@ fn compare_script(program: &str, seed: u64, script: Script, tally: &mut Tally) -
 fn compare(program: &str, seed: u64, calls: usize) -> io::Result<bool> {
     let mut random = random::Random::new(seed);
     let mut tally = Tally::default();
-    for fixed in [generate::every_sender, generate::every_register] {
-        let script = fixed(&mut random);
+    for script in generate::fixed(&mut random) {
         if !compare_script(program, seed, script, &mut tally)? {
             return Ok(false);
         }

@@ -251,7 +251,7 @@ pub fn script(random: &mut Random) -> Script {
 }
 
 /// A request of each kind from each number at one replica, so that none is left to chance.
-pub fn every_sender(random: &mut Random) -> Script {
+fn every_sender(random: &mut Random) -> Script {
     let mut script = Script::default();
     script.add("replica 1 1".to_string());
     for kind in READ_TIMESTAMP..=READ {
@@ -263,8 +263,8 @@ pub fn every_sender(random: &mut Random) -> Script {
     script
 }
 
-/// Every call for each number of a register, and a reply for each to a client and a viewing client that wait for each.
-pub fn every_register(random: &mut Random) -> Script {
+/// Every request and every beginning for each number of a register.
+fn every_register(random: &mut Random) -> Script {
     let mut script = Script::default();
     script.add("replica 1 1".to_string());
     for kind in [WRITE, PREPARE, READ_TIMESTAMP, READ] {
@@ -280,15 +280,26 @@ pub fn every_register(random: &mut Random) -> Script {
             begin_afresh(&mut script, id, register);
         }
     }
-    for register in REGISTERS {
-        for id in [1, 65] {
-            begin_afresh(&mut script, id, register);
-            for shown in 0..=u8::MAX {
-                hand_first_card(&mut script, id, shown);
-            }
+    script
+}
+
+/// A reply for each number of a register, to a client and a viewing client that wait for this one.
+fn every_reply(awaited: u8) -> Script {
+    let mut script = Script::default();
+    for id in [1, 65] {
+        begin_afresh(&mut script, id, awaited);
+        for register in 0..=u8::MAX {
+            hand_first_card(&mut script, id, register);
         }
     }
     script
+}
+
+/// What every comparison begins with. The replies are a script for each register: `scripts` takes 1 MiB of one.
+pub fn fixed(random: &mut Random) -> Vec<Script> {
+    let mut scripts = vec![every_sender(random), every_register(random)];
+    scripts.extend(REGISTERS.map(every_reply));
+    scripts
 }
 
 /// A read or a view by a party with no other operation.

@@ -235,8 +235,9 @@ fn compare(script: &Script, tally: &mut Tally) -> Result<(), String> {
 fn compare_scripts(seed: u64, calls: usize) -> Result<Tally, String> {
     let mut random = random::Random::new(seed);
     let mut tally = Tally::default();
-    compare(&generate::every_sender(&mut random), &mut tally)?;
-    compare(&generate::every_register(&mut random), &mut tally)?;
+    for script in generate::fixed(&mut random) {
+        compare(&script, &mut tally)?;
+    }
     while tally.calls < calls {
         compare(&generate::script(&mut random), &mut tally)?;
     }
