@@ -1,5 +1,6 @@
 pub mod Asked
 pub mod Cells
+pub mod Lending
 pub mod Replies
 pub mod Slots
 pub mod Words

@@ -15,13 +15,14 @@ use Rattle.replica.specs.declared.Prepared.{Prepared}
 use Rattle.replica.specs.declared.Stepped.{Stepped}
 
 -- The slots with what a PREPARE puts: its client's slot, and the written timestamp.
+abbrev pub puttingCount : Prepared → List ℕ → List ℕ
+puttingCount prepared counts = set counts (prepared .client .0 - 1) (prepared .count)
+
+abbrev pub puttingDigest : Prepared → List ℕ → List ℕ
+puttingDigest prepared digests = take (32 * (prepared .client .0 - 1)) digests ++ (prepared .digest ++ drop (32 * prepared .client .0) digests)
+
 abbrev pub putting : Prepared → Slots → Slots
-putting prepared slots =
-    record {
-      counts = set (slots .counts) (prepared .client .0 - 1) (prepared .count);
-      digests = take (32 * (prepared .client .0 - 1)) (slots .digests) ++ (prepared .digest ++ drop (32 * prepared .client .0) (slots .digests));
-      written = prepared .written;
-    }
+putting prepared slots = record { counts = puttingCount prepared (slots .counts); digests = puttingDigest prepared (slots .digests); written = prepared .written }
 
 -- What a step says that it changed: what is held, else the slots, else nothing.
 abbrev pub changed : Stepped → Replica → Replica

@@ -108,7 +108,9 @@ pub fn register_in_place(
     if stepped.holds {
         register.held = stepped.held;
     } else if stepped.prepares {
-        register.slots = register::put_slot(register.slots, stepped.prepared);
+        register::put_count(&mut register.slots.counts, stepped.prepared);
+        register::put_digest(&mut register.slots.digests, stepped.prepared);
+        register.slots.written = stepped.prepared.written;
     }
     stepped.answer
 }

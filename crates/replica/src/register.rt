@@ -7,6 +7,7 @@ use base::replica_set::ReplicaSet;
 use base::timestamp::Timestamp;
 use protocol::replica::Held;
 use protocol::replica::SLOT_DIGESTS;
+use protocol::replica::SLOTS;
 use protocol::replica::Slots;
 use wire::arrays::card_array;
 use wire::arrays::digest_array;
@@ -16,8 +17,7 @@ use wire::parts;
 ghost use mathlib.Core.Path.{_≡_};
 ghost use mathlib.Core.Bool.{_&&_, _||_};
 ghost use lib.Dec.{eqb};
-ghost use mathlib.Core.List.{_++_};
-ghost use Prim.Native.Nat.{_+_, _-_, _*_, _≤_, max};
+ghost use Prim.Native.Nat.{_-_, _*_, _≤_, max};
 ghost use lib.ListN.{length, take, drop};
 ghost use Rattle.base.specs.Same.{same};
 ghost use Rattle.base.specs.Timestamp.{number};
@@ -25,7 +25,7 @@ ghost use Rattle.protocol.specs.Replica.{holding};
 ghost use Rattle.wire.specs.Parts.{Whole};
 ghost use Rattle.wire.specs.Proof.{preparedFrom, signerSet};
 ghost use Rattle.replica.specs.Kinds.{isSlot, takesSlot};
-ghost use Rattle.replica.specs.Stepping.{putting};
+ghost use Rattle.replica.specs.Stepping.{puttingCount, puttingDigest, putting};
 
 // Whether a client's slot has this digest. The digests are copied here, where they are read.
 fn has_digest(digests: [u8; SLOT_DIGESTS], client: ClientId, digest: &[u8; DIGEST]) -> bool
@@ -108,12 +108,22 @@ pub(super) fn is_kept(again: bool, before: Timestamp, written: Timestamp) -> boo
     again
 }
 
-// A slot's digest stored among those of all slots.
-fn put_digest(digests: &mut [u8; SLOT_DIGESTS], at: usize, digest: &[u8; DIGEST])
-    requires { ⌜ at + 32 ≤ 2048 ⌝ }
-    ensures { λ _. ⌜ now (digests .exit) ≡ take at (now (digests .entry)) ++ (now (digest .entry) ++ drop (at + 32) (now (digests .entry))) ⌝ }
+// A slot's count, and its digest, stored among those of all slots.
+pub(super) fn put_count(counts: &mut [u32; SLOTS], prepared: Prepared)
+    requires { ⌜ (1 ≤ prepared .client .0) × (prepared .client .0 ≤ 64) ⌝ }
+    ensures { λ _. ⌜ now (counts .exit) ≡ puttingCount prepared (now (counts .entry)) ⌝ }
 {
-    put(digests, at, digest);
+    let at = prepared.client.0 as usize - 1;
+    counts[at] = prepared.count;
+}
+
+pub(super) fn put_digest(digests: &mut [u8; SLOT_DIGESTS], prepared: Prepared)
+    requires { ⌜ (1 ≤ prepared .client .0) × (prepared .client .0 ≤ 64) ⌝ }
+    ensures { λ _. ⌜ now (digests .exit) ≡ puttingDigest prepared (now (digests .entry)) ⌝ }
+{
+    let at = prepared.client.0 as usize - 1;
+    let digest = prepared.digest;
+    put(digests, 32 * at, &digest);
 }
 
 // The slots with what a PREPARE puts.
@@ -121,11 +131,9 @@ pub(super) fn put_slot(slots: Slots, prepared: Prepared) -> Slots
     requires { ⌜ (1 ≤ prepared .client .0) × (prepared .client .0 ≤ 64) ⌝ }
     ensures { λ r. ⌜ r ≡ putting prepared slots ⌝ }
 {
-    let at = prepared.client.0 as usize - 1;
-    let digest = prepared.digest;
     let mut next = slots;
-    next.counts[at] = prepared.count;
-    put_digest(&mut next.digests, 32 * at, &digest);
+    put_count(&mut next.counts, prepared);
+    put_digest(&mut next.digests, prepared);
     let written = prepared.written;
     next.written = written;
     next
