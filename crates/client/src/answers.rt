@@ -35,10 +35,11 @@ pub(super) fn refused(number: u8, client: Client) -> Stepped
 }
 
 // The reply counts, and the client waits in this phase.
-pub(super) fn waits(client: Client, phase: Phase) -> Stepped
+pub(super) fn waits(mut client: Client, phase: Phase) -> Stepped
     ensures { λ r. ⌜ r ≡ plain ClientAnswer.Counted (withPhase phase client) ⌝ }
 {
-    plain(ClientAnswer::Counted, with_phase(client, phase))
+    client = with_phase(client, phase);
+    plain(ClientAnswer::Counted, client)
 }
 
 // The message that was written is to be sent.

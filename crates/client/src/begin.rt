@@ -50,7 +50,7 @@ pub(super) fn may_begin(client: Client) -> bool
 }
 
 pub(super) fn ask_stamps(
-    client: Client,
+    mut client: Client,
     register: RegisterId,
     card: &[u8],
     out: &mut [u8],
@@ -65,10 +65,11 @@ pub(super) fn ask_stamps(
     let id = client.id;
     let encoded = wire::writer::write_read_stamp(out, register, id, nonce);
     let waiting = Phase::Stamps(nonce, Timestamp::start(), ReplicaSet::empty());
-    sent(encoded, beginning(client, register, nonce, waiting, card))
+    client = beginning(client, register, nonce, waiting, card);
+    sent(encoded, client)
 }
 
-pub(super) fn ask_cards(client: Client, register: RegisterId, out: &mut [u8]) -> Stepped
+pub(super) fn ask_cards(mut client: Client, register: RegisterId, out: &mut [u8]) -> Stepped
     requires { ⌜ (longest ≤ length (now out)) × (mayBegin client ≡ true) ⌝ }
     ensures { λ r. ⌜ Takes (now (out .entry))
         (turn (send (READ (client .id) (client .«last_nonce» + 1)))
@@ -82,5 +83,6 @@ pub(super) fn ask_cards(client: Client, register: RegisterId, out: &mut [u8]) ->
     let waiting = Phase::Cards(nonce, Timestamp::start(), none, none);
     // The starting card, until a reply has a later one.
     let card = [0u8; 2];
-    sent(encoded, beginning(client, register, nonce, waiting, &card))
+    client = beginning(client, register, nonce, waiting, &card);
+    sent(encoded, client)
 }

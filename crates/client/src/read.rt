@@ -27,7 +27,7 @@ ghost use Rattle.client.specs.Roles.{afterCards};
 ghost use Rattle.client.specs.Leaving.{callOf, Takes, TakesAny};
 
 // WRITE the best card with its proof; the replicas that showed it count.
-fn write_back(client: Client, best: Timestamp, showed: ReplicaSet, out: &mut [u8]) -> Stepped
+fn write_back(mut client: Client, best: Timestamp, showed: ReplicaSet, out: &mut [u8]) -> Stepped
     requires { ⌜ longest ≤ length (now out) ⌝ }
     ensures { λ r. ⌜ Takes (now (out .entry))
         (turn (send (WRITE (client .id) (currentCard client) (bestProof client best))) (withPhase (Phase.WriteBack best showed) client))
@@ -49,7 +49,8 @@ fn write_back(client: Client, best: Timestamp, showed: ReplicaSet, out: &mut [u8
         client.entry_count,
         &entries,
     );
-    sent(encoded, with_phase(client, Phase::WriteBack(best, showed)))
+    client = with_phase(client, Phase::WriteBack(best, showed));
+    sent(encoded, client)
 }
 
 // A read has its q CARDs.
@@ -89,7 +90,7 @@ fn count_card(
 
 // A CARD that passed test 14, and the phase that it meets.
 pub(super) fn on_card<'a>(
-    client: Client,
+    mut client: Client,
     phase: Phase,
     sender: ReplicaId,
     nonce: u64,
@@ -112,8 +113,8 @@ pub(super) fn on_card<'a>(
     }
     let later = best_of(best, proof);
     let shown = showed_by(best, proof, sender, showed);
-    let kept = keep_better_card(client, best, card, proof, signers);
-    count_card(kept, asked, later, counted.with(sender), shown, role, out)
+    client = keep_better_card(client, best, card, proof, signers);
+    count_card(client, asked, later, counted.with(sender), shown, role, out)
 }
 
 // A WRITTEN more was taken in a write-back: with those that showed the timestamp, q end the read.

@@ -83,7 +83,7 @@ pub(super) fn keep_better(
 }
 
 pub(super) fn keep_better_card<'a>(
-    client: Client,
+    mut client: Client,
     best: Timestamp,
     card: &'a [u8],
     proof: &'a [u8],
@@ -95,7 +95,8 @@ pub(super) fn keep_better_card<'a>(
     if !is_better(best, proof) {
         return client;
     }
-    with_card(with_proof(client, proof, signers), card)
+    client = with_proof(client, proof, signers);
+    with_card(client, card)
 }
 
 // The replicas that showed the largest timestamp.

@@ -38,14 +38,15 @@ ghost use Rattle.protocol.specs.Client.{clientAnswers, toPrepare, afterStamp, o
 ghost use Rattle.client.specs.Leaving.{callOf, Takes, TakesAny};
 
 // PREPARE the successor of the largest timestamp. The last count has none: the write ends.
-fn to_prepare(client: Client, best: Timestamp, out: &mut [u8]) -> Stepped
+fn to_prepare(mut client: Client, best: Timestamp, out: &mut [u8]) -> Stepped
     requires { ⌜ longest ≤ length (now out) ⌝ }
     ensures { λ r. ⌜ Takes (now (out .entry)) (toPrepare client best (successor best (client .id))) r (now (out .exit)) ⌝ }
 {
     let id = client.id;
     let register = client.register;
     let Successor::Next(next) = best.successor(id) else {
-        return plain(ClientAnswer::Ended, with_phase(client, Phase::Idle));
+        client = with_phase(client, Phase::Idle);
+        return plain(ClientAnswer::Ended, client);
     };
     let digest = card_digest(client);
     let best_digest = client.digest;
@@ -68,7 +69,9 @@ fn to_prepare(client: Client, best: Timestamp, out: &mut [u8]) -> Stepped
         &last_entries,
     );
     let waiting = Phase::Prepareds(next, ReplicaSet::empty());
-    sent(encoded, with_phase(with_digest(client, digest), waiting))
+    client = with_digest(client, digest);
+    client = with_phase(client, waiting);
+    sent(encoded, client)
 }
 
 // A STAMP more was taken.
@@ -90,7 +93,7 @@ fn after_stamp(
 
 // A STAMP, and the phase that it meets.
 pub(super) fn on_stamp(
-    client: Client,
+    mut client: Client,
     phase: Phase,
     sender: ReplicaId,
     nonce: u64,
@@ -110,18 +113,13 @@ pub(super) fn on_stamp(
         return refused(NOT_AWAITED, client);
     }
     let later = best_of(best, proof);
-    after_stamp(
-        keep_better(client, best, proof, signers),
-        asked,
-        later,
-        counted.with(sender),
-        out,
-    )
+    client = keep_better(client, best, proof, signers);
+    after_stamp(client, asked, later, counted.with(sender), out)
 }
 
 // A PREPARED more was taken: from q of them the proof is built, and WRITE sent.
 fn after_prepared(
-    client: Client,
+    mut client: Client,
     timestamp: Timestamp,
     counted: ReplicaSet,
     out: &mut [u8],
@@ -152,12 +150,14 @@ fn after_prepared(
         &entries,
     );
     let waiting = Phase::Writtens(timestamp, ReplicaSet::empty());
-    sent(encoded, with_phase(with_signers(client, signers), waiting))
+    client = with_signers(client, signers);
+    client = with_phase(client, waiting);
+    sent(encoded, client)
 }
 
 // A PREPARED, and the phase that it meets.
 pub(super) fn on_prepared<'a>(
-    client: Client,
+    mut client: Client,
     phase: Phase,
     sender: ReplicaId,
     timestamp: Timestamp,
@@ -176,12 +176,12 @@ pub(super) fn on_prepared<'a>(
         return refused(NOT_AWAITED, client);
     }
     let signatures = client.signatures;
-    let signed = with_signatures(client, with_signature(signatures, sender, signature));
-    after_prepared(signed, asked, counted.with(sender), out)
+    client = with_signatures(client, with_signature(signatures, sender, signature));
+    after_prepared(client, asked, counted.with(sender), out)
 }
 
 // A WRITTEN more was taken: q of them end the write, and are the next written proof.
-fn after_written(client: Client, timestamp: Timestamp, counted: ReplicaSet) -> Stepped
+fn after_written(mut client: Client, timestamp: Timestamp, counted: ReplicaSet) -> Stepped
     ensures { λ r. ⌜ TakesAny (afterWritten timestamp counted client) r ⌝ }
 {
     let f = client.f;
@@ -189,12 +189,13 @@ fn after_written(client: Client, timestamp: Timestamp, counted: ReplicaSet) -> S
         let waiting = Phase::Writtens(timestamp, counted);
         return waits(client, waiting);
     }
-    done(timestamp, with_last_written(client, timestamp, counted))
+    client = with_last_written(client, timestamp, counted);
+    done(timestamp, client)
 }
 
 // A WRITTEN to a client that waits for them to end its write.
 pub(super) fn count_written(
-    client: Client,
+    mut client: Client,
     asked: Timestamp,
     counted: ReplicaSet,
     sender: ReplicaId,
@@ -204,6 +205,6 @@ pub(super) fn count_written(
     ensures { λ r. ⌜ TakesAny (afterWritten asked (with counted sender) (withSignatures (withSignature (client .signatures) sender (now (signature .entry))) client)) r ⌝ }
 {
     let signatures = client.signatures;
-    let signed = with_signatures(client, with_signature(signatures, sender, signature));
-    after_written(signed, asked, counted.with(sender))
+    client = with_signatures(client, with_signature(signatures, sender, signature));
+    after_written(client, asked, counted.with(sender))
 }
