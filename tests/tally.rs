@@ -33,6 +33,16 @@ pub const NO_PROOF: &str = "no proof";
 /// Refused with 20 for the number beside the registers, below or above, or not refused for the last one.
 const REGISTER: [&str; 3] = ["register 0", "register 17", "register 16"];
 
+/// What beginning a read or a view can answer.
+const BEGIN_READ: [&str; 6] = [
+    "READ",
+    LENT[0],
+    LENT[1],
+    REGISTER[0],
+    REGISTER[1],
+    REGISTER[2],
+];
+
 /// What a line is: the set-up, keeping and restoring of a party, or a call.
 struct Column {
     name: &'static str,
@@ -77,27 +87,13 @@ const COLUMNS: [Column; 9] = [
     Column {
         name: "read",
         is_call: true,
-        rows: &[
-            "READ",
-            LENT[0],
-            LENT[1],
-            REGISTER[0],
-            REGISTER[1],
-            REGISTER[2],
-        ],
+        rows: &BEGIN_READ,
         refusals: &[1, 17, 20],
     },
     Column {
         name: "view",
         is_call: true,
-        rows: &[
-            "READ",
-            LENT[0],
-            LENT[1],
-            REGISTER[0],
-            REGISTER[1],
-            REGISTER[2],
-        ],
+        rows: &BEGIN_READ,
         refusals: &[1, 17, 20],
     },
     Column {
