@@ -118,6 +118,7 @@ fn take_card(
     requires { ⌜ (longest ≤ length (now out)) × Passing (client .f) (now message) fields × SignedBy (now message) fields signers × (fields .kind ≡ 8) ⌝ }
     ensures { λ r. ⌜ callOf r (now (out .exit)) ≡ clientAnswers client (now (out .entry)) (afterTests role client (now (message .entry))) ⌝ }
 {
+    let phase = awaiting(client, fields);
     let card_at = fields.card;
     let proof_at = fields.prepared;
     let card = parts::card(message, card_at);
@@ -125,7 +126,6 @@ fn take_card(
     if !card_stands(card, proof) {
         return refused(BAD_CARD, client);
     }
-    let phase = awaiting(client, fields);
     let addressed = fields.addressed;
     let sender = ReplicaId(fields.sender);
     on_card(

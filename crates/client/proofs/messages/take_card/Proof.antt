@@ -16,8 +16,11 @@ use Rattle.client.proofs.Parting.{card-step, proof-there, standing-shor
 use Rattle.client.proofs.messages.take_card.Statement.{statement}
 use Rattle.client.proofs.messages.take_card.Tie as tie
 
+abbrev waits : tie.After-part → tie.After-awaiting
+waits c = c .before .before .before .before
+
 abbrev start : tie.After-part → tie.Start
-start c = c .before .before .before .before .before .before
+start c = waits c .before .before .before
 
 -- Test 14 as the code asks it.
 asked : (c : tie.After-card-stands)
@@ -40,7 +43,7 @@ returns c =
 
 on-card-requires : tie.Need-on-card-requires
 on-card-requires c κs =
-    let e = c .before .before .before in
+    let e = c .before .before in
     let x = e .before in
     let s = start (x .before) in
     let a = s .args in
@@ -50,16 +53,15 @@ on-card-requires c κs =
 returns-2 : tie.Need-returns-2
 returns-2 c =
     let o = c .before .before in
-    let w = o .before .before .before in
-    let e = w .before in
+    let e = o .before .before .before in
     let x = e .before in
     let p = x .before in
     let s = start p in
     let a = s .args in
     let fields = a .fields in
-    rw (card-step (a .client) (a .message .now) fields (s .pre .1) (a .role) (s .pre .3), guard-passes 14 _ _ (asked x ∙ not-false _ (e .if1 .left)), ← w .awaiting .ensures)
+    rw (card-step (a .client) (a .message .now) fields (s .pre .1) (a .role) (s .pre .3), guard-passes 14 _ _ (asked x ∙ not-false _ (e .if1 .left)), ← waits p .awaiting .ensures)
     (o .on-card .ensures
-    ∙ ap₂ (λ (card proof : List ℕ). clientAnswers (a .client) (a .out .now) (onCard (afterCards (a .role)) (a .client) (replica (fields .sender)) (fields .nonce) card (preparedPart proof) (fields .addressed) (w .awaiting .result))) (p .before .card .ensures) (p .part .ensures))
+    ∙ ap₂ (λ (card proof : List ℕ). clientAnswers (a .client) (a .out .now) (onCard (afterCards (a .role)) (a .client) (replica (fields .sender)) (fields .nonce) card (preparedPart proof) (fields .addressed) (waits p .awaiting .result))) (p .before .card .ensures) (p .part .ensures))
 
 pub take-card-spec : {M : Type 1} → statement M
 take-card-spec =
@@ -67,10 +69,10 @@ take-card-spec =
     (tie.spec
     (λ c κs. search needs)
     (λ c κs. search needs)
+    (λ c κs. search needs)
     card-stands-requires
     (λ c κs. search needs)
     returns
-    (λ c κs. search needs)
     on-card-requires
     (λ c. search needs)
     returns-2)
