@@ -1,4 +1,4 @@
-// Digests compared word by word: one that was just made then stays in registers.
+// Digests compared word by word, which takes a WRITE fewer instructions than byte by byte (docs/SPEED.md).
 use base::big_endian::from_four;
 use wire::layout::DIGEST;
 ghost use mathlib.Core.Path.{_≡_};
