@@ -1,4 +1,5 @@
-// Prints SHA-256 digests, a line each: FIPS 180-4's example messages, then a message of each length at which the padding changes.
+// Prints SHA-256 digests, a line each: FIPS 180-4's example messages, then a message of each length at which the padding changes,
+// of those around the longest, and of one that would be short to whoever counts in 16 bits.
 use libc::STDOUT_FILENO;
 
 // The digit of the low four bits.
@@ -82,10 +83,11 @@ fn show_lengths(pattern: &[u8]) {
     show_front(pattern, 4095);
     show_front(pattern, 4096);
     show_front(pattern, 4097);
+    show_front(pattern, 65_546);
 }
 
 fn main() {
-    let mut pattern = [0u8; 4097];
+    let mut pattern = [0u8; 65_546];
     fill(&mut pattern);
     show_vectors();
     show_lengths(&pattern);

@@ -1,4 +1,8 @@
 // SHA-256 (FIPS 180-4) of a message of up to 4,096 bytes, block by block.
+//
+// The digest routine is `sha256` with what it calls in this file and in the folder sha256. It makes no padded copy of its input:
+// tests/digest-arrays allows no array of over 128 entries here. What calls it, but for its form for Rust and C, stays in other
+// files, where a longer message may be put together.
 mod functions;
 mod padding;
 mod rounds;
