@@ -136,15 +136,20 @@ function seek(i, word) {
     return i
 }
 
-# What the constant `name` is, which `file` declares or imports once.
-function constant(file, name, steps,    i, value, found) {
-    value = unknown
-    for (i = first[file]; i < last[file]; i++)
+# The token behind token i, or behind the bracket that it opens.
+function after(i) {
+    return ((i in closing) ? closing[i] : i) + 1
+}
+
+# What the constant `name` is. What stands in brackets, as in an `impl`, goes by a longer name.
+function constant(file, name, steps,    i) {
+    for (i = first[file]; i < last[file]; i = after(i)) {
         if (token[i] == "const" && token[i + 1] == name)
-            value = found++ ? unknown : length_at(file, seek(i, "=") + 1, seek(i, ";") - 1, steps)
-        else if (token[i] == "use" && token[seek(i, ";") - 1] == name)
-            value = found++ ? unknown : length_at(file, i + 1, seek(i, ";") - 1, steps)
-    return value
+            return length_at(file, seek(i, "=") + 1, seek(i, ";") - 1, steps)
+        if (token[i] == "use" && token[seek(i, ";") - 1] == name)
+            return length_at(file, i + 1, seek(i, ";") - 1, steps)
+    }
+    return unknown
 }
 
 # What the tokens from..to are: a number, or a path to a constant, which may lead to another one so many times.
@@ -186,7 +191,7 @@ function entries(file, i,    j, from, n) {
         return unknown
     counting[i] = 1
     from = i + 1
-    for (j = from; j <= closing[i]; j = ((j in closing) ? closing[j] : j) + 1)
+    for (j = from; j <= closing[i]; j = after(j))
         if (token[j] == ";") {
             n = size(file, from, j - 1, unknown) * length_at(file, j + 1, closing[i] - 1, 9)
             break
@@ -214,12 +219,13 @@ function list(file,    i, n) {
         }
 }
 
+# A module in the same file would have constants of its own.
 function need_modules(file,    i, module) {
-    for (i = first[file]; i < last[file] - 1; i++)
-        if (token[i] == "mod" && token[i + 2] == ";") {
+    for (i = first[file]; i < last[file]; i++)
+        if (token[i] == "mod") {
             module = substr(file, 1, length(file) - 3) "/" token[i + 1] ".rt"
-            if (!read(module))
-                fail(place[i] ": there is no " module)
+            if (token[i + 2] != ";" || !read(module))
+                fail(place[i] ": a module without its file, " module)
         }
 }
 
