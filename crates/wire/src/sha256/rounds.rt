@@ -89,7 +89,7 @@ fn round_at(v: WorkingVariables, k: &[u32; 64], w: &[u32; 64], t: usize) -> Work
     round(v, k[t], w[t])
 }
 
-// The first 48 rounds, which complete the schedule. Four rounds a turn leave fewer moves between registers.
+// The first 48 rounds, which complete the schedule. Eight rounds a turn leave fewer moves between registers.
 fn first_rounds(start: WorkingVariables, k: &[u32; 64], w: &mut [u32; 64]) -> WorkingVariables
     requires { ⌜ (now k ≡ K) × (length (now w) ≡ 64) ⌝ }
     ensures { λ r. ⌜ (now (w .exit) ≡ schedule (take 16 (now (w .entry))) 48) × (r ≡ rounds (now (w .exit)) start 48) ⌝ }
@@ -101,7 +101,11 @@ fn first_rounds(start: WorkingVariables, k: &[u32; 64], w: &mut [u32; 64]) -> Wo
         v = round_and_word(v, k, w, t + 1);
         v = round_and_word(v, k, w, t + 2);
         v = round_and_word(v, k, w, t + 3);
-        t += 4;
+        v = round_and_word(v, k, w, t + 4);
+        v = round_and_word(v, k, w, t + 5);
+        v = round_and_word(v, k, w, t + 6);
+        v = round_and_word(v, k, w, t + 7);
+        t += 8;
     }
     v
 }
@@ -118,7 +122,11 @@ fn last_rounds(middle: WorkingVariables, k: &[u32; 64], w: &[u32; 64]) -> Workin
         v = round_at(v, k, w, t + 1);
         v = round_at(v, k, w, t + 2);
         v = round_at(v, k, w, t + 3);
-        t += 4;
+        v = round_at(v, k, w, t + 4);
+        v = round_at(v, k, w, t + 5);
+        v = round_at(v, k, w, t + 6);
+        v = round_at(v, k, w, t + 7);
+        t += 8;
     }
     v
 }

@@ -1,4 +1,4 @@
--- The code's forms of Ch and Maj are the standard's, bit by bit. Assumes nothing.
+-- The code's forms of Ch and Maj are the standard's, bit by bit; and ⊕ is associative. Assumes nothing.
 use mathlib.Core.Path.{_≡_, refl}
 use Prim.Native.Nat.{ℕ, zero, suc, _+_, _-_, _/_, _%_, _^_, _<_}
 use native.Mathlib.Nat.{pow-suc}
@@ -69,4 +69,11 @@ maj-form x y z hx hy hz =
     agree (λ n x y z. bitXor y (bitAnd (bitXor x y) (bitXor y z))) (λ n x y z. bitXor (bitXor (bitAnd x y) (bitAnd x z)) (bitAnd y z))
     (λ n x y z. (simp (xor-half, and-half), simp (xor-half, and-half))) (λ n x y z. (simp (xor-bit, and-bit), simp (xor-bit, and-bit))) refl
     (bits (λ x y z. bitXor y (bitAnd (bitXor x y) (bitXor y z)) ≡ bitXor (bitXor (bitAnd x y) (bitAnd x z)) (bitAnd y z)) refl refl refl refl refl refl refl refl)
+    32 (2 ^ 32 - 1 - x) x y z (omega arith) hy hz
+
+pub xor-assoc : (x y z : ℕ) → x < 2 ^ 32 → y < 2 ^ 32 → z < 2 ^ 32 → bitXor x (bitXor y z) ≡ bitXor (bitXor x y) z
+xor-assoc x y z hx hy hz =
+    agree (λ n x y z. bitXor x (bitXor y z)) (λ n x y z. bitXor (bitXor x y) z)
+    (λ n x y z. (simp xor-half, simp xor-half)) (λ n x y z. (simp xor-bit, simp xor-bit)) refl
+    (bits (λ x y z. bitXor x (bitXor y z) ≡ bitXor (bitXor x y) z) refl refl refl refl refl refl refl refl)
     32 (2 ^ 32 - 1 - x) x y z (omega arith) hy hz
