@@ -1,5 +1,5 @@
 -- Where fields end, for the reader: places only rise, and a field that is cut anywhere fails test 4. Assumes nothing.
-use mathlib.Core.Path.{_≡_, refl, sym}
+use mathlib.Core.Path.{_≡_, refl, sym, subst}
 use mathlib.Core.Bool.{true}
 use mathlib.Core.List.{List}
 use Prim.Native.Nat.{ℕ, zero, suc, _+_, _≤_, _<_}
@@ -17,17 +17,14 @@ use Rattle.wire.specs.declared.frame.Taken.{Taken}
 use Rattle.wire.specs.declared.frame.Taken.the-variants.{Next, Cut}
 use Rattle.wire.proofs.Framed.{place-present, place-rises}
 
--- A field that was taken ends where the next one starts.
-pub taken : (s : List ℕ) (end at : ℕ) (r : Taken) → Takes s end r → r ≡ Next at → (at ≡ end) × (end ≤ length s)
-taken s end at r h e = rw e at h
+-- A field that was taken ends where the next one starts, and not far from where it began.
+pub taken : (s : List ℕ) (at end next near : ℕ) (r : Taken) → Takes s at end r → r ≡ Next next → at ≤ near → (next ≡ end) × (next ≤ near + 20_000)
+taken s at end next near r h e low = let k : (next ≡ end) × (end ≤ at + 20_000) = rw e at h in (k .0, omega arith)
 
-pub cut-short : (s : List ℕ) (end : ℕ) (r : Taken) → Takes s end r → r ≡ Cut → length s < end
-cut-short s end r h e = rw e at h
-
--- Where one field is cut, test 4 fails.
-pub cut : {A : Type 0} (s : List ℕ) (b : ℕ) (r : Taken) (next : Outcome A) → b ≤ 10 → Takes s (place s b) r → r ≡ Cut → refused 4 ≡ guard 4 (eqb (place s 10 + 64) (length s)) next
-cut s b r next low h e =
-    let past = cut-short s (place s b) r h e in
+-- Where a field's length cannot be read, test 4 fails.
+pub cut : {A : Type 0} (s : List ℕ) (at b : ℕ) (r : Taken) (next : Outcome A) → b ≤ 10 → Takes s at (place s b) r → r ≡ Cut → refused 4 ≡ guard 4 (eqb (place s 10 + 64) (length s)) next
+cut s at b r next low h e =
+    let past : length s < place s b = rw e at h in
     let more = place-rises s b 10 low in
     sym (guard-refuses 4 (eqb (place s 10 + 64) (length s)) next (ne-eqb (place s 10 + 64) (length s) (λ k. omega arith)))
 
@@ -48,8 +45,11 @@ one-byte (suc (suc (suc (suc (suc (suc (suc (suc (suc (suc b)))))))))) h n2 n3 n
 
 -- A field that is there, by its rule.
 pub field-taken : (s : List ℕ) (b at : ℕ) (rule : Rule) (r : Taken) → bit (mapIn s) b ≡ true → at ≡ place s b → getD rules b (fixed 0) ≡ rule
-    → Takes s (at + extent rule (drop at s)) r → Takes s (place s (suc b)) r
-field-taken s b at rule r set here same h = rw (place-present s b set, same, ← here) h
+    → Takes s at (at + extent rule (drop at s)) r → Takes s at (place s (suc b)) r
+field-taken s b at rule r set here same h = subst (λ (end : ℕ). Takes s at end r) ends h
+  where
+    ends : at + extent rule (drop at s) ≡ place s (suc b)
+    ends = rw (place-present s b set, same, ← here)
 
 -- The places that were found are those of the message.
 pub placed : (s : List ℕ) (map nonce timestamp digest card prepared written addressed register signature : ℕ) → map ≡ mapIn s → Fronted s nonce timestamp digest card

@@ -11,18 +11,18 @@ use Rattle.wire.specs.declared.frame.Places.{Places}
 use Rattle.wire.specs.declared.frame.Taken.{Taken}
 use Rattle.wire.specs.declared.frame.Taken.the-variants.{Next, Cut}
 
--- A field that ends at this place was taken, or is cut by the end of the bytes.
-abbrev pub Takes : List ℕ → ℕ → Taken → Type 0
-Takes bytes end (Next at) = (at ≡ end) × (end ≤ length bytes)
-Takes bytes end Cut = length bytes < end
+-- A field from a place on that ends at another, which is not far; or the message ends before it does.
+abbrev pub Takes : List ℕ → ℕ → ℕ → Taken → Type 0
+Takes bytes at end (Next next) = (next ≡ end) × (end ≤ at + 20_000)
+Takes bytes at end Cut = length bytes < end
 
--- Where the fields up to the digest stand, and that they are within the bytes.
+-- Where the fields up to the digest stand, and that it is not far.
 pub record Fronted (bytes : List ℕ) (nonce timestamp digest card : ℕ) : Type 0 where
   pub nonce-at : nonce ≡ place bytes 2
   pub timestamp-at : timestamp ≡ place bytes 3
   pub digest-at : digest ≡ place bytes 4
   pub card-at : card ≡ place bytes 5
-  pub inside : card ≤ length bytes
+  pub near : card ≤ 100_002
 
 unfoldable pub placesIn : List ℕ → Places
 placesIn bytes =

@@ -38,7 +38,7 @@ pub enum Framing {
     Refused(u8),
 }
 
-// Where a field ends, unless the message ends before it does.
+// Where a field ends; or that the message ends before the field's own length can be read.
 enum Taken {
     Next(usize),
     Cut,
@@ -50,44 +50,37 @@ fn wide(byte: u8) -> usize
     byte as usize
 }
 
-fn take_fixed(bytes: &[u8], width: usize, at: usize) -> Taken
-    requires { ⌜ at ≤ length (now bytes) ⌝ }
-    ensures { λ r. ⌜ Takes (now (bytes .entry)) (at + width) r ⌝ }
-{
-    if bytes.len() - at < width {
-        return Taken::Cut;
-    }
-    Taken::Next(at + width)
-}
-
 // A field whose head ends with the number of units that follow it.
 fn take_repeated(bytes: &[u8], head: usize, unit: usize, at: usize) -> Taken
-    requires { ⌜ (at ≤ length (now bytes)) × (1 ≤ head) × (unit ≤ 65) ⌝ }
-    ensures { λ r. ⌜ Takes (now (bytes .entry)) (at + extent (repeated head unit) (drop at (now (bytes .entry)))) r ⌝ }
+    requires { ⌜ (1 ≤ head) × (head ≤ 38) × (unit ≤ 65) × (at ≤ 200_000) ⌝ }
+    ensures { λ r. ⌜ Takes (now (bytes .entry)) at (at + extent (repeated head unit) (drop at (now (bytes .entry)))) r ⌝ }
 {
-    let Taken::Next(end) = take_fixed(bytes, head, at) else {
+    let end = at + head;
+    if bytes.len() < end {
         return Taken::Cut;
-    };
+    }
     let count = wide(bytes[end - 1]);
-    take_fixed(bytes, unit * count, end)
+    let next = end + unit * count;
+    Taken::Next(next)
 }
 
-// The field of a bit: nothing where the bit is not set.
+// The field of a bit: nothing where the bit is not set. A field of a fixed width is taken without a look at the end of the message:
+// where one is cut, the test of the end fails, since places only rise.
 fn take_field(bytes: &[u8], map: u16, bit: usize, at: usize) -> Taken
-    requires { ⌜ (map ≡ mapIn (now bytes)) × (bit < fieldBits) × (at ≡ place (now bytes) bit) × (at ≤ length (now bytes)) ⌝ }
-    ensures { λ r. ⌜ Takes (now (bytes .entry)) (place (now (bytes .entry)) (suc bit)) r ⌝ }
+    requires { ⌜ (map ≡ mapIn (now bytes)) × (bit < fieldBits) × (at ≡ place (now bytes) bit) × (at ≤ 200_000) ⌝ }
+    ensures { λ r. ⌜ Takes (now (bytes .entry)) at (place (now (bytes .entry)) (suc bit)) r ⌝ }
 {
     if (map >> bit) % 2 == 0 {
         return Taken::Next(at);
     }
     match bit {
-        2 => take_fixed(bytes, 8, at),
-        3 => take_fixed(bytes, TIMESTAMP, at),
-        4 => take_fixed(bytes, DIGEST, at),
+        2 => Taken::Next(at + 8),
+        3 => Taken::Next(at + TIMESTAMP),
+        4 => Taken::Next(at + DIGEST),
         5 => take_repeated(bytes, 1, 1, at),
         6 => take_repeated(bytes, PREPARED_HEAD, ENTRY, at),
         7 => take_repeated(bytes, WRITTEN_HEAD, ENTRY, at),
-        _ => take_fixed(bytes, 1, at),
+        _ => Taken::Next(at + 1),
     }
 }
 
@@ -118,7 +111,7 @@ fn lay_back(
     let Taken::Next(signature) = take_field(bytes, map, 9, register) else {
         return Framing::Refused(FIELD_LENGTHS);
     };
-    if bytes.len() - signature != SIGNATURE {
+    if signature + SIGNATURE != bytes.len() {
         return Framing::Refused(FIELD_LENGTHS);
     }
     Framing::Whole(Places {

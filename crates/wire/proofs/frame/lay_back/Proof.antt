@@ -15,62 +15,62 @@ use Rattle.wire.proofs.frame.lay_back.Tie as tie
 abbrev start1 : tie.After-known-told → tie.Start
 start1 c = c .before .before .before .before .before
 
-at6 : (c : tie.After-known-told) → (c .before .prepared .given .0 .0 ≡ place (start1 c .args .bytes .now) 6) × (place (start1 c .args .bytes .now) 6 ≤ length (start1 c .args .bytes .now))
-at6 c = taken _ _ _ _ (c .before .before .before .take-field .ensures) (c .before .prepared .given .1)
+at6 : (c : tie.After-known-told) → (c .before .prepared .given .0 .0 ≡ place (start1 c .args .bytes .now) 6) × (c .before .prepared .given .0 .0 ≤ 120_002)
+at6 c = taken _ _ _ _ 100_002 _ (c .before .before .before .take-field .ensures) (c .before .prepared .given .1) (start1 c .pre .1 .near)
 
 abbrev start2 : tie.After-known-told2 → tie.Start
 start2 c = start1 (c .before .before .before .before)
 
-at7 : (c : tie.After-known-told2) → (c .before .written .given .0 .0 ≡ place (start2 c .args .bytes .now) 7) × (place (start2 c .args .bytes .now) 7 ≤ length (start2 c .args .bytes .now))
-at7 c = taken _ _ _ _ (c .before .before .before .take-field2 .ensures) (c .before .written .given .1)
+at7 : (c : tie.After-known-told2) → (c .before .written .given .0 .0 ≡ place (start2 c .args .bytes .now) 7) × (c .before .written .given .0 .0 ≤ 140_002)
+at7 c = taken _ _ _ _ 120_002 _ (c .before .before .before .take-field2 .ensures) (c .before .written .given .1) (at6 (c .before .before .before .before) .1)
 
 abbrev start3 : tie.After-known-told3 → tie.Start
 start3 c = start2 (c .before .before .before .before)
 
-at8 : (c : tie.After-known-told3) → (c .before .addressed .given .0 .0 ≡ place (start3 c .args .bytes .now) 8) × (place (start3 c .args .bytes .now) 8 ≤ length (start3 c .args .bytes .now))
-at8 c = taken _ _ _ _ (c .before .before .before .take-field3 .ensures) (c .before .addressed .given .1)
+at8 : (c : tie.After-known-told3) → (c .before .addressed .given .0 .0 ≡ place (start3 c .args .bytes .now) 8) × (c .before .addressed .given .0 .0 ≤ 160_002)
+at8 c = taken _ _ _ _ 140_002 _ (c .before .before .before .take-field3 .ensures) (c .before .addressed .given .1) (at7 (c .before .before .before .before) .1)
 
 abbrev start4 : tie.After-known-told4 → tie.Start
 start4 c = start3 (c .before .before .before .before)
 
-at9 : (c : tie.After-known-told4) → (c .before .register .given .0 .0 ≡ place (start4 c .args .bytes .now) 9) × (place (start4 c .args .bytes .now) 9 ≤ length (start4 c .args .bytes .now))
-at9 c = taken _ _ _ _ (c .before .before .before .take-field4 .ensures) (c .before .register .given .1)
+at9 : (c : tie.After-known-told4) → (c .before .register .given .0 .0 ≡ place (start4 c .args .bytes .now) 9) × (c .before .register .given .0 .0 ≤ 180_002)
+at9 c = taken _ _ _ _ 160_002 _ (c .before .before .before .take-field4 .ensures) (c .before .register .given .1) (at8 (c .before .before .before .before) .1)
 
 abbrev start5 : tie.After-known-told5 → tie.Start
 start5 c = start4 (c .before .before .before .before)
 
-at10 : (c : tie.After-known-told5) → (c .before .signature .given .0 .0 ≡ place (start5 c .args .bytes .now) 10) × (place (start5 c .args .bytes .now) 10 ≤ length (start5 c .args .bytes .now))
-at10 c = taken _ _ _ _ (c .before .before .before .take-field5 .ensures) (c .before .signature .given .1)
+at10 : (c : tie.After-known-told5) → (c .before .signature .given .0 .0 ≡ place (start5 c .args .bytes .now) 10) × (c .before .signature .given .0 .0 ≤ 200_002)
+at10 c = taken _ _ _ _ 180_002 _ (c .before .before .before .take-field5 .ensures) (c .before .signature .given .1) (at9 (c .before .before .before .before) .1)
 
 returns : tie.Need-returns
-returns c = cut _ 6 _ _ (omega arith) (c .before .before .take-field .ensures) (c .enum-told .given .1)
+returns c = cut _ _ 6 _ _ (omega arith) (c .before .before .take-field .ensures) (c .enum-told .given .1)
 
 take-field-requires-2 : tie.Need-take-field-requires-2
 take-field-requires-2 c κs = let h = at6 c in let q = start1 c .pre in omega arith
 
 returns-2 : tie.Need-returns-2
-returns-2 c = cut _ 7 _ _ (omega arith) (c .before .before .take-field2 .ensures) (c .enum-told2 .given .1)
+returns-2 c = cut _ _ 7 _ _ (omega arith) (c .before .before .take-field2 .ensures) (c .enum-told2 .given .1)
 
 take-field-requires-3 : tie.Need-take-field-requires-3
 take-field-requires-3 c κs = let h = at7 c in let q = start2 c .pre in omega arith
 
 returns-3 : tie.Need-returns-3
-returns-3 c = cut _ 8 _ _ (omega arith) (c .before .before .take-field3 .ensures) (c .enum-told3 .given .1)
+returns-3 c = cut _ _ 8 _ _ (omega arith) (c .before .before .take-field3 .ensures) (c .enum-told3 .given .1)
 
 take-field-requires-4 : tie.Need-take-field-requires-4
 take-field-requires-4 c κs = let h = at8 c in let q = start3 c .pre in omega arith
 
 returns-4 : tie.Need-returns-4
-returns-4 c = cut _ 9 _ _ (omega arith) (c .before .before .take-field4 .ensures) (c .enum-told4 .given .1)
+returns-4 c = cut _ _ 9 _ _ (omega arith) (c .before .before .take-field4 .ensures) (c .enum-told4 .given .1)
 
 take-field-requires-5 : tie.Need-take-field-requires-5
 take-field-requires-5 c κs = let h = at9 c in let q = start4 c .pre in omega arith
 
 returns-5 : tie.Need-returns-5
-returns-5 c = cut _ 10 _ _ (omega arith) (c .before .before .take-field5 .ensures) (c .enum-told5 .given .1)
+returns-5 c = cut _ _ 10 _ _ (omega arith) (c .before .before .take-field5 .ensures) (c .enum-told5 .given .1)
 
-sub-if1 : tie.Need-sub-if1
-sub-if1 c = let h = at10 c in omega arith
+add-if1 : tie.Need-add-if1
+add-if1 c = let h = at10 c in omega arith
 
 returns-6 : tie.Need-returns-6
 returns-6 c =
@@ -89,8 +89,7 @@ returns-7 c =
     let b = start5 c₁₀ in
     let s = b .args .bytes .now in
     let ends : place s 10 + 64 ≡ length s = omega arith in
-    let q = b .pre .1 in
-    ap accepted (placed s _ _ _ _ _ _ _ _ _ _ (b .pre .0) q (at6 c₆ .0) (at7 c₇ .0) (at8 c₈ .0) (at9 c₉ .0) (h .0)) ∙ sym (guard-passes 4 _ _ (eq-eqb _ _ ends))
+    ap accepted (placed s _ _ _ _ _ _ _ _ _ _ (b .pre .0) (b .pre .1) (at6 c₆ .0) (at7 c₇ .0) (at8 c₈ .0) (at9 c₉ .0) (h .0)) ∙ sym (guard-passes 4 _ _ (eq-eqb _ _ ends))
 
 pub lay-back-spec : {M : Type 1} → statement M
 lay-back-spec =
@@ -116,6 +115,6 @@ lay-back-spec =
     (λ c. search needs)
     (λ c. search needs)
     returns-5
-    sub-if1
+    add-if1
     returns-6
     returns-7)
