@@ -1,16 +1,19 @@
 // Tests 7 and 9 to 11: verdicts (document 01: marks) and the proofs that they judge.
 use crate::layout::ENTRY;
+use base::big_endian::from_four;
 use base::party::ReplicaId;
 use base::party::quorum_size;
 use base::party::replica_count;
-use base::party::within;
 use base::refusal::ENTRY_NOT_GENUINE;
 use base::refusal::NOT_A_QUORUM;
 use base::refusal::NOT_ISSUED;
 use base::replica_set::ReplicaSet;
 use base::timestamp::Timestamp;
 ghost use mathlib.Core.Path.{_≡_};
-ghost use Rattle.base.specs.Range.{within};
+ghost use mathlib.Core.List.{[], _∷_};
+ghost use Prim.Native.Nat.{_+_, _≤_, max};
+ghost use lib.Dec.{leb};
+ghost use lib.ListN.{length, getD};
 ghost use Rattle.base.specs.Timestamp.{number};
 ghost use Rattle.wire.specs.Checks.{all, verdictsFit, genuine, proofOutcome};
 ghost use Rattle.wire.specs.Judging.{entriesIn, risingSigners, shapedSigners, proofCheckOutcome, smallest, firstRefusal};
@@ -21,17 +24,24 @@ pub enum ProofCheck {
     Refused(u8),
 }
 
-fn all_within(low: u8, high: u8, numbers: &[u8]) -> bool
-    ensures { λ r. ⌜ r ≡ all (within low high) (now (numbers .entry)) ⌝ }
+fn larger(a: u8, b: u8) -> u8
+    ensures { λ r. ⌜ r ≡ max a b ⌝ }
 {
+    if a < b { b } else { a }
+}
+
+// Whether no number is above `high`. The largest is looked for, without a way out before the end, so that the compiler takes several
+// numbers at once.
+fn all_up_to(high: u8, numbers: &[u8]) -> bool
+    ensures { λ r. ⌜ r ≡ all (λ n. leb n high) (now (numbers .entry)) ⌝ }
+{
+    let mut most: u8 = 0;
     let mut i = 0;
     while i < numbers.len() {
-        if !within(low, high, numbers[i]) {
-            return false;
-        }
+        most = larger(most, numbers[i]);
         i += 1;
     }
-    true
+    most <= high
 }
 
 // Test 7: one verdict per signature, each 0 or 1.
@@ -41,14 +51,41 @@ pub(super) fn verdicts_fit(verdicts: &[u8], signatures: usize) -> bool
     if verdicts.len() != signatures {
         return false;
     }
-    all_within(0, 1, verdicts)
+    all_up_to(1, verdicts)
 }
 
-// Test 10: no verdict is 0.
+// Whether the four verdicts from a place on are 1, as one word.
+fn four_genuine(verdicts: &[u8], at: usize) -> bool
+    requires { ⌜ at + 4 ≤ length (now verdicts) ⌝ }
+    ensures { λ r. ⌜ r ≡ genuine (getD (now (verdicts .entry)) at 0 ∷ getD (now (verdicts .entry)) (at + 1) 0 ∷ getD (now (verdicts .entry)) (at + 2) 0 ∷ getD (now (verdicts .entry)) (at + 3) 0 ∷ []) ⌝ }
+{
+    from_four(
+        verdicts[at],
+        verdicts[at + 1],
+        verdicts[at + 2],
+        verdicts[at + 3],
+    )
+        == 0x0101_0101
+}
+
+// Test 10: no verdict is 0. Four at once, then those that are left.
 fn all_genuine(verdicts: &[u8]) -> bool
     ensures { λ r. ⌜ r ≡ genuine (now (verdicts .entry)) ⌝ }
 {
-    all_within(1, 1, verdicts)
+    let mut i: usize = 0;
+    while verdicts.len() - i >= 4 {
+        if !four_genuine(verdicts, i) {
+            return false;
+        }
+        i += 4;
+    }
+    while i < verdicts.len() {
+        if verdicts[i] != 1 {
+            return false;
+        }
+        i += 1;
+    }
+    true
 }
 
 // The signers of the entries, if they rise within 1 to n, so that no replica is there twice.

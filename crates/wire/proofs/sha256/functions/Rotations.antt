@@ -95,6 +95,7 @@ of-xor n x y by hx hy kx ky =
     ∙ sym (xor-block (32 - n) (x % 2 ^ n) (y % 2 ^ n) (x / 2 ^ n) (y / 2 ^ n) kx ky)
     ∙ ap (λ (r : ℕ). bitXor r (y % 2 ^ n * 2 ^ (32 - n) + y / 2 ^ n)) (sym (by x hx))
     ∙ ap (λ (r : ℕ). bitXor (ROTR n x) r) (sym (by y hy))
+
 -- The code's forms, of nested rotations, are the standard's.
 pub big-sigma1-form : (x : ℕ) → x < 2 ^ 32 → ROTR 6 (bitXor x (ROTR 5 (bitXor x (ROTR 14 x)))) ≡ Σ₁ x
 unfolding Σ₁
