@@ -1,7 +1,6 @@
 // Tests 7 and 9 to 11: verdicts (document 01: marks) and the proofs that they judge.
 use crate::layout::ENTRY;
 use base::big_endian::from_four;
-use base::party::ReplicaId;
 use base::party::quorum_size;
 use base::party::replica_count;
 use base::refusal::ENTRY_NOT_GENUINE;
@@ -88,12 +87,15 @@ fn all_genuine(verdicts: &[u8]) -> bool
     true
 }
 
-// The signers of the entries, if they rise within 1 to n, so that no replica is there twice.
+// The signers of the entries, if they rise within 1 to n, so that no replica is there twice. Of those that rise only the last can be
+// above n; replica r is bit r while they are gathered.
 fn check_signers(entries: &[u8], n: u8) -> ProofCheck
+    requires { ⌜ n ≤ 16 ⌝ }
     ensures { λ r. ⌜ proofCheckOutcome r ≡ risingSigners n (entriesIn (now (entries .entry))) ⌝ }
 {
     let count = entries.len() / ENTRY;
-    let mut signers = ReplicaSet::empty();
+    let one: u32 = 1;
+    let mut bits: u32 = 0;
     let mut last: u8 = 0;
     let mut i = 0;
     while i < count {
@@ -101,14 +103,14 @@ fn check_signers(entries: &[u8], n: u8) -> ProofCheck
         if signer <= last {
             return ProofCheck::Refused(NOT_A_QUORUM);
         }
-        if n < signer {
-            return ProofCheck::Refused(NOT_A_QUORUM);
-        }
-        signers = signers.with(ReplicaId(signer));
+        bits = bits | (one << (signer % 32));
         last = signer;
         i += 1;
     }
-    ProofCheck::Good(signers)
+    if n < last {
+        return ProofCheck::Refused(NOT_A_QUORUM);
+    }
+    ProofCheck::Good(ReplicaSet((bits / 2) as u16))
 }
 
 // Test 9: a quorum of entries, of different replicas.
