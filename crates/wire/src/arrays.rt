@@ -18,6 +18,10 @@ pub fn card_array(card: &[u8]) -> [u8; CARD_ROOM]
 pub fn entries_array(entries: &[u8]) -> [u8; ENTRIES_ROOM]
     ensures { λ r. ⌜ r ≡ filled 715 (now (entries .entry)) ⌝ }
 {
+    // By itself, so that the compiler makes zeros only behind entries that are there.
+    if entries.len() == 0 {
+        return [0u8; ENTRIES_ROOM];
+    }
     let mut array = [0u8; ENTRIES_ROOM];
     put(&mut array, 0, front(entries, ENTRIES_ROOM));
     array
