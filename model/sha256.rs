@@ -23,13 +23,12 @@ fn maj(x: u32, y: u32, z: u32) -> u32 {
     y ^ ((x ^ y) & (y ^ z))
 }
 
-// The rotations are nested, which saves keeping x for each: big_sigma0 is x by 2, by 13 and by 22.
 fn big_sigma0(x: u32) -> u32 {
-    ((x.rotate_right(9) ^ x).rotate_right(11) ^ x).rotate_right(2)
+    x.rotate_right(2) ^ x.rotate_right(13) ^ x.rotate_right(22)
 }
 
 fn big_sigma1(x: u32) -> u32 {
-    ((x.rotate_right(14) ^ x).rotate_right(5) ^ x).rotate_right(6)
+    x.rotate_right(6) ^ x.rotate_right(11) ^ x.rotate_right(25)
 }
 
 fn small_sigma0(x: u32) -> u32 {
@@ -44,6 +43,8 @@ fn small_sigma1(x: u32) -> u32 {
 /// in a ring of 16 words.
 fn compress(hash: &mut [u32; 8], block: [u32; 16]) {
     let mut w = block;
+    // Kept in memory: as immediates they are added last, a cycle more on the way from round to round.
+    let k: &[u32; 64] = std::hint::black_box(&K);
     let [mut a, mut b, mut c, mut d, mut e, mut f, mut g, mut h] = *hash;
     macro_rules! round {
         ($a:ident $b:ident $c:ident $d:ident $e:ident $f:ident $g:ident $h:ident $t:expr) => {
@@ -56,7 +57,7 @@ fn compress(hash: &mut [u32; 8], block: [u32; 16]) {
             let t1 = $h
                 .wrapping_add(big_sigma1($e))
                 .wrapping_add(ch($e, $f, $g))
-                .wrapping_add(K[$t])
+                .wrapping_add(k[$t])
                 .wrapping_add(w[$t % 16]);
             $d = $d.wrapping_add(t1);
             $h = t1
