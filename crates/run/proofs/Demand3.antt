@@ -59,7 +59,7 @@ views R P x = record { same-card = view-card R x P; start-card = λ v e. shown-s
 -- Who is shown with a card vouched for it: in an operation, and in a view.
 shown-vouched : (R : Run) (x : RegisterId) (t : ℕ) (timestamp : Timestamp) (card : List ℕ) (signers : ReplicaSet) → Shown R x t (number timestamp) card signers → VouchedFor R x timestamp card signers t
 shown-vouched R x t timestamp card signers (inl k) = inl (k .0, k .2)
-shown-vouched R x t timestamp card signers (inr v) = inr (v .backed .exact, v .backed .signed)
+shown-vouched R x t timestamp card signers (inr v) = inr (v .positive, v .backed .exact, v .backed .signed)
 
 pub vouching : (R : Run) → Premises R → (x : RegisterId) → Vouching R x
 vouching R P x = record {

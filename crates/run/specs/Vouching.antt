@@ -3,7 +3,7 @@ use mathlib.Core.Path.{_≡_}
 use mathlib.Core.Logic.{_⊎_}
 use mathlib.Core.Bool.{true}
 use mathlib.Core.List.{List}
-use Prim.Native.Nat.{ℕ, suc}
+use Prim.Native.Nat.{ℕ, suc, _≤_}
 use Rattle.base.specs.ReplicaSet.{empty, has, Quorate}
 use Rattle.base.specs.Timestamp.{number}
 use Rattle.base.specs.declared.party.RegisterId.{RegisterId}
@@ -23,7 +23,7 @@ module _ (R : Run) (x : RegisterId) where
   abbrev pub VouchedFor : Timestamp → List ℕ → ReplicaSet → ℕ → Type 0
   VouchedFor timestamp card signers t =
       ((number timestamp ≡ 0) × (signers ≡ empty))
-      ⊎ (Quorate (R .f) signers
+      ⊎ ((1 ≤ number timestamp) × Quorate (R .f) signers
       × ((id : ReplicaId) → has signers id ≡ true → R .correct-replica id ≡ true → Said R x (replica id) (PREPARED id (number timestamp) (sha256 card)) t))
 
   -- "done shows its card's": every finished operation's, and every view's.

@@ -257,7 +257,7 @@ signers-are-not-those-who-showed = (refl, refl, refl, refl)
 -- What the theorem says of that read: replica 2, which is correct, said PREPARED for its card.
 pub replica-2-vouched : Said run register-1 (replica replica-2) (PREPARED replica-2 1·1 (sha256 service)) 38
 unfolding run finished-told read-with-write-back has within
-replica-2-vouched = ⊎-elim (λ nobody. let z = nobody .0 in absurd (omega arith)) (λ set. set .1 replica-2 refl refl) (vouched .operations read-with-write-back)
+replica-2-vouched = ⊎-elim (λ nobody. let z = nobody .0 in absurd (omega arith)) (λ set. set .2 replica-2 refl refl) (vouched .operations read-with-write-back)
 
 -- A read and a write overlap: each began before the other finished.
 pub overlap : (read-with-write-back .begun < second-write .finished) × (second-write .begun < read-with-write-back .finished)
