@@ -27,8 +27,8 @@ use Rattle.protocol.specs.declared.replica.Bank.{Bank}
 use Rattle.protocol.proofs.BankFacts.{part-itself}
 use Rattle.protocol.proofs.ClientFacts.{begins-write as begins-write-facts, begins-read as begins-read-facts}
 use Rattle.protocol.proofs.Calls.{replica-takes, begin-write-takes, begin-read-takes, client-step-takes, viewer-step-takes}
-use Rattle.run.specs.Calls.{withoutCard, givenByReplica, givenByClient, givenFor, calledAtReplica, calledAtClient, madeWith, hearingCall, calledReplica, calledClient, givenAt, CallsAreRun}
-use Rattle.run.specs.Run.{Event, begins-write, begins-read, to-replica, to-client, registerOf, Run, nextBank, nextClient, afterAtReplica, afterAtClient, clientHears, replicaAnswer, clientAnswer, event, bankAt, clientAt, answerTo}
+use Rattle.run.specs.Calls.{withoutCard, givenByReplica, givenByClient, givenFor, calledAtReplica, calledAtClient, madeWith, hearingCall, calledReplica, calledClient, givenAt, CallsAreRun, clientCalled}
+use Rattle.run.specs.Run.{ClientEvent, is-handed, writes, reads, hears, Event, at-replica, at-client, begins-write, begins-read, to-replica, to-client, clientDoes, registerOf, Run, nextBank, nextClient, afterAtReplica, afterAtClient, clientHears, replicaAnswer, clientAnswer, event, bankAt, clientAt, answerTo}
 use Rattle.run.proofs.Turns.{good-client, hears-takes}
 
 -- ---- One call: the step's record, and the step's answer
@@ -89,20 +89,21 @@ module _ (old : List ℕ) (long : longest ≤ length old) where
       go true = client-called before bytes verdicts
       go false = viewer-called before bytes verdicts
 
+  event-called : (id : ClientId) (e : ClientEvent) (before : Client) → ClientSays before old (clientDoes id e before) (clientCalled id e old before)
+  event-called id (writes x card) before = write-called before x card
+  event-called id (reads x) before = read-called before x
+  event-called id (hears bytes verdicts) before = hearing-called id before bytes verdicts
+
   -- An event's call leaves the record that the event leaves.
   replica-left : (id : ReplicaId) (e : Option Event) (before : Bank) → calledAtReplica id e old before ≡ afterAtReplica id e before
   replica-left id none before = refl
-  replica-left id (some (begins-write at x card)) before = refl
-  replica-left id (some (begins-read at x)) before = refl
-  replica-left id (some (to-replica at bytes verdicts)) before = ap (λ (r : Bank). cond (eqb (at .0) (id .0)) r before) (replica-called before bytes verdicts .leaves)
-  replica-left id (some (to-client at bytes verdicts)) before = refl
+  replica-left id (some (at-replica at (is-handed bytes verdicts))) before = ap (λ (r : Bank). cond (eqb (at .0) (id .0)) r before) (replica-called before bytes verdicts .leaves)
+  replica-left id (some (at-client at e)) before = refl
 
   client-left : (id : ClientId) (e : Option Event) (before : Client) → calledAtClient id e old before ≡ afterAtClient id e before
   client-left id none before = refl
-  client-left id (some (begins-write at x card)) before = ap (λ (c : Client). cond (eqb (at .0) (id .0)) c before) (write-called before x card .leaves)
-  client-left id (some (begins-read at x)) before = ap (λ (c : Client). cond (eqb (at .0) (id .0)) c before) (read-called before x .leaves)
-  client-left id (some (to-replica at bytes verdicts)) before = refl
-  client-left id (some (to-client at bytes verdicts)) before = ap (λ (c : Client). cond (eqb (at .0) (id .0)) c before) (hearing-called at before bytes verdicts .leaves)
+  client-left id (some (at-replica at e)) before = refl
+  client-left id (some (at-client at e)) before = ap (λ (c : Client). cond (eqb (at .0) (id .0)) c before) (event-called at e before .leaves)
 
 -- ---- All calls of a run
 
@@ -131,31 +132,21 @@ module _ (R : Run) (output : ℕ → List ℕ) (long : (t : ℕ) → longest ≤
   clients id c (suc t) = client-left (output t) (long t) id (event R t) (calledClient R output id t) ∙ ap (afterAtClient id (event R t)) (clients id c t)
 
   -- What a client's event leaves it with is for the event's register.
-  write-for : (id : ClientId) (t : ℕ) (x : RegisterId) (card : List ℕ) → event R t ≡ some (begins-write id x card) → (turn : Turn) → beginWrite (clientAt R id t) x card ≡ accepted turn → turn .next .register ≡ x
-  write-for id t x card q turn e =
-      let good = good-client R id (R .at-correct t (begins-write id x card) q) t in
-      begins-write-facts (clientAt R id t) x card turn (good .fits) (R .have-bytes t (begins-write id x card) q) e .register-is
-
-  read-for : (id : ClientId) (t : ℕ) (x : RegisterId) → event R t ≡ some (begins-read id x) → (turn : Turn) → beginRead (clientAt R id t) x ≡ accepted turn → turn .next .register ≡ x
-  read-for id t x q turn e = begins-read-facts (clientAt R id t) x turn (good-client R id (R .at-correct t (begins-read id x) q) t .fits) e .register-is
-
-  heard-for : (id : ClientId) (t : ℕ) (bytes verdicts : List ℕ) → event R t ≡ some (to-client id bytes verdicts) → (turn : Turn) → clientHears id (clientAt R id t) bytes verdicts ≡ accepted turn
-      → turn .next .register ≡ registerIn bytes
-  heard-for id t bytes verdicts q turn e =
+  event-for : (id : ClientId) (t : ℕ) (e : ClientEvent) → event R t ≡ some (at-client id e) → (turn : Turn) → clientDoes id e (clientAt R id t) ≡ accepted turn → turn .next .register ≡ registerOf (at-client id e)
+  event-for id t (writes x card) q turn e =
+      begins-write-facts (clientAt R id t) x card turn (good-client R id (R .at-correct t (begins-write id x card) q) t .fits) (R .have-bytes t (begins-write id x card) q) e .register-is
+  event-for id t (reads x) q turn e = begins-read-facts (clientAt R id t) x turn (good-client R id (R .at-correct t (begins-read id x) q) t .fits) e .register-is
+  event-for id t (hears bytes verdicts) q turn e =
       let here = to-client id bytes verdicts in
       let (message, decoded, facts) = hears-takes R id (clientAt R id t) bytes verdicts turn (good-client R id (R .at-correct t here q) t) (R .have-bytes t here q) e in
       facts .same-register ∙ sym (found-register AtClient bytes (clientAt R id t .register) message decoded)
 
   answers-to : (t : ℕ) (e : Event) → event R t ≡ some e → givenAt R output t e ≡ givenFor (registerOf e) (output t) (answerTo R t (some e))
   unfolding givenAt answerTo
-  answers-to t (begins-write id x card) q =
-      rw (clients id (R .at-correct t (begins-write id x card) q) t) (write-called (output t) (long t) (clientAt R id t) x card .gives x (write-for id t x card q))
-  answers-to t (begins-read id x) q = rw (clients id (R .at-correct t (begins-read id x) q) t) (read-called (output t) (long t) (clientAt R id t) x .gives x (read-for id t x q))
-  answers-to t (to-replica id bytes verdicts) q =
+  answers-to t (at-replica id (is-handed bytes verdicts)) q =
       rw (replicas id (R .at-correct t (to-replica id bytes verdicts) q) t) (replica-called (output t) (long t) (bankAt R id t) bytes verdicts .gives)
-  answers-to t (to-client id bytes verdicts) q =
-      rw (clients id (R .at-correct t (to-client id bytes verdicts) q) t)
-      (hearing-called (output t) (long t) id (clientAt R id t) bytes verdicts .gives (registerIn bytes) (heard-for id t bytes verdicts q))
+  answers-to t (at-client id e) q =
+      rw (clients id (R .at-correct t (at-client id e) q) t) (event-called (output t) (long t) id e (clientAt R id t) .gives (registerOf (at-client id e)) (event-for id t e q))
 
   -- For every run, whatever stood in the outputs.
   pub calls-are-run : CallsAreRun R output

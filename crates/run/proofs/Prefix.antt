@@ -18,7 +18,7 @@ use Rattle.wire.specs.declared.message.Party.the-variants.{Replica as AtReplica
 use Rattle.run.specs.Claims.{Claims}
 use Rattle.run.specs.Prefix.{prefix}
 use Rattle.run.specs.Premises.{TrueVerdicts, TrueFor, TrueAt, eventCard, CardOfRun, Premises}
-use Rattle.run.specs.Run.{Event, begins-write, begins-read, to-replica, to-client, Run, afterAtReplica, afterAtClient, event, bankAt, clientAt, answerTo, answerAt, Sent}
+use Rattle.run.specs.Run.{Event, at-replica, at-client, is-handed, writes, reads, hears, Run, afterAtReplica, afterAtClient, event, bankAt, clientAt, answerTo, answerAt, Sent}
 use Rattle.run.proofs.Demand3.{demand-3}
 use Rattle.run.proofs.Slots.{order}
 use Rattle.run.proofs.Turns.{apart}
@@ -58,10 +58,8 @@ module _ (R : Run) (n : ℕ) where
   answer-to : (t : ℕ) (e : Option Event) → t < n → answerTo S t e ≡ answerTo R t e
   unfolding answerTo
   answer-to t none l = refl
-  answer-to t (some (begins-write id x card)) l = rw (client-same id t (omega arith)) refl
-  answer-to t (some (begins-read id x)) l = rw (client-same id t (omega arith)) refl
-  answer-to t (some (to-replica id bytes verdicts)) l = rw (replica-same id t (omega arith)) refl
-  answer-to t (some (to-client id bytes verdicts)) l = rw (client-same id t (omega arith)) refl
+  answer-to t (some (at-replica id e)) l = rw (replica-same id t (omega arith)) refl
+  answer-to t (some (at-client id e)) l = rw (client-same id t (omega arith)) refl
 
   answer-same : (t : ℕ) → t < n → answerAt S t ≡ answerAt R t
   answer-same t l = ap (answerTo S t) (event-same t l) ∙ answer-to t (event R t) l
@@ -98,10 +96,10 @@ module _ (R : Run) (n : ℕ) where
   true-at : (t : ℕ) (e : Option Event) → t ≤ n → TrueAt R t e → TrueAt S t e
   unfolding TrueAt
   true-at t none l h = tt
-  true-at t (some (begins-write id x card)) l h = tt
-  true-at t (some (begins-read id x)) l h = tt
-  true-at t (some (to-replica id bytes verdicts)) l h = true-for t bytes verdicts (decode AtReplica bytes) l h
-  true-at t (some (to-client id bytes verdicts)) l h = true-for t bytes verdicts (decode AtClient bytes) l h
+  true-at t (some (at-client id (writes x card))) l h = tt
+  true-at t (some (at-client id (reads x))) l h = tt
+  true-at t (some (at-replica id (is-handed bytes verdicts))) l h = true-for t bytes verdicts (decode AtReplica bytes) l h
+  true-at t (some (at-client id (hears bytes verdicts))) l h = true-for t bytes verdicts (decode AtClient bytes) l h
 
   none-true : (t : ℕ) → TrueAt S t none
   unfolding TrueAt

@@ -30,7 +30,7 @@ use Rattle.wire.proofs.Admitted.{admitted-then}
 use Rattle.wire.proofs.Framed.{framed-passes}
 use Rattle.wire.proofs.OneForm.{found-register}
 use Rattle.run.specs.Replies.{Delivery, passes, isFor, handedIn, answersIn, handedFor, answersFor, SameReplies}
-use Rattle.run.specs.Run.{Event, begins-write, begins-read, to-replica, to-client, Run, nextBank, afterAtReplica, replicaAnswer, event, bankAt, replicaAt, answerTo}
+use Rattle.run.specs.Run.{Event, at-replica, at-client, is-handed, to-replica, Run, nextBank, afterAtReplica, replicaAnswer, event, bankAt, replicaAt, answerTo}
 use Rattle.run.proofs.Turns.{apart, same-replica, GoodBank, good-bank}
 
 -- ---- One register's part alone: what it answers to messages, one after the other
@@ -171,10 +171,8 @@ module _ (R : Run) (id : ReplicaId) (c : R .correct-replica id ≡ true) (x : Re
             (rest (nextPart part (replicaStep part bytes verdicts)) (next-stands t part stands bytes verdicts is (next e))))
 
     one : (e : Event) → event R t ≡ some e → answersIn id x R t (e ∷ events) ≡ repliesOf part (handedIn id x (e ∷ events))
-    one (begins-write p y card) q = passing (begins-write p y card) q refl
-    one (begins-read p y) q = passing (begins-read p y) q refl
-    one (to-replica p bytes verdicts) q = message p bytes verdicts q
-    one (to-client p bytes verdicts) q = passing (to-client p bytes verdicts) q refl
+    one (at-replica p (is-handed bytes verdicts)) q = message p bytes verdicts q
+    one (at-client p e) q = passing (at-client p e) q refl
 
   -- The answers to these events are those of the part alone.
   follow : (t : ℕ) (events : List Event) (part : Replica) → ((i : ℕ) → event R (t + i) ≡ getElem? events i) → Stands t part → answersIn id x R t events ≡ repliesOf part (handedIn id x events)

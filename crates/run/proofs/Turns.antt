@@ -44,7 +44,7 @@ use Rattle.protocol.proofs.ClientCases.{Begun, PhaseFits, ClientFacts}
 use Rattle.protocol.proofs.ClientFacts.{begins-write as write-begun, begins-read as read-begun, client-facts, viewer-facts}
 use Rattle.protocol.proofs.Towards.{client-takes, viewer-takes}
 use Rattle.wire.specs.Acceptance.{Sender, replica, client}
-use Rattle.run.specs.Run.{Event, begins-write, begins-read, to-replica, to-client, Run, partyOf, registerOf, nextBank, nextClient, clientHears, replicaAnswer, clientAnswer, event, bankAt, replicaAt, registerAt, clientAt, answerTo, answerAt, At}
+use Rattle.run.specs.Run.{ReplicaEvent, ClientEvent, is-handed, writes, reads, hears, Event, at-replica, at-client, begins-write, begins-read, to-replica, to-client, clientDoes, Run, partyOf, registerOf, nextBank, nextClient, clientHears, replicaAnswer, clientAnswer, event, bankAt, replicaAt, registerAt, clientAt, answerTo, answerAt, At}
 
 -- Two constructors are not equal.
 pub apart : {A : Type 0} → _≡_ {A = ℕ} 0 1 → A
@@ -164,10 +164,8 @@ module _ (R : Run) where
   bank-turn-of : (id : ReplicaId) (t : ℕ) → GoodBank id (bankAt R id t) → (e : Option Event) → event R t ≡ e → BankTurn id t
   unfolding bankAt
   bank-turn-of id t good none q = all-rest (rw q) (no-event t (replica id) q)
-  bank-turn-of id t good (some (begins-write at x card)) q = all-rest (rw q) (elsewhere t (replica id) (begins-write at x card) q (λ p. apart (cc)))
-  bank-turn-of id t good (some (begins-read at x)) q = all-rest (rw q) (elsewhere t (replica id) (begins-read at x) q (λ p. apart (cc)))
-  bank-turn-of id t good (some (to-client at bytes verdicts)) q = all-rest (rw q) (elsewhere t (replica id) (to-client at bytes verdicts) q (λ p. apart (cc)))
-  bank-turn-of id t good (some (to-replica at bytes verdicts)) q = go (eqb (at .0) (id .0)) refl
+  bank-turn-of id t good (some (at-client at e)) q = all-rest (rw q) (elsewhere t (replica id) (at-client at e) q (λ p. apart (cc)))
+  bank-turn-of id t good (some (at-replica at (is-handed bytes verdicts))) q = go (eqb (at .0) (id .0)) refl
     where
       go : (b : Bool) → eqb (at .0) (id .0) ≡ b → BankTurn id t
       go true k =
@@ -339,17 +337,9 @@ module _ (R : Run) where
     next-is : clientAt R id (suc t) ≡ nextClient (clientAt R id t) out
     answer-is : answerAt R t ≡ clientAnswer out
 
-  client-outcome : (id : ClientId) (t : ℕ) (bytes verdicts : List ℕ) → event R t ≡ some (to-client id bytes verdicts) → Left id t (clientHears id (clientAt R id t) bytes verdicts)
+  client-outcome : (id : ClientId) (t : ℕ) (e : ClientEvent) → event R t ≡ some (at-client id e) → Left id t (clientDoes id e (clientAt R id t))
   unfolding clientAt answerTo
-  client-outcome id t bytes verdicts e = record { next-is = rw (e, eq-eqb (id .0) (id .0) refl); answer-is = rw e }
-
-  write-outcome : (id : ClientId) (t : ℕ) (x : RegisterId) (card : List ℕ) → event R t ≡ some (begins-write id x card) → Left id t (beginWrite (clientAt R id t) x card)
-  unfolding clientAt answerTo
-  write-outcome id t x card e = record { next-is = rw (e, eq-eqb (id .0) (id .0) refl); answer-is = rw e }
-
-  read-outcome : (id : ClientId) (t : ℕ) (x : RegisterId) → event R t ≡ some (begins-read id x) → Left id t (beginRead (clientAt R id t) x)
-  unfolding clientAt answerTo
-  read-outcome id t x e = record { next-is = rw (e, eq-eqb (id .0) (id .0) refl); answer-is = rw e }
+  client-outcome id t e q = record { next-is = rw (q, eq-eqb (id .0) (id .0) refl); answer-is = rw q }
 
   -- Refused, or accepted with a turn.
   by-outcome : (id : ClientId) (t : ℕ) (out : Outcome Turn) → Left id t out → ((turn : Turn) → out ≡ accepted turn → ClientStep id t turn → ClientTurn id t) → ClientTurn id t
@@ -388,35 +378,30 @@ module _ (R : Run) where
       go false q e = view-takes before bytes verdicts turn (good .fits) (good .phase-fits) small (subst (λ (i : ClientId). isWriter i ≡ false) (sym (good .id-is)) q) e
 
   client-here : (id : ClientId) (t : ℕ) (bytes verdicts : List ℕ) → GoodClient id (clientAt R id t) → event R t ≡ some (to-client id bytes verdicts) → ClientTurn id t
-  client-here id t bytes verdicts good e = by-outcome id t (clientHears id (clientAt R id t) bytes verdicts) (client-outcome id t bytes verdicts e) (λ turn q step.
+  client-here id t bytes verdicts good e = by-outcome id t (clientHears id (clientAt R id t) bytes verdicts) (client-outcome id t (hears bytes verdicts) e) (λ turn q step.
       let taken = hears-takes id (clientAt R id t) bytes verdicts turn good (R .have-bytes t (to-client id bytes verdicts) e) q in
       heard (record { bytes = bytes; verdicts = verdicts; message = taken .0; turn = turn; event-is = e; decoded = taken .1; facts = taken .2; step = step }))
 
-  -- The event of a client, which is this one or another.
-  at-client : (id at : ClientId) (t : ℕ) (e : ClientId → Event) → partyOf (e at) ≡ client at → event R t ≡ some (e at)
-      → (event R t ≡ some (e id) → ClientTurn id t) → (eqb (at .0) (id .0) ≡ false → clientAt R id (suc t) ≡ clientAt R id t) → ClientTurn id t
-  at-client id at t e party q here kept = go (eqb (at .0) (id .0)) refl
-    where
-      go : (b : Bool) → eqb (at .0) (id .0) ≡ b → ClientTurn id t
-      go true k = let same = same-client at id (eqb-true (at .0) (id .0) k) in here (q ∙ ap (λ (i : ClientId). some (e i)) same)
-      go false k = rested (kept k) (elsewhere t (client id) (e at) q (λ p. let same : at ≡ id = cc in eqb-false (at .0) (id .0) k (ap (λ (i : ClientId). i .0) same)))
+  -- Its own event,
+  own-turn : (id : ClientId) (t : ℕ) → GoodClient id (clientAt R id t) → (e : ClientEvent) → event R t ≡ some (at-client id e) → ClientTurn id t
+  own-turn id t good (writes x card) q =
+      by-outcome id t (beginWrite (clientAt R id t) x card) (client-outcome id t (writes x card) q) (λ turn k step.
+      wrote x card turn q (write-begun (clientAt R id t) x card turn (good .fits) (R .have-bytes t (begins-write id x card) q) k) step)
+  own-turn id t good (reads x) q =
+      by-outcome id t (beginRead (clientAt R id t) x) (client-outcome id t (reads x) q) (λ turn k step.
+      asked x turn q (read-begun (clientAt R id t) x turn (good .fits) k) step)
+  own-turn id t good (hears bytes verdicts) q = client-here id t bytes verdicts good q
 
+  -- or another's.
   client-turn-of : (id : ClientId) (t : ℕ) → GoodClient id (clientAt R id t) → (e : Option Event) → event R t ≡ e → ClientTurn id t
   unfolding clientAt
   client-turn-of id t good none q = rested (rw q) (no-event t (client id) q)
-  client-turn-of id t good (some (to-replica at bytes verdicts)) q = rested (rw q) (elsewhere t (client id) (to-replica at bytes verdicts) q (λ p. apart (cc)))
-  client-turn-of id t good (some (begins-write at x card)) q =
-      at-client id at t (λ i. begins-write i x card) refl q
-      (λ e. by-outcome id t (beginWrite (clientAt R id t) x card) (write-outcome id t x card e) (λ turn k step.
-      wrote x card turn e (write-begun (clientAt R id t) x card turn (good .fits) (R .have-bytes t (begins-write id x card) e) k) step))
-      (λ k. rw (q, k))
-  client-turn-of id t good (some (begins-read at x)) q =
-      at-client id at t (λ i. begins-read i x) refl q
-      (λ e. by-outcome id t (beginRead (clientAt R id t) x) (read-outcome id t x e) (λ turn k step.
-      asked x turn e (read-begun (clientAt R id t) x turn (good .fits) k) step))
-      (λ k. rw (q, k))
-  client-turn-of id t good (some (to-client at bytes verdicts)) q =
-      at-client id at t (λ i. to-client i bytes verdicts) refl q (client-here id t bytes verdicts good) (λ k. rw (q, k))
+  client-turn-of id t good (some (at-replica at e)) q = rested (rw q) (elsewhere t (client id) (at-replica at e) q (λ p. apart (cc)))
+  client-turn-of id t good (some (at-client at e)) q = go (eqb (at .0) (id .0)) refl
+    where
+      go : (b : Bool) → eqb (at .0) (id .0) ≡ b → ClientTurn id t
+      go true k = own-turn id t good e (q ∙ ap (λ (i : ClientId). some (at-client i e)) (same-client at id (eqb-true (at .0) (id .0) k)))
+      go false k = rested (rw (q, k)) (elsewhere t (client id) (at-client at e) q (λ p. let same : at ≡ id = cc in eqb-false (at .0) (id .0) k (ap (λ (i : ClientId). i .0) same)))
 
   begun-good : (id : ClientId) (t : ℕ) (x : RegisterId) (question : Message) (phase : Phase) (card : List ℕ) (turn : Turn) → GoodClient id (clientAt R id t) → PhaseFits phase
       → Begun (clientAt R id t) x question phase card turn → ClientStep id t turn → GoodClient id (clientAt R id (suc t))

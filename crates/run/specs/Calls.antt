@@ -23,7 +23,7 @@ use Rattle.protocol.specs.declared.replica.Bank.{Bank}
 use Rattle.protocol.specs.declared.replica.ReplicaAnswer.{ReplicaAnswer}
 use Rattle.protocol.specs.declared.replica.ReplicaAnswer.the-variants.{Send as ReplicaSend, Refused as ReplicaRefused}
 use Rattle.wire.specs.Writing.{unsigned, inFront}
-use Rattle.run.specs.Run.{Event, begins-write, begins-read, to-replica, to-client, registerOf, Run, event, bankAt, clientAt, answerAt}
+use Rattle.run.specs.Run.{ReplicaEvent, is-handed, ClientEvent, writes, reads, hears, Event, at-replica, at-client, registerOf, Run, event, bankAt, clientAt, answerAt}
 
 -- What a call gives back beside the record: its answer, the card array with its length, and the output.
 pub record Given : Type 0 where
@@ -64,20 +64,25 @@ madeWith f id firstNonce = cond (isWriter id) (madeClient f id firstNonce) (made
 abbrev pub hearingCall : ClientId → Client → List ℕ → List ℕ → List ℕ → ClientCall
 hearingCall id before bytes verdicts old = cond (isWriter id) (clientCall before bytes verdicts old) (viewerCall before bytes verdicts old)
 
--- The record that the call of an event leaves to its party; another party's event leaves it.
+-- The call of an event.
+abbrev pub bankCalled : ReplicaEvent → List ℕ → Bank → BankCall
+bankCalled (is-handed bytes verdicts) old before = bankCall before bytes verdicts old
+
+abbrev pub clientCalled : ClientId → ClientEvent → List ℕ → Client → ClientCall
+clientCalled id (writes x card) old before = beginWriteCall before x card old
+clientCalled id (reads x) old before = beginReadCall before x old
+clientCalled id (hears bytes verdicts) old before = hearingCall id before bytes verdicts old
+
+-- The record that it leaves to its party; another party's event leaves it.
 abbrev pub calledAtReplica : ReplicaId → Option Event → List ℕ → Bank → Bank
 calledAtReplica id none old before = before
-calledAtReplica id (some (begins-write at x card)) old before = before
-calledAtReplica id (some (begins-read at x)) old before = before
-calledAtReplica id (some (to-replica at bytes verdicts)) old before = cond (eqb (at .0) (id .0)) (bankCall before bytes verdicts old .bank) before
-calledAtReplica id (some (to-client at bytes verdicts)) old before = before
+calledAtReplica id (some (at-replica at e)) old before = cond (eqb (at .0) (id .0)) (bankCalled e old before .bank) before
+calledAtReplica id (some (at-client at e)) old before = before
 
 abbrev pub calledAtClient : ClientId → Option Event → List ℕ → Client → Client
 calledAtClient id none old before = before
-calledAtClient id (some (begins-write at x card)) old before = cond (eqb (at .0) (id .0)) (beginWriteCall before x card old .client) before
-calledAtClient id (some (begins-read at x)) old before = cond (eqb (at .0) (id .0)) (beginReadCall before x old .client) before
-calledAtClient id (some (to-replica at bytes verdicts)) old before = before
-calledAtClient id (some (to-client at bytes verdicts)) old before = cond (eqb (at .0) (id .0)) (hearingCall at before bytes verdicts old .client) before
+calledAtClient id (some (at-replica at e)) old before = before
+calledAtClient id (some (at-client at e)) old before = cond (eqb (at .0) (id .0)) (clientCalled at e old before .client) before
 
 -- `output t` is what the output that is lent to event t's call holds before it.
 module _ (R : Run) (output : ℕ → List ℕ) where
@@ -92,10 +97,8 @@ module _ (R : Run) (output : ℕ → List ℕ) where
 
   -- What the call of an event at time t gives back.
   unfoldable pub givenAt : ℕ → Event → Given
-  givenAt t (begins-write id x card) = givenByClient (beginWriteCall (calledClient id t) x card (output t))
-  givenAt t (begins-read id x) = givenByClient (beginReadCall (calledClient id t) x (output t))
-  givenAt t (to-replica id bytes verdicts) = givenByReplica (bankCall (calledReplica id t) bytes verdicts (output t))
-  givenAt t (to-client id bytes verdicts) = givenByClient (hearingCall id (calledClient id t) bytes verdicts (output t))
+  givenAt t (at-replica id e) = givenByReplica (bankCalled e (output t) (calledReplica id t))
+  givenAt t (at-client id e) = givenByClient (clientCalled id e (output t) (calledClient id t))
 
   pub record CallsAreRun : Type 0 where
     -- "Each is set up once, before the first event, with the run's f and its own number" .. "Its party gets the record that its

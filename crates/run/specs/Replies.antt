@@ -11,7 +11,7 @@ use Rattle.base.specs.declared.party.RegisterId.{RegisterId}
 use Rattle.base.specs.declared.party.ReplicaId.{ReplicaId}
 use Rattle.protocol.specs.Client.{Answer}
 use Rattle.wire.specs.Decode.{registerIn, framed}
-use Rattle.run.specs.Run.{Event, begins-write, begins-read, to-replica, to-client, Run, answerTo}
+use Rattle.run.specs.Run.{Event, at-replica, at-client, is-handed, Run, answerTo}
 
 -- A message with its verdicts (marks).
 pub record Delivery : Type 0 where
@@ -30,20 +30,16 @@ module _ (id : ReplicaId) (x : RegisterId) where
   -- What replica `id` is handed for register x, of these events, in order.
   abbrev pub handedIn : List Event → List Delivery
   handedIn [] = []
-  handedIn (begins-write at y card ∷ events) = handedIn events
-  handedIn (begins-read at y ∷ events) = handedIn events
-  handedIn (to-replica at bytes verdicts ∷ events) =
+  handedIn (at-replica at (is-handed bytes verdicts) ∷ events) =
       cond (eqb (at .0) (id .0) && isFor x bytes) (record { bytes = bytes; verdicts = verdicts } ∷ handedIn events) (handedIn events)
-  handedIn (to-client at bytes verdicts ∷ events) = handedIn events
+  handedIn (at-client at e ∷ events) = handedIn events
 
   -- What it answers, the first of these events being event t of the run.
   abbrev pub answersIn : Run → ℕ → List Event → List (Outcome Answer)
   answersIn R t [] = []
-  answersIn R t (begins-write at y card ∷ events) = answersIn R (suc t) events
-  answersIn R t (begins-read at y ∷ events) = answersIn R (suc t) events
-  answersIn R t (to-replica at bytes verdicts ∷ events) =
-      cond (eqb (at .0) (id .0) && isFor x bytes) (answerTo R t (some (to-replica at bytes verdicts)) ∷ answersIn R (suc t) events) (answersIn R (suc t) events)
-  answersIn R t (to-client at bytes verdicts ∷ events) = answersIn R (suc t) events
+  answersIn R t (at-replica at (is-handed bytes verdicts) ∷ events) =
+      cond (eqb (at .0) (id .0) && isFor x bytes) (answerTo R t (some (at-replica at (is-handed bytes verdicts))) ∷ answersIn R (suc t) events) (answersIn R (suc t) events)
+  answersIn R t (at-client at e ∷ events) = answersIn R (suc t) events
 
 abbrev pub handedFor : Run → ReplicaId → RegisterId → List Delivery
 handedFor R id x = handedIn id x (R .events)

@@ -27,32 +27,48 @@ use Rattle.wire.specs.Message.{Message, body}
 
 -- "a desk begins a write of some card or begins a read; a holder or a desk is handed a message, of any bytes and length,
 -- with marks of any number and value". Document 02, #103: "A desk names its set at each beginning".
+pub data ReplicaEvent : Type 0 where
+  is-handed : List ℕ → List ℕ → ReplicaEvent
+
+pub data ClientEvent : Type 0 where
+  writes : RegisterId → List ℕ → ClientEvent
+  reads : RegisterId → ClientEvent
+  hears : List ℕ → List ℕ → ClientEvent
+
 pub data Event : Type 0 where
-  begins-write : ClientId → RegisterId → List ℕ → Event
-  begins-read : ClientId → RegisterId → Event
-  to-replica : ReplicaId → List ℕ → List ℕ → Event
-  to-client : ClientId → List ℕ → List ℕ → Event
+  at-replica : ReplicaId → ReplicaEvent → Event
+  at-client : ClientId → ClientEvent → Event
+
+abbrev pub begins-write : ClientId → RegisterId → List ℕ → Event
+begins-write id x card = at-client id (writes x card)
+
+abbrev pub begins-read : ClientId → RegisterId → Event
+begins-read id x = at-client id (reads x)
+
+abbrev pub to-replica : ReplicaId → List ℕ → List ℕ → Event
+to-replica id bytes verdicts = at-replica id (is-handed bytes verdicts)
+
+abbrev pub to-client : ClientId → List ℕ → List ℕ → Event
+to-client id bytes verdicts = at-client id (hears bytes verdicts)
 
 -- The party of an event, as a sender of messages.
 abbrev pub partyOf : Event → Sender
-partyOf (begins-write id x card) = client id
-partyOf (begins-read id x) = client id
-partyOf (to-replica id bytes verdicts) = replica id
-partyOf (to-client id bytes verdicts) = client id
+partyOf (at-replica id e) = replica id
+partyOf (at-client id e) = client id
 
 -- The register of an event, and of what is answered to it: the one that is named, or that the message is for.
 abbrev pub registerOf : Event → RegisterId
-registerOf (begins-write id x card) = x
-registerOf (begins-read id x) = x
-registerOf (to-replica id bytes verdicts) = registerIn bytes
-registerOf (to-client id bytes verdicts) = registerIn bytes
+registerOf (at-replica id (is-handed bytes verdicts)) = registerIn bytes
+registerOf (at-client id (writes x card)) = x
+registerOf (at-client id (reads x)) = x
+registerOf (at-client id (hears bytes verdicts)) = registerIn bytes
 
 -- Bytes are below 256.
 abbrev pub HasBytes : Event → Type 0
-HasBytes (begins-write id x card) = Bytes card
-HasBytes (begins-read id x) = Unit {0}
-HasBytes (to-replica id bytes verdicts) = Bytes bytes
-HasBytes (to-client id bytes verdicts) = Bytes bytes
+HasBytes (at-replica id (is-handed bytes verdicts)) = Bytes bytes
+HasBytes (at-client id (writes x card)) = Bytes card
+HasBytes (at-client id (reads x)) = Unit {0}
+HasBytes (at-client id (hears bytes verdicts)) = Bytes bytes
 
 abbrev pub CorrectIn : (ReplicaId → Bool) → (ClientId → Bool) → Sender → Type 0
 CorrectIn correct-replica correct-client (replica id) = correct-replica id ≡ true
@@ -87,20 +103,25 @@ nextClient before (refused number) = before
 abbrev pub clientHears : ClientId → Client → List ℕ → List ℕ → Outcome Turn
 clientHears id before bytes verdicts = cond (isWriter id) (clientStep before bytes verdicts) (viewerStep before bytes verdicts)
 
+-- What a party makes of its event.
+abbrev pub bankAfter : ReplicaEvent → Bank → Bank
+bankAfter (is-handed bytes verdicts) before = nextBank (placeIn bytes) before (bankStep before bytes verdicts)
+
+abbrev pub clientDoes : ClientId → ClientEvent → Client → Outcome Turn
+clientDoes id (writes x card) before = beginWrite before x card
+clientDoes id (reads x) before = beginRead before x
+clientDoes id (hears bytes verdicts) before = clientHears id before bytes verdicts
+
 -- "Its party gets the record that its own last event left"; another party's event leaves it.
 abbrev pub afterAtReplica : ReplicaId → Option Event → Bank → Bank
 afterAtReplica id none before = before
-afterAtReplica id (some (begins-write at x card)) before = before
-afterAtReplica id (some (begins-read at x)) before = before
-afterAtReplica id (some (to-replica at bytes verdicts)) before = cond (eqb (at .0) (id .0)) (nextBank (placeIn bytes) before (bankStep before bytes verdicts)) before
-afterAtReplica id (some (to-client at bytes verdicts)) before = before
+afterAtReplica id (some (at-replica at e)) before = cond (eqb (at .0) (id .0)) (bankAfter e before) before
+afterAtReplica id (some (at-client at e)) before = before
 
 abbrev pub afterAtClient : ClientId → Option Event → Client → Client
 afterAtClient id none before = before
-afterAtClient id (some (begins-write at x card)) before = cond (eqb (at .0) (id .0)) (nextClient before (beginWrite before x card)) before
-afterAtClient id (some (begins-read at x)) before = cond (eqb (at .0) (id .0)) (nextClient before (beginRead before x)) before
-afterAtClient id (some (to-replica at bytes verdicts)) before = before
-afterAtClient id (some (to-client at bytes verdicts)) before = cond (eqb (at .0) (id .0)) (nextClient before (clientHears at before bytes verdicts)) before
+afterAtClient id (some (at-replica at e)) before = before
+afterAtClient id (some (at-client at e)) before = cond (eqb (at .0) (id .0)) (nextClient before (clientDoes at e before)) before
 
 -- The answer of a step alone; a replica's answer is a message to send.
 abbrev pub replicaAnswer : Outcome Reply → Outcome Answer
@@ -110,6 +131,9 @@ replicaAnswer (refused number) = refused number
 abbrev pub clientAnswer : Outcome Turn → Outcome Answer
 clientAnswer (accepted turn) = accepted (turn .answer)
 clientAnswer (refused number) = refused number
+
+abbrev pub bankAnswer : ReplicaEvent → Bank → Outcome Answer
+bankAnswer (is-handed bytes verdicts) before = replicaAnswer (bankStep before bytes verdicts)
 
 module _ (R : Run) where
   -- Event t, counted from 0.
@@ -128,10 +152,8 @@ module _ (R : Run) where
   -- The answer to an event at time t; where there is none, a refusal without a number of document 01's.
   unfoldable pub answerTo : ℕ → Option Event → Outcome Answer
   answerTo t none = refused 0
-  answerTo t (some (begins-write id x card)) = clientAnswer (beginWrite (clientAt id t) x card)
-  answerTo t (some (begins-read id x)) = clientAnswer (beginRead (clientAt id t) x)
-  answerTo t (some (to-replica id bytes verdicts)) = replicaAnswer (bankStep (bankAt id t) bytes verdicts)
-  answerTo t (some (to-client id bytes verdicts)) = clientAnswer (clientHears id (clientAt id t) bytes verdicts)
+  answerTo t (some (at-replica id e)) = bankAnswer e (bankAt id t)
+  answerTo t (some (at-client id e)) = clientAnswer (clientDoes id e (clientAt id t))
 
   abbrev pub answerAt : ℕ → Outcome Answer
   answerAt t = answerTo t (event t)

@@ -19,7 +19,7 @@ use Rattle.protocol.specs.Client.{Answer, Turn, freshClient, beginWrite, beginR
 use Rattle.protocol.specs.Bank.{freshBank, placeIn, bankStep}
 use Rattle.protocol.specs.declared.client.Client.{Client}
 use Rattle.protocol.specs.declared.replica.Bank.{Bank}
-use Rattle.run.specs.Run.{Event, begins-write, begins-read, to-replica, to-client, registerOf, nextBank, nextClient, clientHears, afterAtReplica, afterAtClient, replicaAnswer, clientAnswer, Run, event, bankAt, clientAt, answerTo}
+use Rattle.run.specs.Run.{Event, at-replica, at-client, is-handed, bankAfter, bankAnswer, clientDoes, registerOf, nextBank, nextClient, clientHears, afterAtReplica, afterAtClient, replicaAnswer, clientAnswer, Run, event, bankAt, clientAt, answerTo}
 use Rattle.base.proofs.Same.{same-equal}
 use Rattle.witness.proofs.Answers.{code}
 use Rattle.witness.proofs.Story.{Line, Each, eventsOf, Told}
@@ -79,10 +79,8 @@ abbrev clientIn : Store → ClientId → Client
 clientIn store id = getD (store .clients) (id .0) no-client
 
 abbrev inStore : Store → Event → Bool
-inStore store (begins-write id x card) = ltb (id .0) (length (store .clients))
-inStore store (begins-read id x) = ltb (id .0) (length (store .clients))
-inStore store (to-replica id bytes verdicts) = ltb (id .0) (length (store .replicas))
-inStore store (to-client id bytes verdicts) = ltb (id .0) (length (store .clients))
+inStore store (at-replica id e) = ltb (id .0) (length (store .replicas))
+inStore store (at-client id e) = ltb (id .0) (length (store .clients))
 
 abbrev withReplica : Store → ReplicaId → Bank → Store
 withReplica store id next = record { replicas = set (store .replicas) (id .0) next; clients = store .clients }
@@ -108,10 +106,8 @@ atClient store id step =
     record { answer = clientAnswer turn; next = withClient store id (nextClient before turn) }
 
 abbrev play : Store → Event → Played
-play store (begins-write id x card) = atClient store id (λ before. beginWrite before x card)
-play store (begins-read id x) = atClient store id (λ before. beginRead before x)
-play store (to-replica id bytes verdicts) = atReplica store id bytes verdicts
-play store (to-client id bytes verdicts) = atClient store id (λ before. clientHears id before bytes verdicts)
+play store (at-replica id (is-handed bytes verdicts)) = atReplica store id bytes verdicts
+play store (at-client id e) = atClient store id (clientDoes id e)
 
 -- The lines' answers are those of their events, all at parties of the store.
 unfoldable pub plays : Store → List Line → Bool
@@ -153,43 +149,26 @@ module _ (R : Run) where
   next-client t e found i = ap (λ (x : Option Event). afterAtClient (client-of i) x (clientAt R (client-of i) t)) (sym found)
 
   still-holds : (t : ℕ) (store : Store) (e : Event) → event R t ≡ some e → inStore store e ≡ true → Holds t store → Holds (suc t) (play store e .next)
-  still-holds t store (begins-write id x card) found there holds =
-      record {
-        replicas = λ i inside. holds .replicas i inside ∙ next-replica t (begins-write id x card) found i;
-        clients = λ i inside.
-            steps-right no-client (store .clients) (λ j. clientAt R (client-of j) t) (id .0) (λ c. nextClient c (beginWrite c x card)) (ltb-true (id .0) (length (store .clients)) there) (holds .clients) i inside
-            ∙ next-client t (begins-write id x card) found i;
-      }
-  still-holds t store (begins-read id x) found there holds =
-      record {
-        replicas = λ i inside. holds .replicas i inside ∙ next-replica t (begins-read id x) found i;
-        clients = λ i inside.
-            steps-right no-client (store .clients) (λ j. clientAt R (client-of j) t) (id .0) (λ c. nextClient c (beginRead c x)) (ltb-true (id .0) (length (store .clients)) there) (holds .clients) i inside
-            ∙ next-client t (begins-read id x) found i;
-      }
-  still-holds t store (to-replica id bytes verdicts) found there holds =
+  still-holds t store (at-replica id (is-handed bytes verdicts)) found there holds =
+      let e = at-replica id (is-handed bytes verdicts) in
       record {
         replicas = λ i inside.
-            steps-right no-replica (store .replicas) (λ j. bankAt R (replica-of j) t) (id .0) (λ r. nextBank (placeIn bytes) r (bankStep r bytes verdicts)) (ltb-true (id .0) (length (store .replicas)) there) (holds .replicas) i inside
-            ∙ next-replica t (to-replica id bytes verdicts) found i;
-        clients = λ i inside. holds .clients i inside ∙ next-client t (to-replica id bytes verdicts) found i;
+            steps-right no-replica (store .replicas) (λ j. bankAt R (replica-of j) t) (id .0) (bankAfter (is-handed bytes verdicts)) (ltb-true (id .0) (length (store .replicas)) there) (holds .replicas) i inside
+            ∙ next-replica t e found i;
+        clients = λ i inside. holds .clients i inside ∙ next-client t e found i;
       }
-  still-holds t store (to-client id bytes verdicts) found there holds =
+  still-holds t store (at-client id e) found there holds =
       record {
-        replicas = λ i inside. holds .replicas i inside ∙ next-replica t (to-client id bytes verdicts) found i;
+        replicas = λ i inside. holds .replicas i inside ∙ next-replica t (at-client id e) found i;
         clients = λ i inside.
-            steps-right no-client (store .clients) (λ j. clientAt R (client-of j) t) (id .0) (λ c. nextClient c (clientHears id c bytes verdicts)) (ltb-true (id .0) (length (store .clients)) there) (holds .clients) i inside
-            ∙ next-client t (to-client id bytes verdicts) found i;
+            steps-right no-client (store .clients) (λ j. clientAt R (client-of j) t) (id .0) (λ c. nextClient c (clientDoes id e c)) (ltb-true (id .0) (length (store .clients)) there) (holds .clients) i inside
+            ∙ next-client t (at-client id e) found i;
       }
 
   answers-right : (t : ℕ) (store : Store) (e : Event) → inStore store e ≡ true → Holds t store → answerTo R t (some e) ≡ play store e .answer
   unfolding answerTo
-  answers-right t store (begins-write id x card) there holds = ap (λ (c : Client). clientAnswer (beginWrite c x card)) (sym (holds .clients (id .0) (ltb-true (id .0) (length (store .clients)) there)))
-  answers-right t store (begins-read id x) there holds = ap (λ (c : Client). clientAnswer (beginRead c x)) (sym (holds .clients (id .0) (ltb-true (id .0) (length (store .clients)) there)))
-  answers-right t store (to-replica id bytes verdicts) there holds =
-      ap (λ (r : Bank). replicaAnswer (bankStep r bytes verdicts)) (sym (holds .replicas (id .0) (ltb-true (id .0) (length (store .replicas)) there)))
-  answers-right t store (to-client id bytes verdicts) there holds =
-      ap (λ (c : Client). clientAnswer (clientHears id c bytes verdicts)) (sym (holds .clients (id .0) (ltb-true (id .0) (length (store .clients)) there)))
+  answers-right t store (at-replica id (is-handed bytes verdicts)) there holds = ap (bankAnswer (is-handed bytes verdicts)) (sym (holds .replicas (id .0) (ltb-true (id .0) (length (store .replicas)) there)))
+  answers-right t store (at-client id e) there holds = ap (λ (c : Client). clientAnswer (clientDoes id e c)) (sym (holds .clients (id .0) (ltb-true (id .0) (length (store .clients)) there)))
 
   each-played : (t : ℕ) (store : Store) (lines : List Line) → ((i : ℕ) → event R (t + i) ≡ getElem? (eventsOf lines) i) → Holds t store → plays store lines ≡ true
       → Each (λ s line. code (registerOf (line .event)) (answerTo R s (some (line .event))) ≡ code (registerOf (line .event)) (line .answer)) t lines

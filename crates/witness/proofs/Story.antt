@@ -27,7 +27,7 @@ use Rattle.run.proofs.SentMessages.{said-later}
 use Rattle.run.specs.Claims.{GoesOn, Begins, Finished, Viewed, Genuine}
 use Rattle.run.specs.Premises.{TrueVerdicts, TrueFor, TrueAt, eventCard, Accepted, CardOfRun, FewFaulty, Premises}
 use Rattle.wire.specs.Acceptance.{Sender, replica, client}
-use Rattle.run.specs.Run.{Event, begins-write, begins-read, to-replica, to-client, partyOf, registerOf, HasBytes, CorrectIn, Run, event, answerTo, answerAt, At, Sent}
+use Rattle.run.specs.Run.{Event, at-replica, at-client, is-handed, writes, reads, hears, begins-write, partyOf, registerOf, HasBytes, CorrectIn, Run, event, answerTo, answerAt, At, Sent}
 use Rattle.wire.specs.Decode.{decode}
 use Rattle.wire.specs.Message.{Message, body}
 use Rattle.wire.specs.Proof.{PreparedProof, signerSet, preparedBytes, readPrepared}
@@ -124,23 +124,23 @@ all-bytes (b ∷ bytes) h (suc i) = all-bytes bytes (and-true-both (ltb b 256) (
 
 unfoldable pub hasBytes : Event → Bool
 unfolding allBytes
-hasBytes (begins-write id x card) = allBytes card
-hasBytes (begins-read id x) = true
-hasBytes (to-replica id bytes verdicts) = allBytes bytes
-hasBytes (to-client id bytes verdicts) = allBytes bytes
+hasBytes (at-client id (writes x card)) = allBytes card
+hasBytes (at-client id (reads x)) = true
+hasBytes (at-replica id (is-handed bytes verdicts)) = allBytes bytes
+hasBytes (at-client id (hears bytes verdicts)) = allBytes bytes
 
 pub has-bytes : (e : Event) → hasBytes e ≡ true → HasBytes e
 unfolding hasBytes
-has-bytes (begins-write id x card) h = all-bytes card h
-has-bytes (begins-read id x) h = tt
-has-bytes (to-replica id bytes verdicts) h = all-bytes bytes h
-has-bytes (to-client id bytes verdicts) h = all-bytes bytes h
+has-bytes (at-client id (writes x card)) h = all-bytes card h
+has-bytes (at-client id (reads x)) h = tt
+has-bytes (at-replica id (is-handed bytes verdicts)) h = all-bytes bytes h
+has-bytes (at-client id (hears bytes verdicts)) h = all-bytes bytes h
 
 abbrev writerBegins : Event → Bool
-writerBegins (begins-write id x card) = isWriter id
-writerBegins (begins-read id x) = true
-writerBegins (to-replica id bytes verdicts) = true
-writerBegins (to-client id bytes verdicts) = true
+writerBegins (at-client id (writes x card)) = isWriter id
+writerBegins (at-client id (reads x)) = true
+writerBegins (at-replica id (is-handed bytes verdicts)) = true
+writerBegins (at-client id (hears bytes verdicts)) = true
 
 abbrev pub correctIn : (ReplicaId → Bool) → (ClientId → Bool) → Sender → Bool
 correctIn replicas clients (replica id) = replicas id
@@ -269,10 +269,10 @@ module _ (R : Run) (lines : List Line) where
   trueFor t bytes verdicts (refused number) = true
 
   abbrev trueEvent : ℕ → Event → Bool
-  trueEvent t (begins-write id x card) = true
-  trueEvent t (begins-read id x) = true
-  trueEvent t (to-replica id bytes verdicts) = trueFor t bytes verdicts (decode AtReplica bytes)
-  trueEvent t (to-client id bytes verdicts) = trueFor t bytes verdicts (decode AtClient bytes)
+  trueEvent t (at-client id (writes x card)) = true
+  trueEvent t (at-client id (reads x)) = true
+  trueEvent t (at-replica id (is-handed bytes verdicts)) = trueFor t bytes verdicts (decode AtReplica bytes)
+  trueEvent t (at-client id (hears bytes verdicts)) = trueFor t bytes verdicts (decode AtClient bytes)
 
   -- Each verdict of the run is true.
   abbrev pub AllTrue : Type 0
@@ -350,10 +350,10 @@ module _ (R : Run) (lines : List Line) (told : Told R lines) where
 
   true-event : (t : ℕ) (e : Event) → trueEvent R lines t e ≡ true → TrueAt R t (some e)
   unfolding TrueAt
-  true-event t (begins-write id x card) h = tt
-  true-event t (begins-read id x) h = tt
-  true-event t (to-replica id bytes verdicts) h = true-for t bytes verdicts (decode AtReplica bytes) h
-  true-event t (to-client id bytes verdicts) h = true-for t bytes verdicts (decode AtClient bytes) h
+  true-event t (at-client id (writes x card)) h = tt
+  true-event t (at-client id (reads x)) h = tt
+  true-event t (at-replica id (is-handed bytes verdicts)) h = true-for t bytes verdicts (decode AtReplica bytes) h
+  true-event t (at-client id (hears bytes verdicts)) h = true-for t bytes verdicts (decode AtClient bytes) h
 
   pub true-verdicts : AllTrue R lines → (t : ℕ) → TrueAt R t (event R t)
   unfolding TrueAt
@@ -482,12 +482,12 @@ module _ (R : Run) (lines : List Line) (told : Told R lines) where
   pub genuine-told : (x : RegisterId) (proof : PreparedProof) (verdicts : List ℕ) → allBytes (preparedBytes proof) ≡ true → readPrepared (preparedBytes proof) ≡ accepted proof
       → length verdicts ≡ length (proof .entries) → proofOutcome (R .f) (proof .entries) verdicts (proof .timestamp) ≡ accepted (signerSet (proof .entries))
       → trueVerdicts R lines (length (R .events)) (preparedSignatures x proof) verdicts ≡ true → Genuine R x proof
-  genuine-told x proof verdicts bytes reads one-each passes true-verdicts =
+  genuine-told x proof verdicts bytes read-as one-each passes true-verdicts =
       record {
         bytes = preparedBytes proof;
         verdicts = verdicts;
         are-bytes = all-bytes (preparedBytes proof) bytes;
-        reads = reads;
+        reads = read-as;
         one-each = one-each;
         passes = passes;
         true-verdicts = true-for-all (length (R .events)) (preparedSignatures x proof) verdicts true-verdicts;
