@@ -118,23 +118,27 @@ madeClient f id firstNonce = clientIfSetUp (clientSetup f id firstNonce) (freshC
 
 -- ---- Changes of a record
 
-abbrev pub withPhase : Phase → Client → Client
-withPhase phase client =
+-- The record with these parts of its operation in place of its own; what a client is and has asked stays.
+abbrev pub remade : Phase → ℕ → List ℕ → List ℕ → ReplicaSet → ℕ → List ℕ → List ℕ → List Written → Client → Client
+remade phase size card digest signers count entries signatures written client =
     record {
       f = client .f;
       id = client .id;
       register = client .register;
       «last_nonce» = client .«last_nonce»;
       phase = phase;
-      «card_length» = client .«card_length»;
-      card = client .card;
-      digest = client .digest;
-      signers = client .signers;
-      «entry_count» = client .«entry_count»;
-      entries = client .entries;
-      signatures = client .signatures;
-      written = client .written;
+      «card_length» = size;
+      card = card;
+      digest = digest;
+      signers = signers;
+      «entry_count» = count;
+      entries = entries;
+      signatures = signatures;
+      written = written;
     }
+
+abbrev pub withPhase : Phase → Client → Client
+withPhase phase c = remade phase (c .«card_length») (c .card) (c .digest) (c .signers) (c .«entry_count») (c .entries) (c .signatures) (c .written) c
 
 -- A new operation: its register, its nonce, its card, no reply yet.
 abbrev pub beginning : RegisterId → ℕ → Phase → List ℕ → Client → Client
@@ -157,116 +161,27 @@ beginning register nonce phase card client =
 
 -- A better reply's proof is kept; document 02, #102: and the set "with the best reply".
 abbrev pub withProof : PreparedProof → Client → Client
-withProof proof client =
-    record {
-      f = client .f;
-      id = client .id;
-      register = client .register;
-      «last_nonce» = client .«last_nonce»;
-      phase = client .phase;
-      «card_length» = client .«card_length»;
-      card = client .card;
-      digest = proof .digest;
-      signers = signerSet (proof .entries);
-      «entry_count» = length (proof .entries);
-      entries = filled 715 (entriesBytes (proof .entries));
-      signatures = client .signatures;
-      written = client .written;
-    }
+withProof proof c =
+    remade (c .phase) (c .«card_length») (c .card) (proof .digest) (signerSet (proof .entries)) (length (proof .entries)) (filled 715 (entriesBytes (proof .entries))) (c .signatures) (c .written) c
 
 abbrev pub withCard : List ℕ → Client → Client
-withCard card client =
-    record {
-      f = client .f;
-      id = client .id;
-      register = client .register;
-      «last_nonce» = client .«last_nonce»;
-      phase = client .phase;
-      «card_length» = length card;
-      card = filled 17 card;
-      digest = client .digest;
-      signers = client .signers;
-      «entry_count» = client .«entry_count»;
-      entries = client .entries;
-      signatures = client .signatures;
-      written = client .written;
-    }
+withCard card c = remade (c .phase) (length card) (filled 17 card) (c .digest) (c .signers) (c .«entry_count») (c .entries) (c .signatures) (c .written) c
 
 abbrev pub withDigest : List ℕ → Client → Client
-withDigest digest client =
-    record {
-      f = client .f;
-      id = client .id;
-      register = client .register;
-      «last_nonce» = client .«last_nonce»;
-      phase = client .phase;
-      «card_length» = client .«card_length»;
-      card = client .card;
-      digest = digest;
-      signers = empty;
-      «entry_count» = 0;
-      entries = replicate 715 0;
-      signatures = client .signatures;
-      written = client .written;
-    }
+withDigest digest c = remade (c .phase) (c .«card_length») (c .card) digest empty 0 (replicate 715 0) (c .signatures) (c .written) c
 
 abbrev pub withSignatures : List ℕ → Client → Client
-withSignatures signatures client =
-    record {
-      f = client .f;
-      id = client .id;
-      register = client .register;
-      «last_nonce» = client .«last_nonce»;
-      phase = client .phase;
-      «card_length» = client .«card_length»;
-      card = client .card;
-      digest = client .digest;
-      signers = client .signers;
-      «entry_count» = client .«entry_count»;
-      entries = client .entries;
-      signatures = signatures;
-      written = client .written;
-    }
+withSignatures signatures c = remade (c .phase) (c .«card_length») (c .card) (c .digest) (c .signers) (c .«entry_count») (c .entries) signatures (c .written) c
 
 -- Document 02, #102: desks keep the set "with the prepared proof that they build".
 abbrev pub withSigners : ReplicaSet → Client → Client
-withSigners signers client =
-    record {
-      f = client .f;
-      id = client .id;
-      register = client .register;
-      «last_nonce» = client .«last_nonce»;
-      phase = client .phase;
-      «card_length» = client .«card_length»;
-      card = client .card;
-      digest = client .digest;
-      signers = signers;
-      «entry_count» = client .«entry_count»;
-      entries = client .entries;
-      signatures = client .signatures;
-      written = client .written;
-    }
+withSigners signers c = remade (c .phase) (c .«card_length») (c .card) (c .digest) signers (c .«entry_count») (c .entries) (c .signatures) (c .written) c
 
 -- A new written proof of the operation's register; those of the others stay.
 abbrev pub withLastWritten : Timestamp → List Entry → Client → Client
-withLastWritten timestamp entries client =
-    record {
-      f = client .f;
-      id = client .id;
-      register = client .register;
-      «last_nonce» = client .«last_nonce»;
-      phase = client .phase;
-      «card_length» = client .«card_length»;
-      card = client .card;
-      digest = client .digest;
-      signers = client .signers;
-      «entry_count» = client .«entry_count»;
-      entries = client .entries;
-      signatures = client .signatures;
-      written =
-          set (client .written) (registerPlace (client .register))
-          (record { timestamp = timestamp; «entry_count» = length entries; entries = filled 715 (entriesBytes entries) });
-    }
+withLastWritten timestamp entries c =
+    let last : Written = record { timestamp = timestamp; «entry_count» = length entries; entries = filled 715 (entriesBytes entries) } in
+    remade (c .phase) (c .«card_length») (c .card) (c .digest) (c .signers) (c .«entry_count») (c .entries) (c .signatures) (set (c .written) (registerPlace (c .register)) last) c
 
 -- ---- Answers
 
