@@ -2,13 +2,40 @@
 # replicas share a row, and so do consecutive replies to one client that count.
 
 function escaped(s) {
+    if (s ~ /[^ -~]/) s = as_text(s)
     gsub(/&/, "\\&amp;", s)
     gsub(/</, "\\&lt;", s)
     gsub(/>/, "\\&gt;", s)
     return s
 }
 
-function draw(s) { body = body s "\n" }
+# Bytes as XML takes them: UTF-8 as it stands, any other byte as Latin-1, and a blank for a control character.
+function as_text(s,    i, c, n, out) {
+    for (i = 1; i <= length(s); i += n) {
+        c = code(s, i)
+        n = c < 128 ? 1 : sequence(s, i, c)
+        if (n == 0) { out = out latin(c); n = 1 }
+        else out = out (c < 32 || c == 127 ? " " : substr(s, i, n))
+    }
+    return out
+}
+
+# The byte at a place, 0 for one that no string can hold.
+function code(s, i) { return index(every_byte, substr(s, i, 1)) }
+
+# The length of the UTF-8 sequence at a place that begins with a byte above 127; 0 where there is none that XML takes.
+function sequence(s, i, c,    n, k, second) {
+    n = c < 194 ? 0 : c < 224 ? 2 : c < 240 ? 3 : c < 245 ? 4 : 0
+    for (k = 1; k < n; k++) if (code(s, i + k) < 128 || code(s, i + k) > 191) return 0
+    second = n > 2 ? code(s, i + 1) : 160
+    if (c == 224 && second < 160 || c == 237 && second > 159 || c == 240 && second < 144 || c == 244 && second > 143) return 0
+    return c == 239 && second == 191 && code(s, i + 2) > 189 ? 0 : n
+}
+
+# A Latin-1 character, in UTF-8.
+function latin(c) { return c < 160 ? "?" : substr(every_byte, 192 + int(c / 64), 1) substr(every_byte, 128 + c % 64, 1) }
+
+function draw(s) { drawn[++drawings] = s }
 function write(class, x, at, s) { draw("<text class=\"" class "\" x=\"" x "\" y=\"" at "\">" escaped(s) "</text>") }
 function stroke(class, x1, x2, at) { draw("<path class=\"" class "\" d=\"M" x1 " " at "H" x2 "\"/>") }
 function head(class, x, at, way) { draw("<path class=\"" class "\" d=\"M" x " " at "l" (-9 * way) " -4v8z\"/>") }
@@ -21,6 +48,7 @@ function caption(class, s,    word, words, i, row) {
     for (i = 1; i <= words; i++) {
         if (row != "" && length(row) + length(word[i]) >= room) { caption_row(class, row); row = "" }
         row = row == "" ? word[i] : row " " word[i]
+        for (; length(row) > room; row = substr(row, room + 1)) caption_row(class, substr(row, 1, room))
     }
     caption_row(class, row)
     y += 4
@@ -32,14 +60,30 @@ function caption_row(class, s) {
     write(class, edge, y, s)
 }
 
-# A box on a party's line.
-function box(class, party, s,    x, w) {
-    y += 28
-    w = 14 + 7.3 * length(s)
-    x = place[party] - 14
+# Where something w wide starts that is to stand at x: further left if it does not fit.
+function start(x, w) {
     if (x + w > width - 4) x = width - 4 - w
-    draw("<rect class=\"" class "\" x=\"" x "\" y=\"" y - 16 "\" width=\"" w "\" height=\"22\" rx=\"4\"/>")
+    return x < 4 ? 4 : x
+}
+
+function wide(s) { return 6.5 * length(s) }
+
+# A note that ends at x, or where it ends if it starts at the left edge.
+function write_up_to(x, at, s) {
+    if (x - wide(s) < 4) write("note", 4, at, s)
+    else write("note end", x, at, s)
+}
+
+# A box on a party's line, with one line or two.
+function box(class, party, s, second,    x, w) {
+    y += 28
+    w = 14 + 7.3 * (length(s) > length(second) ? length(s) : length(second))
+    x = start(place[party] - 14, w)
+    draw("<rect class=\"" class "\" x=\"" x "\" y=\"" y - 16 "\" width=\"" w "\" height=\"" (second == "" ? 22 : 38) "\" rx=\"4\"/>")
     write("in", x + 7, y - 1, s)
+    if (second == "") return
+    y += 16
+    write("in", x + 7, y - 1, second)
 }
 
 function column(party) { return party in place ? place[party] : edge }
@@ -64,16 +108,17 @@ function sorted(list, out,    word, words, i, j, t) {
 
 function id(party) { return substr(party, index(party, " ") + 1) + 0 }
 
-function survey(    n, word) {
+function survey(    n) {
     for (n = 1; n <= lines; n++) {
         take(n)
+        count_meaningless(n)
+        if (says == "unread") continue
         if (says == "new") section++
-        if (says == "ready" && split(line[n], word, " ") == 3) note_party("replica " word[3])
-        if (begins_operation(call) || call == "to-client") note_party(whom)
-        if (number_of(handed) && says != "unread") arrives[section, number_of(handed), whom] = 1
+        if (says == "ready" && call == "replica" || begins_operation(call) || call == "to-client") note_party(whom)
+        if (number_of(handed)) arrives[section, number_of(handed), whom] = 1
     }
     section = 0
-    split("", sent)
+    forget()
 }
 
 # Clients stand left, replicas right.
@@ -97,10 +142,8 @@ function label(hex, number) {
     return number ? number " " named(hex) : kind(hex) ? named(hex) " as bytes" : "bytes"
 }
 
-function number_of(word) { return substr(word, 1, 1) == "@" ? substr(word, 2) + 0 : 0 }
-
 # A message on its way to the replicas that are reached; those that it never reaches are crossed out in its first row.
-function to_replicas(hex, number,    from, far, i, at, below) {
+function to_replicas(hex, number,    from, far, i, at, below, end) {
     y += 28
     from = far = column(source(hex))
     for (i = 1; i <= reached; i++) if (column(reach[i]) > far) far = column(reach[i])
@@ -110,8 +153,9 @@ function to_replicas(hex, number,    from, far, i, at, below) {
         at = column(reach[i])
         head(outcome[i] ~ /^refused/ ? "bad" : "head", at, y, from <= at ? 1 : -1)
         if (outcome[i] == "") continue
-        write("note end", at - 4, y + 14, outcome[i])
-        below = 8
+        below += end == "" ? 8 : at - wide(outcome[i]) < end ? 13 : 0
+        write_up_to(at - 4, y + 6 + below, outcome[i])
+        end = at
     }
     if (number && kind(hex) <= 4 && !crossed[section, number]++) losses(hex, number, far)
     y += below
@@ -138,8 +182,8 @@ function to_client(client, refusal,    i, far, at) {
         write(column(reach[i]) > at ? "label end" : "label", column(reach[i]) + (column(reach[i]) > at ? -7 : 12), y - 5, shows[i])
     }
     if (refusal == "") return
-    write("note", at + 12, y + 14, refusal)
-    y += 6
+    write("note", start(at + 12, wide(refusal)), y + 14, refusal)
+    y += 8
 }
 
 # ---- the rows of a script, line after line
@@ -184,10 +228,12 @@ function client_row(n,    client, refusal, k, last) {
     take(n - 1)
     to_client(client, refusal)
     if (says == "sent") sends(client)
-    if (says == "done") box("done", client, "done " said_word ": " in_words(said_card))
+    if (says == "done") box("done", client, "done " said_word for_register(operates[client]) ": " in_words(said_card), vouched(said_signers))
     if (says == "ended") box("done", client, "ended")
     return n - 1
 }
+
+function vouched(signers) { return vouchers(signers) == "" ? "" : "vouched for by replicas " vouchers(signers) }
 
 # A client sends a message: one that reaches nobody has its row here. In a write-back, replicas that showed the timestamp are
 # sent nothing.
@@ -201,27 +247,40 @@ function sends(client,    i, hex) {
 }
 
 function begins(client,    what, i) {
-    what = call (asked == 1 ? "" : " register " asked)
+    what = call for_register(asked)
     if (call == "write") what = what (asked == 1 ? " " : ": ") in_words(text)
     box(says == "refused" ? "wrong" : "begin", client, what (says == "refused" ? ": " said : ""))
     if (says != "sent") return
     reading[client] = call == "read"
+    operates[client] = asked
     for (i = 1; i <= replica_count; i++) delete showed[client, replica[i]]
     sends(client)
+}
+
+# A comment of the user's, without its marks.
+function remark(s) {
+    sub(/^#* */, "", s)
+    if (s != "") caption("says", s)
+}
+
+# A line of another form than a run's, as it stood there.
+function unmarked(s) {
+    if (before) sub(/^[?] /, "", s)
+    return s
 }
 
 function rows(    n) {
     for (n = 1; n <= lines; n++) {
         take(n)
-        if (substr(line[n], 1, 2) == "# ") caption("says", substr(line[n], 3))
+        if (is_comment(line[n])) remark(line[n])
         else if (says == "new") { section++; caption("says", "All parties and messages are set aside.") }
-        else if (says == "unread") caption("unread", "unread: " line[n])
+        else if (says == "unread") caption("unread", short(unmarked(line[n])) ": " said)
         else if (call == "to-replica") n = replica_row(n)
         else if (call == "to-client") n = client_row(n)
         else if (begins_operation(call)) begins(whom)
         else if (call == "keep") box("disk", whom, "image taken")
         else if (call == "restore") box("disk", whom, "back from its image")
-        else if (says == "refused") caption("unread", line[n] ": " said)
+        else if (says == "refused") caption("unread", short(line[n]) ": " said)
     }
 }
 
@@ -241,7 +300,7 @@ function chart(    i, bottom) {
     y = 46
     rows()
     y = bottom = y + 18
-    caption("says", "A message is its number, kind and timestamp. A red cross: it never arrives there. Red: refused, with the rule's number. Dashed: handed over as bytes.")
+    caption("says", "A message is its number, kind and timestamp" (registers ? ", and r2 if it is for register 2" : "") ". A red cross: it never arrives there. Red: refused, with the rule's number. Dashed: handed over as bytes.")
     print "<svg xmlns=\"http://www.w3.org/2000/svg\" viewBox=\"0 0 " width " " y + 8 "\" width=\"" width "\" height=\"" y + 8 "\">"
     style()
     print "<rect class=\"paper\" width=\"" width "\" height=\"" y + 8 "\"/>"
@@ -250,14 +309,20 @@ function chart(    i, bottom) {
         print "<rect class=\"party\" x=\"" place[party[i]] - 36 "\" y=\"14\" width=\"72\" height=\"22\" rx=\"4\"/>"
         print "<text class=\"name\" x=\"" place[party[i]] "\" y=\"29\">" party[i] "</text>"
     }
-    printf "%s", body
+    for (i = 1; i <= drawings; i++) print drawn[i]
     print "</svg>"
 }
 
-BEGIN { section = 0 }
+BEGIN {
+    section = 0
+    before_register = " r"
+    for (i = 1; i < 256; i++) every_byte = every_byte sprintf("%c", i)
+}
 
 END {
     survey()
     lay_out()
     chart()
+    complain_of_meaningless()
+    exit cut
 }
