@@ -300,7 +300,8 @@ function chart(    i, bottom) {
     y = 46
     rows()
     y = bottom = y + 18
-    caption("says", "A message is its number, kind and timestamp" (registers ? ", and r2 if it is for register 2" : "") ". A red cross: it never arrives there. Red: refused, with the rule's number. Dashed: handed over as bytes.")
+    caption("says", "A message is its number, kind and timestamp" (registers ? ", and r2 if it is for register 2" : "") \
+        ". A red cross: it never arrives there. Red: refused, with the rule's number. Dashed: handed over as bytes.")
     print "<svg xmlns=\"http://www.w3.org/2000/svg\" viewBox=\"0 0 " width " " y + 8 "\" width=\"" width "\" height=\"" y + 8 "\">"
     style()
     print "<rect class=\"paper\" width=\"" width "\" height=\"" y + 8 "\"/>"
