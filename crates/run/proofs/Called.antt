@@ -138,8 +138,8 @@ module _ (R : Run) (output : ℕ → List ℕ) (long : (t : ℕ) → longest ≤
   event-for id t (reads x) q turn e = begins-read-facts (clientAt R id t) x turn (good-client R id (R .at-correct t (begins-read id x) q) t .fits) e .register-is
   event-for id t (hears bytes verdicts) q turn e =
       let here = to-client id bytes verdicts in
-      let (message, decoded, facts) = hears-takes R id (clientAt R id t) bytes verdicts turn (good-client R id (R .at-correct t here q) t) (R .have-bytes t here q) e in
-      facts .same-register ∙ sym (found-register AtClient bytes (clientAt R id t .register) message decoded)
+      let (message, admitted, stepped, facts) = hears-takes R id (clientAt R id t) bytes verdicts turn (good-client R id (R .at-correct t here q) t) (R .have-bytes t here q) e in
+      facts .same-register ∙ sym (found-register AtClient bytes (clientAt R id t .register) message (admitted .decodes))
 
   answers-to : (t : ℕ) (e : Event) → event R t ≡ some e → givenAt R output t e ≡ givenFor (registerOf e) (output t) (answerTo R t (some e))
   unfolding givenAt answerTo

@@ -442,7 +442,7 @@ module _ (R : Run) (x : RegisterId) where
     heard-card : (h : Heard R id t) (sender : ReplicaId) (nonce : ℕ) (card : List ℕ) (proof : Option PreparedProof) → h .message ≡ CARD sender nonce card proof (now .id) → CardOfRun R card
     heard-card h sender nonce card proof e = record {
       time = t;
-      carried = rw (h .event-is, h .decoded, e);
+      carried = rw (h .event-is, h .admitted .decodes, e);
       not-refused = (h .turn .answer, h .step .answer-is);
     }
 

@@ -60,11 +60,11 @@ module _ (R : Run) (x : RegisterId) where
   begunWith false id e b = startCard
 
   -- The event of a beginning.
-  begins-at : (w : Bool) (id : ClientId) (t : ℕ) → Begins R x w id (event R t) → At R t (client id)
+  pub begins-at : (w : Bool) (id : ClientId) (t : ℕ) → Begins R x w id (event R t) → At R t (client id)
   begins-at true id t b = (begins-write id x (b .0), b .1, refl)
   begins-at false id t b = (begins-read id x, b, refl)
 
-  begun-card : (w : Bool) (id : ClientId) (t : ℕ) (b : Begins R x w id (event R t)) → Accepted R t → w ≡ true → CardOfRun R (begunWith w id (event R t) b)
+  pub begun-card : (w : Bool) (id : ClientId) (t : ℕ) (b : Begins R x w id (event R t)) → Accepted R t → w ≡ true → CardOfRun R (begunWith w id (event R t) b)
   begun-card true id t b a w = record { time = t; carried = ap (eventCard R) (b .1); not-refused = a }
   begun-card false id t b a w = apart (cc)
 
@@ -94,7 +94,7 @@ module _ (R : Run) (x : RegisterId) where
             (b .register-is ∙ for-it, record { new = omega arith; seen = λ r k c. none-in r k; shown-by = λ r k c. none-in r k; is-shown = inl (refl, b .card-is, b .no-signers) })
         go (heard h) = apart (cc (h .event-is))
 
-    start : (w : Bool) (t₀ : ℕ) (b : Begins R x w id (event R t₀)) → Accepted R t₀
+    pub start : (w : Bool) (t₀ : ℕ) (b : Begins R x w id (event R t₀)) → Accepted R t₀
         → During R x w id (begunWith w id (event R t₀) b) t₀ (suc t₀) (clientAt R id (suc t₀)) (clientAt R id (suc t₀) .phase)
     start true t₀ b a = start-write t₀ (b .0) (b .1) a
     start false t₀ b a = start-read t₀ b a

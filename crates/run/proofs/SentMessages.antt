@@ -50,7 +50,7 @@ module _ (R : Run) where
   sent-legal (replica id) c t m at a =
       let s = replica-step R (registerOf (at .0)) id c t (send m) (at, refl, a) in
       let same : s .reply .message ≡ m = cc (s .answer-is) in
-      let small = decoded-register AtReplica (s .bytes) (registerIn (s .bytes)) (s .message) (s .decoded) (R .have-bytes t (to-replica id (s .bytes) (s .verdicts)) (s .event-is)) in
+      let small = decoded-register AtReplica (s .bytes) (registerIn (s .bytes)) (s .message) (s .admitted .decodes) (R .have-bytes t (to-replica id (s .bytes) (s .verdicts)) (s .event-is)) in
       subst LegalMessage same (s .facts .legal) (registerOf (at .0)) (subst (λ (x : RegisterId). x .0 < 256) (step-register R (registerOf (at .0)) id t s (send m) (at, refl, a)) small)
   sent-legal (client id) c t m at a = go (client-turn R id c t)
     where
@@ -69,8 +69,8 @@ module _ (R : Run) where
       go (heard h) =
           let same : h .turn .answer ≡ send m = cc (h .step .answer-is) in
           let own = clientAt R id t .register in
-          let small = decoded-register AtClient (h .bytes) own (h .message) (h .decoded) (R .have-bytes t (to-client id (h .bytes) (h .verdicts)) (h .event-is)) in
-          here (to-client id (h .bytes) (h .verdicts)) (h .event-is) (subst (λ (x : RegisterId). x .0 < 256) (sym (found-register AtClient (h .bytes) own (h .message) (h .decoded))) small)
+          let small = decoded-register AtClient (h .bytes) own (h .message) (h .admitted .decodes) (R .have-bytes t (to-client id (h .bytes) (h .verdicts)) (h .event-is)) in
+          here (to-client id (h .bytes) (h .verdicts)) (h .event-is) (subst (λ (x : RegisterId). x .0 < 256) (sym (found-register AtClient (h .bytes) own (h .message) (h .admitted .decodes))) small)
           (subst LegalAnswer same (h .facts .legal))
 
   -- A correct party that sent the bytes of a legal message for a register sent that message for it.
@@ -128,10 +128,10 @@ module _ (R : Run) where
     unfolding TrueAt
     heard-true id t h =
         let there : TrueFor R t (h .bytes) (h .verdicts) (decode AtClient (h .bytes)) = subst (TrueAt R t) (h .event-is) (P .true-verdicts t) in
-        subst (TrueFor R t (h .bytes) (h .verdicts)) (h .decoded) there
+        subst (TrueFor R t (h .bytes) (h .verdicts)) (h .admitted .decodes) there
 
     pub heard-legal : (id : ClientId) (t : ℕ) (h : Heard R id t) → Legal (clientAt R id t .register) (h .message)
-    heard-legal id t h = decoded-legal AtClient (h .bytes) (clientAt R id t .register) (h .message) (h .decoded) (R .have-bytes t (to-client id (h .bytes) (h .verdicts)) (h .event-is))
+    heard-legal id t h = decoded-legal AtClient (h .bytes) (clientAt R id t .register) (h .message) (h .admitted .decodes) (R .have-bytes t (to-client id (h .bytes) (h .verdicts)) (h .event-is))
 
     pub heard-said : (id : ClientId) (t : ℕ) (h : Heard R id t) (m : Message) → h .message ≡ m → Correct R (senderOf m) → Said R (clientAt R id t .register) (senderOf m) m t
     heard-said id t h m e = subst (λ (n : Message). Correct R (senderOf n) → Said R (clientAt R id t .register) (senderOf n) n t) e own
@@ -141,7 +141,7 @@ module _ (R : Run) where
             let small = R .have-bytes t (to-client id (h .bytes) (h .verdicts)) (h .event-is) in
             let sent = own-sent t _ _ (h .verdicts) (h .facts .passed .own) (heard-true id t h) c in
             said (senderOf (h .message)) c (clientAt R id t .register) (h .message) (heard-legal id t h) t
-            (subst (λ (b : List ℕ). Sent R (senderOf (h .message)) b t) (covered AtClient (h .bytes) (clientAt R id t .register) (h .message) small (h .decoded)) sent)
+            (subst (λ (b : List ℕ). Sent R (senderOf (h .message)) b t) (covered AtClient (h .bytes) (clientAt R id t .register) (h .message) small (h .admitted .decodes)) sent)
 
     -- So was the message that a replica takes, for the register that it is for.
     pub step-said : (x : RegisterId) (id : ReplicaId) (t : ℕ) (s : ReplicaStep R x id t) (answer : Answer) → Answers R x id t answer → (m : Message) → s .message ≡ m
@@ -155,8 +155,8 @@ module _ (R : Run) where
         own c =
             let small = R .have-bytes t (to-replica id (s .bytes) (s .verdicts)) (s .event-is) in
             let there : TrueFor R t (s .bytes) (s .verdicts) (decode AtReplica (s .bytes)) = subst (TrueAt R t) (s .event-is) (P .true-verdicts t) in
-            let true-ones : TrueVerdicts R t (signaturesOf (s .bytes) (forRegister (registerIn (s .bytes)) (s .message))) (s .verdicts) = subst (TrueFor R t (s .bytes) (s .verdicts)) (s .decoded) there in
+            let true-ones : TrueVerdicts R t (signaturesOf (s .bytes) (forRegister (registerIn (s .bytes)) (s .message))) (s .verdicts) = subst (TrueFor R t (s .bytes) (s .verdicts)) (s .admitted .decodes) there in
             let sent = own-sent t _ _ (s .verdicts) (s .facts .passed .own) true-ones c in
-            let legal = decoded-legal AtReplica (s .bytes) (registerIn (s .bytes)) (s .message) (s .decoded) small in
+            let legal = decoded-legal AtReplica (s .bytes) (registerIn (s .bytes)) (s .message) (s .admitted .decodes) small in
             said (senderOf (s .message)) c (registerIn (s .bytes)) (s .message) legal t
-            (subst (λ (b : List ℕ). Sent R (senderOf (s .message)) b t) (covered AtReplica (s .bytes) (registerIn (s .bytes)) (s .message) small (s .decoded)) sent)
+            (subst (λ (b : List ℕ). Sent R (senderOf (s .message)) b t) (covered AtReplica (s .bytes) (registerIn (s .bytes)) (s .message) small (s .admitted .decodes)) sent)

@@ -174,7 +174,7 @@ module _ (R : Run) (x : RegisterId) where
       dropped (v ∷ vs) l = let both = length-append (proof .entries) [] in omega arith
 
   -- A genuine proof is backed at the end of the list.
-  genuine-backed : x .0 < 256 → (proof : PreparedProof) → Genuine R x proof → Backed (length (R .events)) (proof .timestamp) (proof .digest) (signerSet (proof .entries))
+  pub genuine-backed : x .0 < 256 → (proof : PreparedProof) → Genuine R x proof → Backed (length (R .events)) (proof .timestamp) (proof .digest) (signerSet (proof .entries))
   unfolding proofOutcome
   genuine-backed small proof g =
       let nine = guard-accepted 9 (shaped (R .f) (proof .entries)) (guard 10 (genuine (g .verdicts)) (guard 11 (issued (proof .timestamp)) (accepted (signerSet (proof .entries))))) (signerSet (proof .entries)) (g .passes) in

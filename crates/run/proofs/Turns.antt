@@ -1,4 +1,5 @@
--- What an event does to a party's record: it is kept, or the party steps, with the step's facts. Assumes nothing.
+-- What an event does to a party's record: it is kept, or the party steps, with the step and its facts. Counts and progress (#107) rest on the
+-- step itself, and on what is `pub` here, in `Order` and in `Slots` without a user yet. Assumes nothing.
 use mathlib.Core.Path.{_≡_, refl, sym, ap, subst, _∙_}
 use mathlib.Core.Bool.{Bool, true, false, cond}
 use mathlib.Core.List.{List}
@@ -16,7 +17,7 @@ use Rattle.base.specs.declared.party.RegisterId.{RegisterId}
 use Rattle.base.specs.declared.party.ReplicaId.{ReplicaId}
 use Rattle.base.proofs.Range.{bounds}
 use Rattle.base.proofs.Registers.{place-below}
-use Rattle.wire.specs.Decode.{forRegister, decode, registerIn}
+use Rattle.wire.specs.Decode.{registerIn}
 use Rattle.wire.specs.Layout.{signature}
 use Rattle.wire.specs.Message.{Message, READ-STAMP, READ}
 use Rattle.wire.proofs.Admitted.{Admitted, admitted-then}
@@ -26,9 +27,9 @@ use Rattle.base.specs.ReplicaSet.{empty}
 use Rattle.base.specs.Timestamp.{start}
 use Rattle.protocol.specs.Parts.{startCard}
 use Rattle.protocol.specs.Bank.{partAt, withPartAt, freshBank, placeIn, bankStep}
-use Rattle.protocol.specs.Client.{Answer, send, Turn, noWritten, freshClient, beginWrite, beginRead, clientStep}
+use Rattle.protocol.specs.Client.{Answer, send, Turn, noWritten, freshClient, beginWrite, beginRead, onReply, clientStep}
 use Rattle.protocol.specs.Replica.{Reply, freshRegister, freshReplica, onRequest, replicaStep}
-use Rattle.protocol.specs.Viewer.{viewerStep}
+use Rattle.protocol.specs.Viewer.{onViewerReply, viewerStep}
 use Rattle.protocol.specs.declared.client.Client.{Client}
 use Rattle.protocol.specs.declared.client.Phase.{Phase}
 use Rattle.protocol.specs.declared.client.Phase.the-variants.{Stamps, Cards}
@@ -44,7 +45,7 @@ use Rattle.protocol.proofs.ClientCases.{Begun, PhaseFits, ClientFacts}
 use Rattle.protocol.proofs.ClientFacts.{begins-write as write-begun, begins-read as read-begun, client-facts, viewer-facts}
 use Rattle.protocol.proofs.Towards.{client-takes, viewer-takes}
 use Rattle.wire.specs.Acceptance.{Sender, replica, client}
-use Rattle.run.specs.Run.{ReplicaEvent, ClientEvent, is-handed, writes, reads, hears, Event, at-replica, at-client, begins-write, begins-read, to-replica, to-client, clientDoes, Run, partyOf, registerOf, nextBank, nextClient, clientHears, replicaAnswer, clientAnswer, event, bankAt, replicaAt, registerAt, clientAt, answerTo, answerAt, At}
+use Rattle.run.specs.Run.{ClientEvent, is-handed, writes, reads, hears, Event, at-replica, at-client, begins-write, begins-read, to-replica, to-client, clientDoes, Run, partyOf, registerOf, nextBank, nextClient, clientHears, replicaAnswer, clientAnswer, event, bankAt, replicaAt, registerAt, clientAt, answerTo, answerAt, At}
 
 -- Two constructors are not equal.
 pub apart : {A : Type 0} → _≡_ {A = ℕ} 0 1 → A
@@ -90,6 +91,10 @@ fresh-client-fits f id nonce low small = record {
   written-fit = λ at inside. subst WrittenKeptFits (sym (getD-replicate 16 at unwritten noWritten inside)) (record { timestamp-fits = omega arith; entries-fit = zeros-fit 715 });
 }
 
+-- What a client makes of a message that 2 to 11 let through, with the message's own signature.
+abbrev pub clientTakes : ClientId → Client → List ℕ → Message → Outcome Turn
+clientTakes id before own message = cond (isWriter id) (onReply before own message) (onViewerReply before message)
+
 module _ (R : Run) where
   -- The party answers nothing at event t: it is not its event, or it is refused.
   abbrev pub Silent : Sender → ℕ → Type 0
@@ -120,7 +125,8 @@ module _ (R : Run) where
     message : Message
     reply : Reply
     event-is : event R t ≡ some (to-replica id bytes verdicts)
-    decoded : decode AtReplica bytes ≡ accepted (forRegister (registerIn bytes) message)
+    admitted : Admitted AtReplica (bankAt R id t .f) bytes verdicts (registerIn bytes) message
+    stepped : onRequest (partAt (placeIn bytes) (bankAt R id t)) message ≡ accepted reply
     facts : ReplicaFacts (partAt (placeIn bytes) (bankAt R id t)) verdicts message reply
     next-is : bankAt R id (suc t) ≡ withPartAt (placeIn bytes) (reply .next) (bankAt R id t)
     answer-is : answerAt R t ≡ accepted (send (reply .message))
@@ -129,7 +135,7 @@ module _ (R : Run) where
     all-rest : bankAt R id (suc t) ≡ bankAt R id t → Silent (replica id) t → BankTurn id t
     one-steps : BankStep id t → BankTurn id t
 
-  bank-outcome : (id : ReplicaId) (t : ℕ) (bytes verdicts : List ℕ) (out : Outcome Reply) → event R t ≡ some (to-replica id bytes verdicts)
+  pub bank-outcome : (id : ReplicaId) (t : ℕ) (bytes verdicts : List ℕ) (out : Outcome Reply) → event R t ≡ some (to-replica id bytes verdicts)
       → bankStep (bankAt R id t) bytes verdicts ≡ out → (bankAt R id (suc t) ≡ nextBank (placeIn bytes) (bankAt R id t) out) × (answerAt R t ≡ replicaAnswer out)
   unfolding bankAt answerTo
   bank-outcome id t bytes verdicts out e q = (rw (e, eq-eqb (id .0) (id .0) refl, q), rw (e, q))
@@ -155,7 +161,8 @@ module _ (R : Run) where
             message = message;
             reply = reply;
             event-is = e;
-            decoded = passed .decodes ∙ ap (λ (x : RegisterId). accepted (forRegister x message)) (sym is);
+            admitted = subst (λ (x : RegisterId). Admitted AtReplica (bankAt R id t .f) bytes verdicts x message) (sym is) passed;
+            stepped = taken;
             facts = replica-facts (partAt (placeIn bytes) (bankAt R id t)) verdicts message reply (good .fit (placeIn bytes) (place-below (registerIn bytes))) message-fits (passed .may-send) (passed .passed) taken;
             next-is = both .0;
             answer-is = both .1;
@@ -228,7 +235,9 @@ module _ (R : Run) where
       pub message : Message
       pub reply : Reply
       pub event-is : event R t ≡ some (to-replica id bytes verdicts)
-      pub decoded : decode AtReplica bytes ≡ accepted (forRegister (registerIn bytes) message)
+      pub admitted : Admitted AtReplica (bankAt R id t .f) bytes verdicts (registerIn bytes) message
+      pub placed : placeIn bytes ≡ registerPlace x
+      pub stepped : onRequest (replicaAt R x id t) message ≡ accepted reply
       pub facts : ReplicaFacts (replicaAt R x id t) verdicts message reply
       pub next-is : registerAt R x id (suc t) ≡ reply .next .register
       pub answer-is : answerAt R t ≡ accepted (send (reply .message))
@@ -245,7 +254,9 @@ module _ (R : Run) where
       message = s .message;
       reply = s .reply;
       event-is = s .event-is;
-      decoded = s .decoded;
+      admitted = s .admitted;
+      placed = e;
+      stepped = subst (λ (at : ℕ). onRequest (partAt at (bankAt R id t)) (s .message) ≡ accepted (s .reply)) e (s .stepped);
       facts = subst (λ (at : ℕ). ReplicaFacts (partAt at (bankAt R id t)) (s .verdicts) (s .message) (s .reply)) e (s .facts);
       next-is =
           ap (λ (bank : Bank). partAt (registerPlace x) bank .register) (s .next-is)
@@ -308,14 +319,15 @@ module _ (R : Run) where
     pub message : Message
     pub turn : Turn
     pub event-is : event R t ≡ some (to-client id bytes verdicts)
-    pub decoded : decode AtClient bytes ≡ accepted (forRegister (clientAt R id t .register) message)
+    pub admitted : Admitted AtClient (clientAt R id t .f) bytes verdicts (clientAt R id t .register) message
+    pub stepped : clientTakes id (clientAt R id t) (signature bytes) message ≡ accepted turn
     pub facts : ClientFacts (clientAt R id t) verdicts message turn
     pub step : ClientStep id t turn
 
   pub heard-register : (id : ClientId) (t : ℕ) (h : Heard id t) (at : At R t (client id)) → registerOf (at .0) ≡ clientAt R id t .register
   heard-register id t h at =
       let one : at .0 ≡ to-client id (h .bytes) (h .verdicts) = cc (at .1, h .event-is) in
-      ap registerOf one ∙ found-register AtClient (h .bytes) (clientAt R id t .register) (h .message) (h .decoded)
+      ap registerOf one ∙ found-register AtClient (h .bytes) (clientAt R id t .register) (h .message) (h .admitted .decodes)
 
   -- What begins at a client at event t.
   abbrev pub WriteBegun : ClientId → ℕ → RegisterId → List ℕ → Turn → Type 0
@@ -333,11 +345,11 @@ module _ (R : Run) where
     heard : Heard id t → ClientTurn id t
 
   -- What an event at a client leaves, by its outcome.
-  record Left (id : ClientId) (t : ℕ) (out : Outcome Turn) : Type 0 where
-    next-is : clientAt R id (suc t) ≡ nextClient (clientAt R id t) out
-    answer-is : answerAt R t ≡ clientAnswer out
+  pub record Left (id : ClientId) (t : ℕ) (out : Outcome Turn) : Type 0 where
+    pub next-is : clientAt R id (suc t) ≡ nextClient (clientAt R id t) out
+    pub answer-is : answerAt R t ≡ clientAnswer out
 
-  client-outcome : (id : ClientId) (t : ℕ) (e : ClientEvent) → event R t ≡ some (at-client id e) → Left id t (clientDoes id e (clientAt R id t))
+  pub client-outcome : (id : ClientId) (t : ℕ) (e : ClientEvent) → event R t ≡ some (at-client id e) → Left id t (clientDoes id e (clientAt R id t))
   unfolding clientAt answerTo
   client-outcome id t e q = record { next-is = rw (q, eq-eqb (id .0) (id .0) refl); answer-is = rw q }
 
@@ -346,41 +358,45 @@ module _ (R : Run) where
   by-outcome id t (refused n) left next = rested (left .next-is) (λ at answer a. apart (cc (left .answer-is)))
   by-outcome id t (accepted turn) left next = next turn refl (record { next-is = left .next-is; answer-is = left .answer-is })
 
-  -- What a client takes, at either engine: the message, and the step's facts.
-  abbrev pub Takes : Client → List ℕ → List ℕ → Turn → Type 0
-  Takes before bytes verdicts turn = (message : Message) × (decode AtClient bytes ≡ accepted (forRegister (before .register) message)) × ClientFacts before verdicts message turn
+  -- What a client takes, at either engine: the message, the step itself, and its facts.
+  abbrev pub Takes : (List ℕ → Message → Outcome Turn) → Client → List ℕ → List ℕ → Turn → Type 0
+  Takes engine before bytes verdicts turn =
+      (message : Message) × Admitted AtClient (before .f) bytes verdicts (before .register) message × (engine (signature bytes) message ≡ accepted turn) × ClientFacts before verdicts message turn
 
   writer-takes : (before : Client) (bytes verdicts : List ℕ) (turn : Turn) → ClientFits before → PhaseFits (before .phase) → Bytes bytes → clientStep before bytes verdicts ≡ accepted turn
-      → Takes before bytes verdicts turn
+      → Takes (onReply before) before bytes verdicts turn
   writer-takes before bytes verdicts turn fits phase-fits small e =
       let (message, a, taken) = client-takes before bytes verdicts turn e in (
         message,
-        a .decodes,
+        a,
+        taken,
         client-facts before verdicts (signature bytes) message turn fits phase-fits (decoded-fits AtClient bytes (before .register) message (a .decodes) small)
             (decoded-signature AtClient bytes (before .register) message (a .decodes) small) (a .ranged) (a .passed) taken,
       )
 
   view-takes : (before : Client) (bytes verdicts : List ℕ) (turn : Turn) → ClientFits before → PhaseFits (before .phase) → Bytes bytes → isWriter (before .id) ≡ false
-      → viewerStep before bytes verdicts ≡ accepted turn → Takes before bytes verdicts turn
+      → viewerStep before bytes verdicts ≡ accepted turn → Takes (λ own. onViewerReply before) before bytes verdicts turn
   view-takes before bytes verdicts turn fits phase-fits small no-writer e =
       let (message, a, taken) = viewer-takes before bytes verdicts turn e in (
         message,
-        a .decodes,
+        a,
+        taken,
         viewer-facts before verdicts message turn fits phase-fits no-writer (decoded-fits AtClient bytes (before .register) message (a .decodes) small) (a .ranged) (a .passed) taken,
       )
 
   pub hears-takes : (id : ClientId) (before : Client) (bytes verdicts : List ℕ) (turn : Turn) → GoodClient id before → Bytes bytes → clientHears id before bytes verdicts ≡ accepted turn
-      → Takes before bytes verdicts turn
+      → Takes (clientTakes id before) before bytes verdicts turn
   hears-takes id before bytes verdicts turn good small e = go (isWriter id) refl e
     where
-      go : (w : Bool) → isWriter id ≡ w → cond w (clientStep before bytes verdicts) (viewerStep before bytes verdicts) ≡ accepted turn → Takes before bytes verdicts turn
+      go : (w : Bool) → isWriter id ≡ w → cond w (clientStep before bytes verdicts) (viewerStep before bytes verdicts) ≡ accepted turn
+          → Takes (λ own message. cond w (onReply before own message) (onViewerReply before message)) before bytes verdicts turn
       go true q e = writer-takes before bytes verdicts turn (good .fits) (good .phase-fits) small e
       go false q e = view-takes before bytes verdicts turn (good .fits) (good .phase-fits) small (subst (λ (i : ClientId). isWriter i ≡ false) (sym (good .id-is)) q) e
 
   client-here : (id : ClientId) (t : ℕ) (bytes verdicts : List ℕ) → GoodClient id (clientAt R id t) → event R t ≡ some (to-client id bytes verdicts) → ClientTurn id t
   client-here id t bytes verdicts good e = by-outcome id t (clientHears id (clientAt R id t) bytes verdicts) (client-outcome id t (hears bytes verdicts) e) (λ turn q step.
       let taken = hears-takes id (clientAt R id t) bytes verdicts turn good (R .have-bytes t (to-client id bytes verdicts) e) q in
-      heard (record { bytes = bytes; verdicts = verdicts; message = taken .0; turn = turn; event-is = e; decoded = taken .1; facts = taken .2; step = step }))
+      heard (record { bytes = bytes; verdicts = verdicts; message = taken .0; turn = turn; event-is = e; admitted = taken .1; stepped = taken .2; facts = taken .3; step = step }))
 
   -- Its own event,
   own-turn : (id : ClientId) (t : ℕ) → GoodClient id (clientAt R id t) → (e : ClientEvent) → event R t ≡ some (at-client id e) → ClientTurn id t
