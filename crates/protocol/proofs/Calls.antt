@@ -1,5 +1,6 @@
 -- Calls and steps: an output long enough leaves answer and record to the step, a shorter one refuses with 1. Assumes nothing.
 use mathlib.Core.Path.{_≡_, ap}
+use mathlib.Core.Bool.{Bool, true, false, cond}
 use mathlib.Core.List.{List}
 use Prim.Native.Nat.{ℕ, _≤_, _<_}
 use borrow.Author.Tests.{le-leb, lt-leb}
@@ -7,10 +8,13 @@ use lib.Dec.{leb}
 use lib.ListN.{length}
 use Rattle.base.specs.Outcome.{Outcome, refused}
 use Rattle.base.proofs.Outcome.{guard-passes, guard-refuses}
+use Rattle.base.specs.Party.{isWriter}
+use Rattle.base.specs.declared.party.ClientId.{ClientId}
 use Rattle.base.specs.declared.party.RegisterId.{RegisterId}
 use Rattle.wire.specs.Decode.{registerIn}
 use Rattle.wire.specs.Message.{longest}
 use Rattle.protocol.specs.Client.{clientAnswers, beginWrite, beginRead, clientStep, beginWriteCall, beginReadCall, clientCall}
+use Rattle.protocol.specs.Events.{ClientEvent, write-begun, read-begun, reply-handed, onClientEvent, clientEventCall}
 use Rattle.protocol.specs.Replica.{replicaAnswers, withOutput, replicaStep, replicaCall}
 use Rattle.protocol.specs.Viewer.{viewerStep, viewerCall}
 use Rattle.protocol.specs.declared.client.Client.{Client}
@@ -54,3 +58,13 @@ module _ (client : Client) (old : List ℕ) (long : longest ≤ length old) wher
   pub viewer-step-takes : (bytes verdicts : List ℕ) → viewerCall client bytes verdicts old ≡ clientAnswers client old (viewerStep client bytes verdicts)
   unfolding viewerCall
   viewer-step-takes bytes verdicts = ap (clientAnswers client old) (long-output old (viewerStep client bytes verdicts) long)
+
+  -- The call of any event does what its step says.
+  pub client-event-takes : (id : ClientId) (e : ClientEvent) → clientEventCall id e old client ≡ clientAnswers client old (onClientEvent id e client)
+  client-event-takes id (write-begun x card) = begin-write-takes x card
+  client-event-takes id (read-begun x) = begin-read-takes x
+  client-event-takes id (reply-handed bytes verdicts) = go (isWriter id)
+    where
+      go : (w : Bool) → cond w (clientCall client bytes verdicts old) (viewerCall client bytes verdicts old) ≡ clientAnswers client old (cond w (clientStep client bytes verdicts) (viewerStep client bytes verdicts))
+      go true = client-step-takes bytes verdicts
+      go false = viewer-step-takes bytes verdicts

@@ -8,6 +8,7 @@ use native.Mathlib.Omega.{arith}
 use borrow.Author.Tests.{leb-true}
 use lib.Dec.{leb}
 use Rattle.base.specs.Outcome.{Outcome, accepted, refused}
+use Rattle.base.specs.Party.{isWriter}
 use Rattle.base.specs.ReplicaSet.{with}
 use Rattle.base.specs.declared.party.ClientId.{ClientId}
 use Rattle.base.specs.declared.party.RegisterId.{RegisterId}
@@ -20,8 +21,9 @@ use Rattle.wire.specs.Message.{Message, READ-STAMP, PREPARE, WRITE, READ, STAMP
 use Rattle.wire.specs.Proof.{PreparedProof}
 use Rattle.wire.specs.Writing.{roomy}
 use Rattle.protocol.specs.Client.{Answer, send, waits, done, ended, Turn, answered, clientAnswers, enough, keepBetterCard, beginWrite, beginRead, toPrepare, afterStamp, onStamp, afterPrepared, onPrepared, afterWritten, afterWriteBack, onWritten, afterCard, countCard, onCard, onReply, clientStep, beginWriteCall, beginReadCall, clientCall}
+use Rattle.protocol.specs.Events.{write-begun, read-begun, reply-handed}
 use Rattle.protocol.specs.Viewer.{afterView, onViewerReply, viewerStep, viewerCall}
-use Rattle.protocol.specs.OperationMessages.{Call, begins-write, begins-read, hears, sentBy, unlessBegun, Hearing, sentAfter, sentIn, OperationMessages}
+use Rattle.protocol.specs.OperationMessages.{Call, sentBy, unlessBegun, sentAfter, sentIn, OperationMessages}
 use Rattle.protocol.specs.Replica.{withOutput}
 use Rattle.protocol.specs.declared.client.Client.{Client}
 use Rattle.protocol.specs.declared.client.ClientAnswer.the-variants.{Send}
@@ -185,52 +187,54 @@ module _ (client : Client) (old : List ℕ) (most : ℕ) where
       go (refused number) h = omega arith
 
   -- A beginning that is refused leaves the record, and so what may follow.
-  begins-again : (hear : Hearing) (out : Outcome Turn) (calls : List Call) → sentAfter hear client calls ≤ most
-      → unlessBegun (clientAnswers client old out .answer) (sentAfter hear (clientAnswers client old out .client) calls) ≤ most
-  begins-again hear (accepted turn) calls h = go (turn .answer) (turn .next)
+  begins-again : (id : ClientId) (out : Outcome Turn) (calls : List Call) → sentAfter id client calls ≤ most
+      → unlessBegun (clientAnswers client old out .answer) (sentAfter id (clientAnswers client old out .client) calls) ≤ most
+  begins-again id (accepted turn) calls h = go (turn .answer) (turn .next)
     where
-      go : (answer : Answer) (next : Client) → unlessBegun (answered old answer next .answer) (sentAfter hear (answered old answer next .client) calls) ≤ most
+      go : (answer : Answer) (next : Client) → unlessBegun (answered old answer next .answer) (sentAfter id (answered old answer next .client) calls) ≤ most
       go (send message) next = omega arith
       go waits next = omega arith
       go (done timestamp card signers) next = omega arith
       go ended next = omega arith
-  begins-again hear (refused number) calls h = h
+  begins-again id (refused number) calls h = h
 
 -- ---- All calls of an operation
 
-after-sends : (client : Client) (calls : List Call) → sentAfter clientCall client calls ≤ remaining (client .phase)
-unfolding sentAfter beginWriteCall beginReadCall clientCall
-after-sends client [] = omega arith
-after-sends client (begins-write register card old ∷ calls) =
-    begins-again client old (remaining (client .phase)) clientCall (withOutput old (beginWrite client register card)) calls (after-sends client calls)
-after-sends client (begins-read register old ∷ calls) =
-    begins-again client old (remaining (client .phase)) clientCall (withOutput old (beginRead client register)) calls (after-sends client calls)
-after-sends client (hears bytes verdicts old ∷ calls) =
-    let step = clientStep client bytes verdicts in
-    omega (
-      arith,
-      call-sends client old (remaining (client .phase)) step (omega arith) (step-sends client bytes verdicts),
-      after-sends (clientAnswers client old (withOutput old step) .client) calls,
-    )
+module _ (id : ClientId) (writer : isWriter id ≡ true) where
+  after-sends : (client : Client) (calls : List Call) → sentAfter id client calls ≤ remaining (client .phase)
+  unfolding sentAfter beginWriteCall beginReadCall clientCall
+  after-sends client [] = omega arith
+  after-sends client ((write-begun register card, old) ∷ calls) =
+      begins-again client old (remaining (client .phase)) id (withOutput old (beginWrite client register card)) calls (after-sends client calls)
+  after-sends client ((read-begun register, old) ∷ calls) =
+      begins-again client old (remaining (client .phase)) id (withOutput old (beginRead client register)) calls (after-sends client calls)
+  after-sends client ((reply-handed bytes verdicts, old) ∷ calls) =
+      let step = clientStep client bytes verdicts in
+      rw writer
+      (omega (
+        arith,
+        call-sends client old (remaining (client .phase)) step (omega arith) (step-sends client bytes verdicts),
+        after-sends (clientAnswers client old (withOutput old step) .client) calls,
+      ))
 
-write-sends : (client : Client) (register : RegisterId) (card old : List ℕ) (calls : List Call) → sentIn clientCall (beginWriteCall client register card old) calls ≤ 3
-unfolding beginWriteCall
-write-sends client register card old calls =
-    let low = phase-low (client .phase) in
-    omega (
-      arith,
-      call-sends client old 3 (beginWrite client register card) (omega arith) (write-begins client register card),
-      after-sends (clientAnswers client old (withOutput old (beginWrite client register card)) .client) calls,
-    )
+  write-sends : (client : Client) (register : RegisterId) (card old : List ℕ) (calls : List Call) → sentIn id (beginWriteCall client register card old) calls ≤ 3
+  unfolding beginWriteCall
+  write-sends client register card old calls =
+      let low = phase-low (client .phase) in
+      omega (
+        arith,
+        call-sends client old 3 (beginWrite client register card) (omega arith) (write-begins client register card),
+        after-sends (clientAnswers client old (withOutput old (beginWrite client register card)) .client) calls,
+      )
 
-read-sends : (client : Client) (register : RegisterId) (old : List ℕ) (calls : List Call) → sentIn clientCall (beginReadCall client register old) calls ≤ 2
-unfolding beginReadCall
-read-sends client register old calls =
-    omega (
-      arith,
-      call-sends client old 2 (beginRead client register) (phase-low (client .phase)) (read-begins client register),
-      after-sends (clientAnswers client old (withOutput old (beginRead client register)) .client) calls,
-    )
+  read-sends : (client : Client) (register : RegisterId) (old : List ℕ) (calls : List Call) → sentIn id (beginReadCall client register old) calls ≤ 2
+  unfolding beginReadCall
+  read-sends client register old calls =
+      omega (
+        arith,
+        call-sends client old 2 (beginRead client register) (phase-low (client .phase)) (read-begins client register),
+        after-sends (clientAnswers client old (withOutput old (beginRead client register)) .client) calls,
+      )
 
 -- ---- A view: nothing after its READ
 
@@ -259,9 +263,9 @@ reply-quiet client (PREPARE sender timestamp digest proof last) = by-refusal
 reply-quiet client (WRITE sender card proof) = by-refusal
 reply-quiet client (READ sender nonce) = by-refusal
 
-hearing-quiet : (client : Client) (bytes verdicts old : List ℕ) → sentBy (viewerCall client bytes verdicts old .answer) ≡ 0
+handed-quiet : (client : Client) (bytes verdicts old : List ℕ) → sentBy (viewerCall client bytes verdicts old .answer) ≡ 0
 unfolding viewerCall
-hearing-quiet client bytes verdicts old = go (withOutput old (viewerStep client bytes verdicts)) refl
+handed-quiet client bytes verdicts old = go (withOutput old (viewerStep client bytes verdicts)) refl
   where
     answers : (answer : Answer) (next : Client) → sends answer ≡ 0 → sentBy (answered old answer next .answer) ≡ 0
     answers (send message) next h = h
@@ -275,16 +279,18 @@ hearing-quiet client bytes verdicts old = go (withOutput old (viewerStep client 
         let taken = viewer-takes client bytes verdicts turn (guard-accepted 1 (roomy old) (viewerStep client bytes verdicts) turn e .1) in
         answers (turn .answer) (turn .next) (reply-quiet client (taken .0) .holds turn (taken .2) .sends-none)
 
-after-view : (client : Client) (calls : List Call) → sentAfter viewerCall client calls ≤ 0
-unfolding sentAfter beginWriteCall beginReadCall
-after-view client [] = omega arith
-after-view client (begins-write register card old ∷ calls) = begins-again client old 0 viewerCall (withOutput old (beginWrite client register card)) calls (after-view client calls)
-after-view client (begins-read register old ∷ calls) = begins-again client old 0 viewerCall (withOutput old (beginRead client register)) calls (after-view client calls)
-after-view client (hears bytes verdicts old ∷ calls) = omega (arith, hearing-quiet client bytes verdicts old, after-view (viewerCall client bytes verdicts old .client) calls)
+module _ (id : ClientId) (viewer : isWriter id ≡ false) where
+  after-view : (client : Client) (calls : List Call) → sentAfter id client calls ≤ 0
+  unfolding sentAfter beginWriteCall beginReadCall
+  after-view client [] = omega arith
+  after-view client ((write-begun register card, old) ∷ calls) = begins-again client old 0 id (withOutput old (beginWrite client register card)) calls (after-view client calls)
+  after-view client ((read-begun register, old) ∷ calls) = begins-again client old 0 id (withOutput old (beginRead client register)) calls (after-view client calls)
+  after-view client ((reply-handed bytes verdicts, old) ∷ calls) =
+      rw viewer (omega (arith, handed-quiet client bytes verdicts old, after-view (viewerCall client bytes verdicts old .client) calls))
 
-view-sends : (client : Client) (register : RegisterId) (old : List ℕ) (n : ℕ) (calls : List Call) → beginReadCall client register old .answer ≡ Send n
-    → sentIn viewerCall (beginReadCall client register old) calls ≡ 1
-view-sends client register old n calls e = let none = after-view (beginReadCall client register old .client) calls in rw e (omega arith)
+  view-sends : (client : Client) (register : RegisterId) (old : List ℕ) (n : ℕ) (calls : List Call) → beginReadCall client register old .answer ≡ Send n
+      → sentIn id (beginReadCall client register old) calls ≡ 1
+  view-sends client register old n calls e = let none = after-view (beginReadCall client register old .client) calls in rw e (omega arith)
 
 pub operation-messages : OperationMessages
 operation-messages = record { write = write-sends; read = read-sends; view = view-sends }

@@ -1,5 +1,6 @@
 pub mod Bank
 pub mod Client
+pub mod Events
 pub mod Examples
 pub mod OperationMessages
 pub mod Parts

@@ -17,26 +17,26 @@ use Rattle.wire.specs.Message.{longest}
 use Rattle.wire.specs.Writing.{unsigned, inFront}
 use Rattle.wire.specs.declared.message.Party.the-variants.{Client as AtClient}
 use Rattle.wire.proofs.OneForm.{found-register}
-use Rattle.protocol.specs.Client.{Answer, send, waits, done, ended, Turn, answered, clientAnswers, freshClient, beginWrite, beginRead, clientStep, beginWriteCall, beginReadCall, clientCall, ClientCall}
+use Rattle.protocol.specs.Client.{Answer, send, waits, done, ended, Turn, answered, clientAnswers, freshClient, ClientCall}
 use Rattle.protocol.specs.Bank.{partAt, freshBank, madeBank, placeIn, bankStep, BankCall, putBack, bankCall}
 use Rattle.protocol.specs.Replica.{Reply, replicaAnswers, replicaStep, ReplicaCall}
-use Rattle.protocol.specs.Viewer.{viewerStep, viewerCall}
 use Rattle.protocol.specs.declared.client.Client.{Client}
 use Rattle.protocol.specs.declared.client.ClientAnswer.the-variants.{Send}
 use Rattle.protocol.specs.declared.replica.Bank.{Bank}
 use Rattle.protocol.proofs.BankFacts.{part-itself}
 use Rattle.protocol.proofs.ClientFacts.{begins-write as begins-write-facts, begins-read as begins-read-facts}
-use Rattle.protocol.proofs.Calls.{replica-takes, begin-write-takes, begin-read-takes, client-step-takes, viewer-step-takes}
-use Rattle.run.specs.Calls.{withoutCard, givenByReplica, givenByClient, givenFor, calledAtReplica, calledAtClient, madeWith, hearingCall, calledReplica, calledClient, givenAt, CallsAreRun, clientCalled}
-use Rattle.run.specs.Run.{ClientEvent, is-handed, writes, reads, hears, Event, at-replica, at-client, begins-write, begins-read, to-replica, to-client, clientDoes, registerOf, Run, nextBank, nextClient, afterAtReplica, afterAtClient, clientHears, replicaAnswer, clientAnswer, event, bankAt, clientAt, answerTo}
-use Rattle.run.proofs.Turns.{good-client, hears-takes}
+use Rattle.protocol.proofs.Calls.{replica-takes, client-event-takes}
+use Rattle.protocol.specs.Events.{ClientEvent, request-handed, write-begun, read-begun, reply-handed, bankTurn, nextBank, bankAnswer, madeWith, onClientEvent, clientEventCall, nextClient, clientAnswer}
+use Rattle.run.specs.Calls.{withoutCard, givenByReplica, givenByClient, givenFor, calledAtReplica, calledAtClient, calledReplica, calledClient, givenAt, CallsAreRun}
+use Rattle.run.specs.Run.{Event, at-replica, at-client, begins-write, begins-read, to-replica, to-client, registerOf, Run, afterAtReplica, afterAtClient, event, bankAt, clientAt, answerTo}
+use Rattle.run.proofs.Turns.{good-client, handed-takes}
 
 -- ---- One call: the step's record, and the step's answer
 
 -- at is the place of the message's register, x the register of the event.
 record ReplicaSays (at : ℕ) (x : RegisterId) (before : Bank) (old : List ℕ) (step : Outcome Reply) (made : BankCall) : Type 0 where
-  leaves : made .bank ≡ nextBank at before step
-  gives : givenByReplica made ≡ givenFor x old (replicaAnswer step)
+  leaves : made .bank ≡ nextBank before (bankTurn at before step)
+  gives : givenByReplica made ≡ givenFor x old (bankAnswer (bankTurn at before step))
 
 record ClientSays (before : Client) (old : List ℕ) (step : Outcome Turn) (made : ClientCall) : Type 0 where
   leaves : made .client ≡ nextClient before step
@@ -70,40 +70,19 @@ module _ (old : List ℕ) (long : longest ≤ length old) where
       subst (λ (made : ReplicaCall). ReplicaSays (placeIn bytes) (registerIn bytes) before old (replicaStep part bytes verdicts) (putBack (placeIn bytes) before made))
       (sym (replica-takes part bytes verdicts old long)) (replica-says (placeIn bytes) (registerIn bytes) before old (replicaStep part bytes verdicts))
 
-  write-called : (before : Client) (x : RegisterId) (card : List ℕ) → ClientSays before old (beginWrite before x card) (beginWriteCall before x card old)
-  write-called before x card = rw (begin-write-takes before old long x card) (client-says before old (beginWrite before x card))
-
-  read-called : (before : Client) (x : RegisterId) → ClientSays before old (beginRead before x) (beginReadCall before x old)
-  read-called before x = rw (begin-read-takes before old long x) (client-says before old (beginRead before x))
-
-  client-called : (before : Client) (bytes verdicts : List ℕ) → ClientSays before old (clientStep before bytes verdicts) (clientCall before bytes verdicts old)
-  client-called before bytes verdicts = rw (client-step-takes before old long bytes verdicts) (client-says before old (clientStep before bytes verdicts))
-
-  viewer-called : (before : Client) (bytes verdicts : List ℕ) → ClientSays before old (viewerStep before bytes verdicts) (viewerCall before bytes verdicts old)
-  viewer-called before bytes verdicts = rw (viewer-step-takes before old long bytes verdicts) (client-says before old (viewerStep before bytes verdicts))
-
-  hearing-called : (id : ClientId) (before : Client) (bytes verdicts : List ℕ) → ClientSays before old (clientHears id before bytes verdicts) (hearingCall id before bytes verdicts old)
-  hearing-called id before bytes verdicts = go (isWriter id)
-    where
-      go : (w : Bool) → ClientSays before old (cond w (clientStep before bytes verdicts) (viewerStep before bytes verdicts)) (cond w (clientCall before bytes verdicts old) (viewerCall before bytes verdicts old))
-      go true = client-called before bytes verdicts
-      go false = viewer-called before bytes verdicts
-
-  event-called : (id : ClientId) (e : ClientEvent) (before : Client) → ClientSays before old (clientDoes id e before) (clientCalled id e old before)
-  event-called id (writes x card) before = write-called before x card
-  event-called id (reads x) before = read-called before x
-  event-called id (hears bytes verdicts) before = hearing-called id before bytes verdicts
+  client-called : (id : ClientId) (e : ClientEvent) (before : Client) → ClientSays before old (onClientEvent id e before) (clientEventCall id e old before)
+  client-called id e before = rw (client-event-takes before old long id e) (client-says before old (onClientEvent id e before))
 
   -- An event's call leaves the record that the event leaves.
   replica-left : (id : ReplicaId) (e : Option Event) (before : Bank) → calledAtReplica id e old before ≡ afterAtReplica id e before
   replica-left id none before = refl
-  replica-left id (some (at-replica at (is-handed bytes verdicts))) before = ap (λ (r : Bank). cond (eqb (at .0) (id .0)) r before) (replica-called before bytes verdicts .leaves)
+  replica-left id (some (at-replica at (request-handed bytes verdicts))) before = ap (λ (r : Bank). cond (eqb (at .0) (id .0)) r before) (replica-called before bytes verdicts .leaves)
   replica-left id (some (at-client at e)) before = refl
 
   client-left : (id : ClientId) (e : Option Event) (before : Client) → calledAtClient id e old before ≡ afterAtClient id e before
   client-left id none before = refl
   client-left id (some (at-replica at e)) before = refl
-  client-left id (some (at-client at e)) before = ap (λ (c : Client). cond (eqb (at .0) (id .0)) c before) (event-called at e before .leaves)
+  client-left id (some (at-client at e)) before = ap (λ (c : Client). cond (eqb (at .0) (id .0)) c before) (client-called at e before .leaves)
 
 -- ---- All calls of a run
 
@@ -132,21 +111,21 @@ module _ (R : Run) (output : ℕ → List ℕ) (long : (t : ℕ) → longest ≤
   clients id c (suc t) = client-left (output t) (long t) id (event R t) (calledClient R output id t) ∙ ap (afterAtClient id (event R t)) (clients id c t)
 
   -- What a client's event leaves it with is for the event's register.
-  event-for : (id : ClientId) (t : ℕ) (e : ClientEvent) → event R t ≡ some (at-client id e) → (turn : Turn) → clientDoes id e (clientAt R id t) ≡ accepted turn → turn .next .register ≡ registerOf (at-client id e)
-  event-for id t (writes x card) q turn e =
+  event-for : (id : ClientId) (t : ℕ) (e : ClientEvent) → event R t ≡ some (at-client id e) → (turn : Turn) → onClientEvent id e (clientAt R id t) ≡ accepted turn → turn .next .register ≡ registerOf (at-client id e)
+  event-for id t (write-begun x card) q turn e =
       begins-write-facts (clientAt R id t) x card turn (good-client R id (R .at-correct t (begins-write id x card) q) t .fits) (R .have-bytes t (begins-write id x card) q) e .register-is
-  event-for id t (reads x) q turn e = begins-read-facts (clientAt R id t) x turn (good-client R id (R .at-correct t (begins-read id x) q) t .fits) e .register-is
-  event-for id t (hears bytes verdicts) q turn e =
+  event-for id t (read-begun x) q turn e = begins-read-facts (clientAt R id t) x turn (good-client R id (R .at-correct t (begins-read id x) q) t .fits) e .register-is
+  event-for id t (reply-handed bytes verdicts) q turn e =
       let here = to-client id bytes verdicts in
-      let (message, admitted, stepped, facts) = hears-takes R id (clientAt R id t) bytes verdicts turn (good-client R id (R .at-correct t here q) t) (R .have-bytes t here q) e in
+      let (message, admitted, stepped, facts) = handed-takes R id (clientAt R id t) bytes verdicts turn (good-client R id (R .at-correct t here q) t) (R .have-bytes t here q) e in
       facts .same-register ∙ sym (found-register AtClient bytes (clientAt R id t .register) message (admitted .decodes))
 
   answers-to : (t : ℕ) (e : Event) → event R t ≡ some e → givenAt R output t e ≡ givenFor (registerOf e) (output t) (answerTo R t (some e))
   unfolding givenAt answerTo
-  answers-to t (at-replica id (is-handed bytes verdicts)) q =
+  answers-to t (at-replica id (request-handed bytes verdicts)) q =
       rw (replicas id (R .at-correct t (to-replica id bytes verdicts) q) t) (replica-called (output t) (long t) (bankAt R id t) bytes verdicts .gives)
   answers-to t (at-client id e) q =
-      rw (clients id (R .at-correct t (at-client id e) q) t) (event-called (output t) (long t) id e (clientAt R id t) .gives (registerOf (at-client id e)) (event-for id t e q))
+      rw (clients id (R .at-correct t (at-client id e) q) t) (client-called (output t) (long t) id e (clientAt R id t) .gives (registerOf (at-client id e)) (event-for id t e q))
 
   -- For every run, whatever stood in the outputs.
   pub calls-are-run : CallsAreRun R output

@@ -15,10 +15,11 @@ use Rattle.wire.specs.Decode.{decode}
 use Rattle.wire.specs.Message.{Message}
 use Rattle.wire.specs.Signatures.{Signature, signaturesOf}
 use Rattle.wire.specs.declared.message.Party.the-variants.{Replica as AtReplica, Client as AtClient}
+use Rattle.protocol.specs.Events.{request-handed, write-begun, read-begun, reply-handed}
 use Rattle.run.specs.Claims.{Claims}
 use Rattle.run.specs.Prefix.{prefix}
 use Rattle.run.specs.Premises.{TrueVerdicts, TrueFor, TrueAt, eventCard, CardOfRun, Premises}
-use Rattle.run.specs.Run.{Event, at-replica, at-client, is-handed, writes, reads, hears, Run, afterAtReplica, afterAtClient, event, bankAt, clientAt, answerTo, answerAt, Sent}
+use Rattle.run.specs.Run.{Event, at-replica, at-client, Run, afterAtReplica, afterAtClient, event, bankAt, clientAt, answerTo, answerAt, Sent}
 use Rattle.run.proofs.Demand3.{demand-3}
 use Rattle.run.proofs.Slots.{order}
 use Rattle.run.proofs.Turns.{apart}
@@ -96,10 +97,10 @@ module _ (R : Run) (n : ℕ) where
   true-at : (t : ℕ) (e : Option Event) → t ≤ n → TrueAt R t e → TrueAt S t e
   unfolding TrueAt
   true-at t none l h = tt
-  true-at t (some (at-client id (writes x card))) l h = tt
-  true-at t (some (at-client id (reads x))) l h = tt
-  true-at t (some (at-replica id (is-handed bytes verdicts))) l h = true-for t bytes verdicts (decode AtReplica bytes) l h
-  true-at t (some (at-client id (hears bytes verdicts))) l h = true-for t bytes verdicts (decode AtClient bytes) l h
+  true-at t (some (at-client id (write-begun x card))) l h = tt
+  true-at t (some (at-client id (read-begun x))) l h = tt
+  true-at t (some (at-replica id (request-handed bytes verdicts))) l h = true-for t bytes verdicts (decode AtReplica bytes) l h
+  true-at t (some (at-client id (reply-handed bytes verdicts))) l h = true-for t bytes verdicts (decode AtClient bytes) l h
 
   none-true : (t : ℕ) → TrueAt S t none
   unfolding TrueAt

@@ -15,7 +15,7 @@ use Rattle.base.specs.declared.party.ReplicaId.{ReplicaId}
 use Rattle.base.proofs.Booleans.{and-true-both}
 use Rattle.base.proofs.Registers.{place-below, place-injective}
 use Rattle.protocol.specs.Bank.{partAt, placeIn, bankStep}
-use Rattle.protocol.specs.Client.{Answer}
+use Rattle.protocol.specs.Client.{Answer, send}
 use Rattle.protocol.specs.Replica.{Reply, freshReplica, onRequest, replicaStep}
 use Rattle.protocol.specs.declared.replica.Bank.{Bank}
 use Rattle.protocol.specs.declared.replica.Register.{Register}
@@ -29,11 +29,16 @@ use Rattle.wire.specs.declared.message.Party.the-variants.{Replica as AtReplica
 use Rattle.wire.proofs.Admitted.{admitted-then}
 use Rattle.wire.proofs.Framed.{framed-passes}
 use Rattle.wire.proofs.OneForm.{found-register}
+use Rattle.protocol.specs.Events.{request-handed, bankTurn, onReplicaEvent, nextBank, bankAnswer}
 use Rattle.run.specs.Replies.{Delivery, passes, isFor, handedIn, answersIn, handedFor, answersFor, SameReplies}
-use Rattle.run.specs.Run.{Event, at-replica, at-client, is-handed, to-replica, Run, nextBank, afterAtReplica, replicaAnswer, event, bankAt, replicaAt, answerTo}
+use Rattle.run.specs.Run.{Event, at-replica, at-client, to-replica, Run, afterAtReplica, event, bankAt, replicaAt, answerTo}
 use Rattle.run.proofs.Turns.{apart, same-replica, GoodBank, good-bank}
 
 -- ---- One register's part alone: what it answers to messages, one after the other
+
+abbrev replyOf : Outcome Reply → Outcome Answer
+replyOf (accepted reply) = accepted (send (reply .message))
+replyOf (refused number) = refused number
 
 abbrev nextPart : Replica → Outcome Reply → Replica
 nextPart part (accepted reply) = record { f = part .f; id = part .id; register = reply .next .register }
@@ -42,7 +47,7 @@ nextPart part (refused number) = part
 abbrev repliesOf : Replica → List Delivery → List (Outcome Answer)
 repliesOf part [] = []
 repliesOf part (handed ∷ rest) =
-    replicaAnswer (replicaStep part (handed .bytes) (handed .verdicts)) ∷ repliesOf (nextPart part (replicaStep part (handed .bytes) (handed .verdicts))) rest
+    replyOf (replicaStep part (handed .bytes) (handed .verdicts)) ∷ repliesOf (nextPart part (replicaStep part (handed .bytes) (handed .verdicts))) rest
 
 next-f : (part : Replica) (step : Outcome Reply) → nextPart part step .f ≡ part .f
 next-f part (accepted reply) = refl
@@ -54,6 +59,9 @@ module _ (bank : Bank) (bytes verdicts : List ℕ) where
   abbrev step : Outcome Reply
   step = bankStep bank bytes verdicts
 
+  abbrev after : Outcome Reply → Bank
+  after out = nextBank bank (bankTurn (placeIn bytes) bank out)
+
   -- A message that a replica takes passed 2 to 4, and is for a register.
   taken-for : (reply : Reply) → step ≡ accepted reply → (isRegister (registerIn bytes) ≡ true) × (passes (framed bytes (accepted tt)) ≡ true)
   unfolding bankStep replicaStep
@@ -63,10 +71,10 @@ module _ (bank : Bank) (bytes verdicts : List ℕ) where
       (ap isRegister (found-register AtReplica bytes register message (passed .decodes)) ∙ passed .registered, ap passes (framed-passes bytes (accepted tt) (tested .framed)))
 
   -- It leaves the part of a register that it is not for,
-  other-kept : (x : RegisterId) → isRegister x ≡ true → isFor x bytes ≡ false → partAt (registerPlace x) (nextBank (placeIn bytes) bank step) ≡ partAt (registerPlace x) bank
+  other-kept : (x : RegisterId) → isRegister x ≡ true → isFor x bytes ≡ false → partAt (registerPlace x) (after step) ≡ partAt (registerPlace x) bank
   other-kept x registered not-for = go step refl
     where
-      go : (out : Outcome Reply) → step ≡ out → partAt (registerPlace x) (nextBank (placeIn bytes) bank out) ≡ partAt (registerPlace x) bank
+      go : (out : Outcome Reply) → step ≡ out → partAt (registerPlace x) (after out) ≡ partAt (registerPlace x) bank
       go (refused n) e = refl
       go (accepted reply) e =
           let (known, whole) = taken-for reply e in
@@ -75,10 +83,10 @@ module _ (bank : Bank) (bytes verdicts : List ℕ) where
           (λ same. eqb-false (registerIn bytes .0) (x .0) differs (ap (λ (y : RegisterId). y .0) (sym (place-injective x (registerIn bytes) registered known same))))
 
   -- and steps that of the one that it is for.
-  own-stepped : (x : RegisterId) → length (bank .registers) ≡ 16 → registerIn bytes ≡ x → partAt (registerPlace x) (nextBank (placeIn bytes) bank step) ≡ nextPart (partAt (registerPlace x) bank) step
-  own-stepped x long is = subst (λ (y : RegisterId). partAt (registerPlace y) (nextBank (placeIn bytes) bank step) ≡ nextPart (partAt (registerPlace y) bank) step) is (go step)
+  own-stepped : (x : RegisterId) → length (bank .registers) ≡ 16 → registerIn bytes ≡ x → partAt (registerPlace x) (after step) ≡ nextPart (partAt (registerPlace x) bank) step
+  own-stepped x long is = subst (λ (y : RegisterId). partAt (registerPlace y) (after step) ≡ nextPart (partAt (registerPlace y) bank) step) is (go step)
     where
-      go : (out : Outcome Reply) → partAt (placeIn bytes) (nextBank (placeIn bytes) bank out) ≡ nextPart (partAt (placeIn bytes) bank) out
+      go : (out : Outcome Reply) → partAt (placeIn bytes) (after out) ≡ nextPart (partAt (placeIn bytes) bank) out
       go (refused n) = refl
       go (accepted reply) =
           ap (λ (register : Register). record { f = bank .f; id = bank .id; register = register })
@@ -130,7 +138,7 @@ module _ (R : Run) (id : ReplicaId) (c : R .correct-replica id ≡ true) (x : Re
         go false none = none-alike (bankAt R id t) bytes verdicts (partAt (placeIn bytes) (bankAt R id t)) part (good t .f-is ∙ sym (stands .f-is)) (ap isRegister for-it ∙ none)
 
     -- and the part after it is the register's.
-    next-stands : bankAt R id (suc t) ≡ nextBank (placeIn bytes) (bankAt R id t) (bankStep (bankAt R id t) bytes verdicts) → Stands (suc t) (nextPart part (replicaStep part bytes verdicts))
+    next-stands : bankAt R id (suc t) ≡ nextBank (bankAt R id t) (onReplicaEvent (request-handed bytes verdicts) (bankAt R id t)) → Stands (suc t) (nextPart part (replicaStep part bytes verdicts))
     next-stands next = record {
       f-is = next-f part (replicaStep part bytes verdicts) ∙ stands .f-is;
       is = λ registered.
@@ -139,9 +147,15 @@ module _ (R : Run) (id : ReplicaId) (c : R .correct-replica id ≡ true) (x : Re
           ∙ ap (partAt (registerPlace x)) (sym next);
     }
 
-  answered : (t : ℕ) (p : ReplicaId) (bytes verdicts : List ℕ) → eqb (p .0) (id .0) ≡ true → answerTo R t (some (to-replica p bytes verdicts)) ≡ replicaAnswer (bankStep (bankAt R id t) bytes verdicts)
+  answered : (t : ℕ) (p : ReplicaId) (bytes verdicts : List ℕ) → eqb (p .0) (id .0) ≡ true → answerTo R t (some (to-replica p bytes verdicts)) ≡ replyOf (bankStep (bankAt R id t) bytes verdicts)
   unfolding answerTo
-  answered t p bytes verdicts e = ap (λ (i : ReplicaId). replicaAnswer (bankStep (bankAt R i t) bytes verdicts)) (same-replica p id (eqb-true (p .0) (id .0) e))
+  answered t p bytes verdicts e =
+      ap (λ (i : ReplicaId). bankAnswer (onReplicaEvent (request-handed bytes verdicts) (bankAt R i t))) (same-replica p id (eqb-true (p .0) (id .0) e))
+      ∙ says (bankStep (bankAt R id t) bytes verdicts)
+    where
+      says : (out : Outcome Reply) → bankAnswer (bankTurn (placeIn bytes) (bankAt R id t) out) ≡ replyOf out
+      says (accepted reply) = refl
+      says (refused number) = refl
 
   -- One event more: what follows it is said of any part that then stands for the register.
   module _ (t : ℕ) (events : List Event) (part : Replica) (stands : Stands t part)
@@ -154,7 +168,7 @@ module _ (R : Run) (id : ReplicaId) (c : R .correct-replica id ≡ true) (x : Re
         → answersIn id x R t (to-replica p bytes verdicts ∷ events) ≡ repliesOf part (handedIn id x (to-replica p bytes verdicts ∷ events))
     message p bytes verdicts q = go (eqb (p .0) (id .0)) (isFor x bytes) refl refl
       where
-        next : eqb (p .0) (id .0) ≡ true → bankAt R id (suc t) ≡ nextBank (placeIn bytes) (bankAt R id t) (bankStep (bankAt R id t) bytes verdicts)
+        next : eqb (p .0) (id .0) ≡ true → bankAt R id (suc t) ≡ nextBank (bankAt R id t) (onReplicaEvent (request-handed bytes verdicts) (bankAt R id t))
         next own = next-bank t (to-replica p bytes verdicts) q ∙ rw own
 
         go : (own for-it : Bool) → eqb (p .0) (id .0) ≡ own → isFor x bytes ≡ for-it
@@ -167,11 +181,11 @@ module _ (R : Run) (id : ReplicaId) (c : R .correct-replica id ≡ true) (x : Re
             let is : registerIn bytes ≡ x = ap {B = RegisterId} (λ (n : ℕ). record { 0 = n }) (eqb-true (registerIn bytes .0) (x .0) (both .1)) in
             simp (e, f)
             (ap₂ (λ (answer : Outcome Answer) (answers : List (Outcome Answer)). answer ∷ answers)
-            (answered t p bytes verdicts e ∙ ap replicaAnswer (same-step t part stands bytes verdicts is))
+            (answered t p bytes verdicts e ∙ ap replyOf (same-step t part stands bytes verdicts is))
             (rest (nextPart part (replicaStep part bytes verdicts)) (next-stands t part stands bytes verdicts is (next e))))
 
     one : (e : Event) → event R t ≡ some e → answersIn id x R t (e ∷ events) ≡ repliesOf part (handedIn id x (e ∷ events))
-    one (at-replica p (is-handed bytes verdicts)) q = message p bytes verdicts q
+    one (at-replica p (request-handed bytes verdicts)) q = message p bytes verdicts q
     one (at-client p e) q = passing (at-client p e) q refl
 
   -- The answers to these events are those of the part alone.

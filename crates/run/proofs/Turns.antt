@@ -42,10 +42,11 @@ use Rattle.protocol.proofs.BankFacts.{fresh-part, part-elsewhere, part-there}
 use Rattle.protocol.proofs.Fit.{SlotsFit, HeldFits, ReplicaFits, WrittenKeptFits, ClientFits}
 use Rattle.protocol.proofs.ReplicaFacts.{ReplicaFacts, replica-facts}
 use Rattle.protocol.proofs.ClientCases.{Begun, PhaseFits, ClientFacts}
-use Rattle.protocol.proofs.ClientFacts.{begins-write as write-begun, begins-read as read-begun, client-facts, viewer-facts}
+use Rattle.protocol.proofs.ClientFacts.{begins-write as begins-write-facts, begins-read as begins-read-facts, client-facts, viewer-facts}
 use Rattle.protocol.proofs.Towards.{client-takes, viewer-takes}
 use Rattle.wire.specs.Acceptance.{Sender, replica, client}
-use Rattle.run.specs.Run.{ClientEvent, is-handed, writes, reads, hears, Event, at-replica, at-client, begins-write, begins-read, to-replica, to-client, clientDoes, Run, partyOf, registerOf, nextBank, nextClient, clientHears, replicaAnswer, clientAnswer, event, bankAt, replicaAt, registerAt, clientAt, answerTo, answerAt, At}
+use Rattle.protocol.specs.Events.{ClientEvent, request-handed, write-begun, read-begun, reply-handed, bankTurn, nextBank, bankAnswer, handedStep, onClientEvent, nextClient, clientAnswer}
+use Rattle.run.specs.Run.{Event, at-replica, at-client, begins-write, begins-read, to-replica, to-client, Run, partyOf, registerOf, event, bankAt, replicaAt, registerAt, clientAt, answerTo, answerAt, At}
 
 -- Two constructors are not equal.
 pub apart : {A : Type 0} → _≡_ {A = ℕ} 0 1 → A
@@ -131,12 +132,12 @@ module _ (R : Run) where
     next-is : bankAt R id (suc t) ≡ withPartAt (placeIn bytes) (reply .next) (bankAt R id t)
     answer-is : answerAt R t ≡ accepted (send (reply .message))
 
-  data BankTurn (id : ReplicaId) (t : ℕ) : Type 0 where
-    all-rest : bankAt R id (suc t) ≡ bankAt R id t → Silent (replica id) t → BankTurn id t
-    one-steps : BankStep id t → BankTurn id t
+  data WholeTurn (id : ReplicaId) (t : ℕ) : Type 0 where
+    all-rest : bankAt R id (suc t) ≡ bankAt R id t → Silent (replica id) t → WholeTurn id t
+    one-steps : BankStep id t → WholeTurn id t
 
   pub bank-outcome : (id : ReplicaId) (t : ℕ) (bytes verdicts : List ℕ) (out : Outcome Reply) → event R t ≡ some (to-replica id bytes verdicts)
-      → bankStep (bankAt R id t) bytes verdicts ≡ out → (bankAt R id (suc t) ≡ nextBank (placeIn bytes) (bankAt R id t) out) × (answerAt R t ≡ replicaAnswer out)
+      → bankStep (bankAt R id t) bytes verdicts ≡ out → (bankAt R id (suc t) ≡ nextBank (bankAt R id t) (bankTurn (placeIn bytes) (bankAt R id t) out)) × (answerAt R t ≡ bankAnswer (bankTurn (placeIn bytes) (bankAt R id t) out))
   unfolding bankAt answerTo
   bank-outcome id t bytes verdicts out e q = (rw (e, eq-eqb (id .0) (id .0) refl, q), rw (e, q))
 
@@ -145,10 +146,10 @@ module _ (R : Run) where
   unfolding bankStep replicaStep
   bank-parts before bytes verdicts reply e = admitted-then AtReplica (before .f) bytes verdicts (λ sent. onRequest (partAt (placeIn bytes) before) (sent .1)) reply e
 
-  bank-here : (id : ReplicaId) (t : ℕ) (bytes verdicts : List ℕ) → GoodBank id (bankAt R id t) → event R t ≡ some (to-replica id bytes verdicts) → BankTurn id t
+  bank-here : (id : ReplicaId) (t : ℕ) (bytes verdicts : List ℕ) → GoodBank id (bankAt R id t) → event R t ≡ some (to-replica id bytes verdicts) → WholeTurn id t
   bank-here id t bytes verdicts good e = go (bankStep (bankAt R id t) bytes verdicts) refl
     where
-      go : (out : Outcome Reply) → bankStep (bankAt R id t) bytes verdicts ≡ out → BankTurn id t
+      go : (out : Outcome Reply) → bankStep (bankAt R id t) bytes verdicts ≡ out → WholeTurn id t
       go (refused n) q = let both = bank-outcome id t bytes verdicts (refused n) e q in all-rest (both .0) (λ at answer a. apart (cc (both .1)))
       go (accepted reply) q =
           let both = bank-outcome id t bytes verdicts (accepted reply) e q in
@@ -168,13 +169,13 @@ module _ (R : Run) where
             answer-is = both .1;
           })
 
-  bank-turn-of : (id : ReplicaId) (t : ℕ) → GoodBank id (bankAt R id t) → (e : Option Event) → event R t ≡ e → BankTurn id t
+  bank-turn-of : (id : ReplicaId) (t : ℕ) → GoodBank id (bankAt R id t) → (e : Option Event) → event R t ≡ e → WholeTurn id t
   unfolding bankAt
   bank-turn-of id t good none q = all-rest (rw q) (no-event t (replica id) q)
   bank-turn-of id t good (some (at-client at e)) q = all-rest (rw q) (elsewhere t (replica id) (at-client at e) q (λ p. apart (cc)))
-  bank-turn-of id t good (some (at-replica at (is-handed bytes verdicts))) q = go (eqb (at .0) (id .0)) refl
+  bank-turn-of id t good (some (at-replica at (request-handed bytes verdicts))) q = go (eqb (at .0) (id .0)) refl
     where
-      go : (b : Bool) → eqb (at .0) (id .0) ≡ b → BankTurn id t
+      go : (b : Bool) → eqb (at .0) (id .0) ≡ b → WholeTurn id t
       go true k =
           let same = same-replica at id (eqb-true (at .0) (id .0) k) in
           bank-here id t bytes verdicts good (q ∙ ap (λ (i : ReplicaId). some (to-replica i bytes verdicts)) same)
@@ -211,7 +212,7 @@ module _ (R : Run) where
   good-bank id c zero = fresh-bank id c
   good-bank id c (suc t) = go (good-bank id c t) (bank-turn-of id t (good-bank id c t) (event R t) refl)
     where
-      go : GoodBank id (bankAt R id t) → BankTurn id t → GoodBank id (bankAt R id (suc t))
+      go : GoodBank id (bankAt R id t) → WholeTurn id t → GoodBank id (bankAt R id (suc t))
       go good (all-rest same silent) = subst (GoodBank id) (sym same) good
       go good (one-steps s) =
           subst (GoodBank id) (sym (s .next-is))
@@ -277,7 +278,7 @@ module _ (R : Run) where
     pub replica-turn : (id : ReplicaId) → R .correct-replica id ≡ true → (t : ℕ) → ReplicaTurn id t
     replica-turn id c t = go (bank-turn-of id t (good-bank id c t) (event R t) refl)
       where
-        go : BankTurn id t → ReplicaTurn id t
+        go : WholeTurn id t → ReplicaTurn id t
         go (all-rest same silent) = rests (ap (λ (bank : Bank). partAt (registerPlace x) bank .register) same) (λ answer (at, is, a). silent at answer a)
         go (one-steps s) = by (eqb (placeIn (s .bytes)) (registerPlace x)) refl
           where
@@ -349,7 +350,7 @@ module _ (R : Run) where
     pub next-is : clientAt R id (suc t) ≡ nextClient (clientAt R id t) out
     pub answer-is : answerAt R t ≡ clientAnswer out
 
-  pub client-outcome : (id : ClientId) (t : ℕ) (e : ClientEvent) → event R t ≡ some (at-client id e) → Left id t (clientDoes id e (clientAt R id t))
+  pub client-outcome : (id : ClientId) (t : ℕ) (e : ClientEvent) → event R t ≡ some (at-client id e) → Left id t (onClientEvent id e (clientAt R id t))
   unfolding clientAt answerTo
   client-outcome id t e q = record { next-is = rw (q, eq-eqb (id .0) (id .0) refl); answer-is = rw q }
 
@@ -384,9 +385,9 @@ module _ (R : Run) where
         viewer-facts before verdicts message turn fits phase-fits no-writer (decoded-fits AtClient bytes (before .register) message (a .decodes) small) (a .ranged) (a .passed) taken,
       )
 
-  pub hears-takes : (id : ClientId) (before : Client) (bytes verdicts : List ℕ) (turn : Turn) → GoodClient id before → Bytes bytes → clientHears id before bytes verdicts ≡ accepted turn
+  pub handed-takes : (id : ClientId) (before : Client) (bytes verdicts : List ℕ) (turn : Turn) → GoodClient id before → Bytes bytes → handedStep id before bytes verdicts ≡ accepted turn
       → Takes (clientTakes id before) before bytes verdicts turn
-  hears-takes id before bytes verdicts turn good small e = go (isWriter id) refl e
+  handed-takes id before bytes verdicts turn good small e = go (isWriter id) refl e
     where
       go : (w : Bool) → isWriter id ≡ w → cond w (clientStep before bytes verdicts) (viewerStep before bytes verdicts) ≡ accepted turn
           → Takes (λ own message. cond w (onReply before own message) (onViewerReply before message)) before bytes verdicts turn
@@ -394,19 +395,19 @@ module _ (R : Run) where
       go false q e = view-takes before bytes verdicts turn (good .fits) (good .phase-fits) small (subst (λ (i : ClientId). isWriter i ≡ false) (sym (good .id-is)) q) e
 
   client-here : (id : ClientId) (t : ℕ) (bytes verdicts : List ℕ) → GoodClient id (clientAt R id t) → event R t ≡ some (to-client id bytes verdicts) → ClientTurn id t
-  client-here id t bytes verdicts good e = by-outcome id t (clientHears id (clientAt R id t) bytes verdicts) (client-outcome id t (hears bytes verdicts) e) (λ turn q step.
-      let taken = hears-takes id (clientAt R id t) bytes verdicts turn good (R .have-bytes t (to-client id bytes verdicts) e) q in
+  client-here id t bytes verdicts good e = by-outcome id t (handedStep id (clientAt R id t) bytes verdicts) (client-outcome id t (reply-handed bytes verdicts) e) (λ turn q step.
+      let taken = handed-takes id (clientAt R id t) bytes verdicts turn good (R .have-bytes t (to-client id bytes verdicts) e) q in
       heard (record { bytes = bytes; verdicts = verdicts; message = taken .0; turn = turn; event-is = e; admitted = taken .1; stepped = taken .2; facts = taken .3; step = step }))
 
   -- Its own event,
   own-turn : (id : ClientId) (t : ℕ) → GoodClient id (clientAt R id t) → (e : ClientEvent) → event R t ≡ some (at-client id e) → ClientTurn id t
-  own-turn id t good (writes x card) q =
-      by-outcome id t (beginWrite (clientAt R id t) x card) (client-outcome id t (writes x card) q) (λ turn k step.
-      wrote x card turn q (write-begun (clientAt R id t) x card turn (good .fits) (R .have-bytes t (begins-write id x card) q) k) step)
-  own-turn id t good (reads x) q =
-      by-outcome id t (beginRead (clientAt R id t) x) (client-outcome id t (reads x) q) (λ turn k step.
-      asked x turn q (read-begun (clientAt R id t) x turn (good .fits) k) step)
-  own-turn id t good (hears bytes verdicts) q = client-here id t bytes verdicts good q
+  own-turn id t good (write-begun x card) q =
+      by-outcome id t (beginWrite (clientAt R id t) x card) (client-outcome id t (write-begun x card) q) (λ turn k step.
+      wrote x card turn q (begins-write-facts (clientAt R id t) x card turn (good .fits) (R .have-bytes t (begins-write id x card) q) k) step)
+  own-turn id t good (read-begun x) q =
+      by-outcome id t (beginRead (clientAt R id t) x) (client-outcome id t (read-begun x) q) (λ turn k step.
+      asked x turn q (begins-read-facts (clientAt R id t) x turn (good .fits) k) step)
+  own-turn id t good (reply-handed bytes verdicts) q = client-here id t bytes verdicts good q
 
   -- or another's.
   client-turn-of : (id : ClientId) (t : ℕ) → GoodClient id (clientAt R id t) → (e : Option Event) → event R t ≡ e → ClientTurn id t

@@ -11,11 +11,10 @@ use Rattle.base.specs.Outcome.{Outcome, accepted, refused}
 use Rattle.base.specs.declared.party.ClientId.{ClientId}
 use Rattle.base.specs.declared.party.RegisterId.{RegisterId}
 use Rattle.base.specs.declared.party.ReplicaId.{ReplicaId}
-use Rattle.protocol.specs.Bank.{madeBank, BankCall, bankCall}
-use Rattle.protocol.specs.Client.{Answer, send, waits, done, ended, madeClient, ClientCall, beginWriteCall, beginReadCall, clientCall}
+use Rattle.protocol.specs.Bank.{madeBank, BankCall}
+use Rattle.protocol.specs.Client.{Answer, send, waits, done, ended, ClientCall}
+use Rattle.protocol.specs.Events.{replicaEventCall, madeWith, clientEventCall}
 use Rattle.base.specs.Bytes.{filled}
-use Rattle.base.specs.Party.{isWriter}
-use Rattle.protocol.specs.Viewer.{madeViewer, viewerCall}
 use Rattle.protocol.specs.declared.client.Client.{Client}
 use Rattle.protocol.specs.declared.client.ClientAnswer.{ClientAnswer}
 use Rattle.protocol.specs.declared.client.ClientAnswer.the-variants.{Send, Counted, Done, Ended, Refused}
@@ -23,7 +22,7 @@ use Rattle.protocol.specs.declared.replica.Bank.{Bank}
 use Rattle.protocol.specs.declared.replica.ReplicaAnswer.{ReplicaAnswer}
 use Rattle.protocol.specs.declared.replica.ReplicaAnswer.the-variants.{Send as ReplicaSend, Refused as ReplicaRefused}
 use Rattle.wire.specs.Writing.{unsigned, inFront}
-use Rattle.run.specs.Run.{ReplicaEvent, is-handed, ClientEvent, writes, reads, hears, Event, at-replica, at-client, registerOf, Run, event, bankAt, clientAt, answerAt}
+use Rattle.run.specs.Run.{Event, at-replica, at-client, registerOf, Run, event, bankAt, clientAt, answerAt}
 
 -- What a call gives back beside the record: its answer, the card array with its length, and the output.
 pub record Given : Type 0 where
@@ -57,32 +56,16 @@ givenFor x old (accepted (done timestamp card signers)) = record { answer = Done
 givenFor x old (accepted ended) = withoutCard Ended old
 givenFor x old (refused number) = withoutCard (Refused number) old
 
--- A client's calls by its number: how it is made, and what it makes of a message.
-abbrev pub madeWith : ℕ → ClientId → ℕ → Client
-madeWith f id firstNonce = cond (isWriter id) (madeClient f id firstNonce) (madeViewer f id firstNonce)
-
-abbrev pub hearingCall : ClientId → Client → List ℕ → List ℕ → List ℕ → ClientCall
-hearingCall id before bytes verdicts old = cond (isWriter id) (clientCall before bytes verdicts old) (viewerCall before bytes verdicts old)
-
--- The call of an event.
-abbrev pub bankCalled : ReplicaEvent → List ℕ → Bank → BankCall
-bankCalled (is-handed bytes verdicts) old before = bankCall before bytes verdicts old
-
-abbrev pub clientCalled : ClientId → ClientEvent → List ℕ → Client → ClientCall
-clientCalled id (writes x card) old before = beginWriteCall before x card old
-clientCalled id (reads x) old before = beginReadCall before x old
-clientCalled id (hears bytes verdicts) old before = hearingCall id before bytes verdicts old
-
--- The record that it leaves to its party; another party's event leaves it.
+-- The record that an event's call leaves to its party; another party's event leaves it.
 abbrev pub calledAtReplica : ReplicaId → Option Event → List ℕ → Bank → Bank
 calledAtReplica id none old before = before
-calledAtReplica id (some (at-replica at e)) old before = cond (eqb (at .0) (id .0)) (bankCalled e old before .bank) before
+calledAtReplica id (some (at-replica at e)) old before = cond (eqb (at .0) (id .0)) (replicaEventCall e old before .bank) before
 calledAtReplica id (some (at-client at e)) old before = before
 
 abbrev pub calledAtClient : ClientId → Option Event → List ℕ → Client → Client
 calledAtClient id none old before = before
 calledAtClient id (some (at-replica at e)) old before = before
-calledAtClient id (some (at-client at e)) old before = cond (eqb (at .0) (id .0)) (clientCalled at e old before .client) before
+calledAtClient id (some (at-client at e)) old before = cond (eqb (at .0) (id .0)) (clientEventCall at e old before .client) before
 
 -- `output t` is what the output that is lent to event t's call holds before it.
 module _ (R : Run) (output : ℕ → List ℕ) where
@@ -97,8 +80,8 @@ module _ (R : Run) (output : ℕ → List ℕ) where
 
   -- What the call of an event at time t gives back.
   unfoldable pub givenAt : ℕ → Event → Given
-  givenAt t (at-replica id e) = givenByReplica (bankCalled e (output t) (calledReplica id t))
-  givenAt t (at-client id e) = givenByClient (clientCalled id e (output t) (calledClient id t))
+  givenAt t (at-replica id e) = givenByReplica (replicaEventCall e (output t) (calledReplica id t))
+  givenAt t (at-client id e) = givenByClient (clientEventCall id e (output t) (calledClient id t))
 
   pub record CallsAreRun : Type 0 where
     -- "Each is set up once, before the first event, with the run's f and its own number" .. "Its party gets the record that its

@@ -14,7 +14,8 @@ use Rattle.wire.specs.Message.{Message, READ-STAMP, PREPARE, WRITE, READ, STAMP
 use Rattle.wire.specs.Sha256.{sha256}
 use Rattle.wire.specs.Signatures.{Signature, signaturesOf}
 use Rattle.wire.specs.declared.message.Party.the-variants.{Replica as AtReplica, Client as AtClient}
-use Rattle.run.specs.Run.{Event, at-replica, at-client, is-handed, writes, reads, hears, Run, event, answerAt, Correct, Sent}
+use Rattle.protocol.specs.Events.{request-handed, write-begun, read-begun, reply-handed}
+use Rattle.run.specs.Run.{Event, at-replica, at-client, Run, event, answerAt, Correct, Sent}
 
 module _ (R : Run) where
   -- "A mark is true when a seal of a rule-follower is marked 1 only if that party sent that message earlier."
@@ -32,10 +33,10 @@ module _ (R : Run) where
 
   unfoldable pub TrueAt : ℕ → Option Event → Type 0
   TrueAt t none = Unit {0}
-  TrueAt t (some (at-client id (writes x card))) = Unit {0}
-  TrueAt t (some (at-client id (reads x))) = Unit {0}
-  TrueAt t (some (at-replica id (is-handed bytes verdicts))) = TrueFor t bytes verdicts (decode AtReplica bytes)
-  TrueAt t (some (at-client id (hears bytes verdicts))) = TrueFor t bytes verdicts (decode AtClient bytes)
+  TrueAt t (some (at-client id (write-begun x card))) = Unit {0}
+  TrueAt t (some (at-client id (read-begun x))) = Unit {0}
+  TrueAt t (some (at-replica id (request-handed bytes verdicts))) = TrueFor t bytes verdicts (decode AtReplica bytes)
+  TrueAt t (some (at-client id (reply-handed bytes verdicts))) = TrueFor t bytes verdicts (decode AtClient bytes)
 
   -- "The cards of a run are those that a write was begun with or that a message carried, in events not refused"
   abbrev pub carriedBy : Outcome (RegisterId × Message) → Option (List ℕ)
@@ -51,10 +52,10 @@ module _ (R : Run) where
 
   abbrev pub eventCard : Option Event → Option (List ℕ)
   eventCard none = none
-  eventCard (some (at-client id (writes x card))) = some card
-  eventCard (some (at-client id (reads x))) = none
-  eventCard (some (at-replica id (is-handed bytes verdicts))) = carriedBy (decode AtReplica bytes)
-  eventCard (some (at-client id (hears bytes verdicts))) = carriedBy (decode AtClient bytes)
+  eventCard (some (at-client id (write-begun x card))) = some card
+  eventCard (some (at-client id (read-begun x))) = none
+  eventCard (some (at-replica id (request-handed bytes verdicts))) = carriedBy (decode AtReplica bytes)
+  eventCard (some (at-client id (reply-handed bytes verdicts))) = carriedBy (decode AtClient bytes)
 
   -- Event t is not refused.
   abbrev pub Accepted : ℕ → Type 0

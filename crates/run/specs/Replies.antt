@@ -11,7 +11,8 @@ use Rattle.base.specs.declared.party.RegisterId.{RegisterId}
 use Rattle.base.specs.declared.party.ReplicaId.{ReplicaId}
 use Rattle.protocol.specs.Client.{Answer}
 use Rattle.wire.specs.Decode.{registerIn, framed}
-use Rattle.run.specs.Run.{Event, at-replica, at-client, is-handed, Run, answerTo}
+use Rattle.protocol.specs.Events.{request-handed}
+use Rattle.run.specs.Run.{Event, at-replica, at-client, Run, answerTo}
 
 -- A message with its verdicts (marks).
 pub record Delivery : Type 0 where
@@ -30,15 +31,15 @@ module _ (id : ReplicaId) (x : RegisterId) where
   -- What replica `id` is handed for register x, of these events, in order.
   abbrev pub handedIn : List Event → List Delivery
   handedIn [] = []
-  handedIn (at-replica at (is-handed bytes verdicts) ∷ events) =
+  handedIn (at-replica at (request-handed bytes verdicts) ∷ events) =
       cond (eqb (at .0) (id .0) && isFor x bytes) (record { bytes = bytes; verdicts = verdicts } ∷ handedIn events) (handedIn events)
   handedIn (at-client at e ∷ events) = handedIn events
 
   -- What it answers, the first of these events being event t of the run.
   abbrev pub answersIn : Run → ℕ → List Event → List (Outcome Answer)
   answersIn R t [] = []
-  answersIn R t (at-replica at (is-handed bytes verdicts) ∷ events) =
-      cond (eqb (at .0) (id .0) && isFor x bytes) (answerTo R t (some (at-replica at (is-handed bytes verdicts))) ∷ answersIn R (suc t) events) (answersIn R (suc t) events)
+  answersIn R t (at-replica at (request-handed bytes verdicts) ∷ events) =
+      cond (eqb (at .0) (id .0) && isFor x bytes) (answerTo R t (some (at-replica at (request-handed bytes verdicts))) ∷ answersIn R (suc t) events) (answersIn R (suc t) events)
   answersIn R t (at-client at e ∷ events) = answersIn R (suc t) events
 
 abbrev pub handedFor : Run → ReplicaId → RegisterId → List Delivery

@@ -1,5 +1,4 @@
--- Document 01, "Runs": events at correct parties (rule-followers), their records, and what was sent earlier. Viewing clients (document
--- 02, #101) are clients here: a client's number decides which engine its events are at.
+-- Document 01, "Runs": events at correct parties (rule-followers), their records, and what was sent earlier.
 use mathlib.Core.Path.{_≡_}
 use mathlib.Core.Bool.{Bool, true, cond}
 use mathlib.Core.List.{List}
@@ -13,10 +12,9 @@ use Rattle.base.specs.Party.{isFaultBound, isReplica, isClient, isWriter, regis
 use Rattle.base.specs.declared.party.ClientId.{ClientId}
 use Rattle.base.specs.declared.party.RegisterId.{RegisterId}
 use Rattle.base.specs.declared.party.ReplicaId.{ReplicaId}
-use Rattle.protocol.specs.Bank.{partAt, withPartAt, freshBank, placeIn, bankStep}
-use Rattle.protocol.specs.Client.{Answer, send, Turn, freshClient, beginWrite, beginRead, clientStep}
-use Rattle.protocol.specs.Replica.{Reply}
-use Rattle.protocol.specs.Viewer.{viewerStep}
+use Rattle.protocol.specs.Bank.{partAt, freshBank}
+use Rattle.protocol.specs.Client.{Answer, send, freshClient}
+use Rattle.protocol.specs.Events.{ReplicaEvent, ClientEvent, request-handed, write-begun, read-begun, reply-handed, onReplicaEvent, nextBank, bankAnswer, onClientEvent, nextClient, clientAnswer}
 use Rattle.protocol.specs.declared.client.Client.{Client}
 use Rattle.protocol.specs.declared.replica.Bank.{Bank}
 use Rattle.protocol.specs.declared.replica.Register.{Register}
@@ -25,31 +23,22 @@ use Rattle.wire.specs.Acceptance.{Sender, replica, client}
 use Rattle.wire.specs.Decode.{registerIn}
 use Rattle.wire.specs.Message.{Message, body}
 
--- "a desk begins a write of some card or begins a read; a holder or a desk is handed a message, of any bytes and length,
--- with marks of any number and value". Document 02, #103: "A desk names its set at each beginning".
-pub data ReplicaEvent : Type 0 where
-  is-handed : List ℕ → List ℕ → ReplicaEvent
-
-pub data ClientEvent : Type 0 where
-  writes : RegisterId → List ℕ → ClientEvent
-  reads : RegisterId → ClientEvent
-  hears : List ℕ → List ℕ → ClientEvent
-
+-- An event is at a replica or at a client.
 pub data Event : Type 0 where
   at-replica : ReplicaId → ReplicaEvent → Event
   at-client : ClientId → ClientEvent → Event
 
 abbrev pub begins-write : ClientId → RegisterId → List ℕ → Event
-begins-write id x card = at-client id (writes x card)
+begins-write id x card = at-client id (write-begun x card)
 
 abbrev pub begins-read : ClientId → RegisterId → Event
-begins-read id x = at-client id (reads x)
+begins-read id x = at-client id (read-begun x)
 
 abbrev pub to-replica : ReplicaId → List ℕ → List ℕ → Event
-to-replica id bytes verdicts = at-replica id (is-handed bytes verdicts)
+to-replica id bytes verdicts = at-replica id (request-handed bytes verdicts)
 
 abbrev pub to-client : ClientId → List ℕ → List ℕ → Event
-to-client id bytes verdicts = at-client id (hears bytes verdicts)
+to-client id bytes verdicts = at-client id (reply-handed bytes verdicts)
 
 -- The party of an event, as a sender of messages.
 abbrev pub partyOf : Event → Sender
@@ -58,17 +47,17 @@ partyOf (at-client id e) = client id
 
 -- The register of an event, and of what is answered to it: the one that is named, or that the message is for.
 abbrev pub registerOf : Event → RegisterId
-registerOf (at-replica id (is-handed bytes verdicts)) = registerIn bytes
-registerOf (at-client id (writes x card)) = x
-registerOf (at-client id (reads x)) = x
-registerOf (at-client id (hears bytes verdicts)) = registerIn bytes
+registerOf (at-replica id (request-handed bytes verdicts)) = registerIn bytes
+registerOf (at-client id (write-begun x card)) = x
+registerOf (at-client id (read-begun x)) = x
+registerOf (at-client id (reply-handed bytes verdicts)) = registerIn bytes
 
 -- Bytes are below 256.
 abbrev pub HasBytes : Event → Type 0
-HasBytes (at-replica id (is-handed bytes verdicts)) = Bytes bytes
-HasBytes (at-client id (writes x card)) = Bytes card
-HasBytes (at-client id (reads x)) = Unit {0}
-HasBytes (at-client id (hears bytes verdicts)) = Bytes bytes
+HasBytes (at-replica id (request-handed bytes verdicts)) = Bytes bytes
+HasBytes (at-client id (write-begun x card)) = Bytes card
+HasBytes (at-client id (read-begun x)) = Unit {0}
+HasBytes (at-client id (reply-handed bytes verdicts)) = Bytes bytes
 
 abbrev pub CorrectIn : (ReplicaId → Bool) → (ClientId → Bool) → Sender → Type 0
 CorrectIn correct-replica correct-client (replica id) = correct-replica id ≡ true
@@ -90,50 +79,16 @@ pub record Run : Type 0 where
   pub have-bytes : (t : ℕ) (e : Event) → getElem? events t ≡ some e → HasBytes e
   pub at-correct : (t : ℕ) (e : Event) → getElem? events t ≡ some e → CorrectIn correct-replica correct-client (partyOf e)
 
--- What an event does to a record: "a refusal leaves it as it was". A replica's step changes the register at its place.
-abbrev pub nextBank : ℕ → Bank → Outcome Reply → Bank
-nextBank at before (accepted reply) = withPartAt at (reply .next) before
-nextBank at before (refused number) = before
-
-abbrev pub nextClient : Client → Outcome Turn → Client
-nextClient before (accepted turn) = turn .next
-nextClient before (refused number) = before
-
--- What a client makes of a message: "viewing desks, with an engine of their own".
-abbrev pub clientHears : ClientId → Client → List ℕ → List ℕ → Outcome Turn
-clientHears id before bytes verdicts = cond (isWriter id) (clientStep before bytes verdicts) (viewerStep before bytes verdicts)
-
--- What a party makes of its event.
-abbrev pub bankAfter : ReplicaEvent → Bank → Bank
-bankAfter (is-handed bytes verdicts) before = nextBank (placeIn bytes) before (bankStep before bytes verdicts)
-
-abbrev pub clientDoes : ClientId → ClientEvent → Client → Outcome Turn
-clientDoes id (writes x card) before = beginWrite before x card
-clientDoes id (reads x) before = beginRead before x
-clientDoes id (hears bytes verdicts) before = clientHears id before bytes verdicts
-
 -- "Its party gets the record that its own last event left"; another party's event leaves it.
 abbrev pub afterAtReplica : ReplicaId → Option Event → Bank → Bank
 afterAtReplica id none before = before
-afterAtReplica id (some (at-replica at e)) before = cond (eqb (at .0) (id .0)) (bankAfter e before) before
+afterAtReplica id (some (at-replica at e)) before = cond (eqb (at .0) (id .0)) (nextBank before (onReplicaEvent e before)) before
 afterAtReplica id (some (at-client at e)) before = before
 
 abbrev pub afterAtClient : ClientId → Option Event → Client → Client
 afterAtClient id none before = before
 afterAtClient id (some (at-replica at e)) before = before
-afterAtClient id (some (at-client at e)) before = cond (eqb (at .0) (id .0)) (nextClient before (clientDoes at e before)) before
-
--- The answer of a step alone; a replica's answer is a message to send.
-abbrev pub replicaAnswer : Outcome Reply → Outcome Answer
-replicaAnswer (accepted reply) = accepted (send (reply .message))
-replicaAnswer (refused number) = refused number
-
-abbrev pub clientAnswer : Outcome Turn → Outcome Answer
-clientAnswer (accepted turn) = accepted (turn .answer)
-clientAnswer (refused number) = refused number
-
-abbrev pub bankAnswer : ReplicaEvent → Bank → Outcome Answer
-bankAnswer (is-handed bytes verdicts) before = replicaAnswer (bankStep before bytes verdicts)
+afterAtClient id (some (at-client at e)) before = cond (eqb (at .0) (id .0)) (nextClient before (onClientEvent at e before)) before
 
 module _ (R : Run) where
   -- Event t, counted from 0.
@@ -152,8 +107,8 @@ module _ (R : Run) where
   -- The answer to an event at time t; where there is none, a refusal without a number of document 01's.
   unfoldable pub answerTo : ℕ → Option Event → Outcome Answer
   answerTo t none = refused 0
-  answerTo t (some (at-replica id e)) = bankAnswer e (bankAt id t)
-  answerTo t (some (at-client id e)) = clientAnswer (clientDoes id e (clientAt id t))
+  answerTo t (some (at-replica id e)) = bankAnswer (onReplicaEvent e (bankAt id t))
+  answerTo t (some (at-client id e)) = clientAnswer (onClientEvent id e (clientAt id t))
 
   abbrev pub answerAt : ℕ → Outcome Answer
   answerAt t = answerTo t (event t)

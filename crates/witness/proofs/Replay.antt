@@ -15,11 +15,12 @@ use Rattle.base.specs.Outcome.{Outcome}
 use Rattle.base.specs.Same.{same}
 use Rattle.base.specs.declared.party.ClientId.{ClientId}
 use Rattle.base.specs.declared.party.ReplicaId.{ReplicaId}
-use Rattle.protocol.specs.Client.{Answer, Turn, freshClient, beginWrite, beginRead}
-use Rattle.protocol.specs.Bank.{freshBank, placeIn, bankStep}
+use Rattle.protocol.specs.Client.{Answer, freshClient}
+use Rattle.protocol.specs.Bank.{freshBank}
 use Rattle.protocol.specs.declared.client.Client.{Client}
 use Rattle.protocol.specs.declared.replica.Bank.{Bank}
-use Rattle.run.specs.Run.{Event, at-replica, at-client, is-handed, bankAfter, bankAnswer, clientDoes, registerOf, nextBank, nextClient, clientHears, afterAtReplica, afterAtClient, replicaAnswer, clientAnswer, Run, event, bankAt, clientAt, answerTo}
+use Rattle.protocol.specs.Events.{onReplicaEvent, nextBank, bankAnswer, onClientEvent, nextClient, clientAnswer}
+use Rattle.run.specs.Run.{Event, at-replica, at-client, registerOf, afterAtReplica, afterAtClient, Run, event, bankAt, clientAt, answerTo}
 use Rattle.base.proofs.Same.{same-equal}
 use Rattle.witness.proofs.Answers.{code}
 use Rattle.witness.proofs.Story.{Line, Each, eventsOf, Told}
@@ -93,21 +94,15 @@ record Played : Type 0 where
   answer : Outcome Answer
   next : Store
 
-abbrev atReplica : Store → ReplicaId → List ℕ → List ℕ → Played
-atReplica store id bytes verdicts =
-    let before = replicaIn store id in
-    let reply = bankStep before bytes verdicts in
-    record { answer = replicaAnswer reply; next = withReplica store id (nextBank (placeIn bytes) before reply) }
-
-abbrev atClient : Store → ClientId → (Client → Outcome Turn) → Played
-atClient store id step =
-    let before = clientIn store id in
-    let turn = step before in
-    record { answer = clientAnswer turn; next = withClient store id (nextClient before turn) }
-
 abbrev play : Store → Event → Played
-play store (at-replica id (is-handed bytes verdicts)) = atReplica store id bytes verdicts
-play store (at-client id e) = atClient store id (clientDoes id e)
+play store (at-replica id e) =
+    let before = replicaIn store id in
+    let turn = onReplicaEvent e before in
+    record { answer = bankAnswer turn; next = withReplica store id (nextBank before turn) }
+play store (at-client id e) =
+    let before = clientIn store id in
+    let turn = onClientEvent id e before in
+    record { answer = clientAnswer turn; next = withClient store id (nextClient before turn) }
 
 -- The lines' answers are those of their events, all at parties of the store.
 unfoldable pub plays : Store → List Line → Bool
@@ -149,26 +144,25 @@ module _ (R : Run) where
   next-client t e found i = ap (λ (x : Option Event). afterAtClient (client-of i) x (clientAt R (client-of i) t)) (sym found)
 
   still-holds : (t : ℕ) (store : Store) (e : Event) → event R t ≡ some e → inStore store e ≡ true → Holds t store → Holds (suc t) (play store e .next)
-  still-holds t store (at-replica id (is-handed bytes verdicts)) found there holds =
-      let e = at-replica id (is-handed bytes verdicts) in
+  still-holds t store (at-replica id e) found there holds =
       record {
         replicas = λ i inside.
-            steps-right no-replica (store .replicas) (λ j. bankAt R (replica-of j) t) (id .0) (bankAfter (is-handed bytes verdicts)) (ltb-true (id .0) (length (store .replicas)) there) (holds .replicas) i inside
-            ∙ next-replica t e found i;
-        clients = λ i inside. holds .clients i inside ∙ next-client t e found i;
+            steps-right no-replica (store .replicas) (λ j. bankAt R (replica-of j) t) (id .0) (λ b. nextBank b (onReplicaEvent e b)) (ltb-true (id .0) (length (store .replicas)) there) (holds .replicas) i inside
+            ∙ next-replica t (at-replica id e) found i;
+        clients = λ i inside. holds .clients i inside ∙ next-client t (at-replica id e) found i;
       }
   still-holds t store (at-client id e) found there holds =
       record {
         replicas = λ i inside. holds .replicas i inside ∙ next-replica t (at-client id e) found i;
         clients = λ i inside.
-            steps-right no-client (store .clients) (λ j. clientAt R (client-of j) t) (id .0) (λ c. nextClient c (clientDoes id e c)) (ltb-true (id .0) (length (store .clients)) there) (holds .clients) i inside
+            steps-right no-client (store .clients) (λ j. clientAt R (client-of j) t) (id .0) (λ c. nextClient c (onClientEvent id e c)) (ltb-true (id .0) (length (store .clients)) there) (holds .clients) i inside
             ∙ next-client t (at-client id e) found i;
       }
 
   answers-right : (t : ℕ) (store : Store) (e : Event) → inStore store e ≡ true → Holds t store → answerTo R t (some e) ≡ play store e .answer
   unfolding answerTo
-  answers-right t store (at-replica id (is-handed bytes verdicts)) there holds = ap (bankAnswer (is-handed bytes verdicts)) (sym (holds .replicas (id .0) (ltb-true (id .0) (length (store .replicas)) there)))
-  answers-right t store (at-client id e) there holds = ap (λ (c : Client). clientAnswer (clientDoes id e c)) (sym (holds .clients (id .0) (ltb-true (id .0) (length (store .clients)) there)))
+  answers-right t store (at-replica id e) there holds = ap (λ (b : Bank). bankAnswer (onReplicaEvent e b)) (sym (holds .replicas (id .0) (ltb-true (id .0) (length (store .replicas)) there)))
+  answers-right t store (at-client id e) there holds = ap (λ (c : Client). clientAnswer (onClientEvent id e c)) (sym (holds .clients (id .0) (ltb-true (id .0) (length (store .clients)) there)))
 
   each-played : (t : ℕ) (store : Store) (lines : List Line) → ((i : ℕ) → event R (t + i) ≡ getElem? (eventsOf lines) i) → Holds t store → plays store lines ≡ true
       → Each (λ s line. code (registerOf (line .event)) (answerTo R s (some (line .event))) ≡ code (registerOf (line .event)) (line .answer)) t lines

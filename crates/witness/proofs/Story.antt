@@ -23,11 +23,12 @@ use Rattle.base.specs.declared.party.ReplicaId.{ReplicaId}
 use Rattle.base.specs.declared.replica_set.ReplicaSet.{ReplicaSet}
 use Rattle.base.specs.declared.timestamp.Timestamp.{Timestamp}
 use Rattle.protocol.specs.Client.{Answer, send, waits, done, ended}
+use Rattle.protocol.specs.Events.{request-handed, write-begun, read-begun, reply-handed}
 use Rattle.run.proofs.SentMessages.{said-later}
 use Rattle.run.specs.Claims.{GoesOn, Begins, Finished, Viewed, Genuine}
 use Rattle.run.specs.Premises.{TrueVerdicts, TrueFor, TrueAt, eventCard, Accepted, CardOfRun, FewFaulty, Premises}
 use Rattle.wire.specs.Acceptance.{Sender, replica, client}
-use Rattle.run.specs.Run.{Event, at-replica, at-client, is-handed, writes, reads, hears, begins-write, partyOf, registerOf, HasBytes, CorrectIn, Run, event, answerTo, answerAt, At, Sent}
+use Rattle.run.specs.Run.{Event, at-replica, at-client, begins-write, partyOf, registerOf, HasBytes, CorrectIn, Run, event, answerTo, answerAt, At, Sent}
 use Rattle.wire.specs.Decode.{decode}
 use Rattle.wire.specs.Message.{Message, body}
 use Rattle.wire.specs.Proof.{PreparedProof, signerSet, preparedBytes, readPrepared}
@@ -124,23 +125,23 @@ all-bytes (b ∷ bytes) h (suc i) = all-bytes bytes (and-true-both (ltb b 256) (
 
 unfoldable pub hasBytes : Event → Bool
 unfolding allBytes
-hasBytes (at-client id (writes x card)) = allBytes card
-hasBytes (at-client id (reads x)) = true
-hasBytes (at-replica id (is-handed bytes verdicts)) = allBytes bytes
-hasBytes (at-client id (hears bytes verdicts)) = allBytes bytes
+hasBytes (at-client id (write-begun x card)) = allBytes card
+hasBytes (at-client id (read-begun x)) = true
+hasBytes (at-replica id (request-handed bytes verdicts)) = allBytes bytes
+hasBytes (at-client id (reply-handed bytes verdicts)) = allBytes bytes
 
 pub has-bytes : (e : Event) → hasBytes e ≡ true → HasBytes e
 unfolding hasBytes
-has-bytes (at-client id (writes x card)) h = all-bytes card h
-has-bytes (at-client id (reads x)) h = tt
-has-bytes (at-replica id (is-handed bytes verdicts)) h = all-bytes bytes h
-has-bytes (at-client id (hears bytes verdicts)) h = all-bytes bytes h
+has-bytes (at-client id (write-begun x card)) h = all-bytes card h
+has-bytes (at-client id (read-begun x)) h = tt
+has-bytes (at-replica id (request-handed bytes verdicts)) h = all-bytes bytes h
+has-bytes (at-client id (reply-handed bytes verdicts)) h = all-bytes bytes h
 
 abbrev writerBegins : Event → Bool
-writerBegins (at-client id (writes x card)) = isWriter id
-writerBegins (at-client id (reads x)) = true
-writerBegins (at-replica id (is-handed bytes verdicts)) = true
-writerBegins (at-client id (hears bytes verdicts)) = true
+writerBegins (at-client id (write-begun x card)) = isWriter id
+writerBegins (at-client id (read-begun x)) = true
+writerBegins (at-replica id (request-handed bytes verdicts)) = true
+writerBegins (at-client id (reply-handed bytes verdicts)) = true
 
 abbrev pub correctIn : (ReplicaId → Bool) → (ClientId → Bool) → Sender → Bool
 correctIn replicas clients (replica id) = replicas id
@@ -269,10 +270,10 @@ module _ (R : Run) (lines : List Line) where
   trueFor t bytes verdicts (refused number) = true
 
   abbrev trueEvent : ℕ → Event → Bool
-  trueEvent t (at-client id (writes x card)) = true
-  trueEvent t (at-client id (reads x)) = true
-  trueEvent t (at-replica id (is-handed bytes verdicts)) = trueFor t bytes verdicts (decode AtReplica bytes)
-  trueEvent t (at-client id (hears bytes verdicts)) = trueFor t bytes verdicts (decode AtClient bytes)
+  trueEvent t (at-client id (write-begun x card)) = true
+  trueEvent t (at-client id (read-begun x)) = true
+  trueEvent t (at-replica id (request-handed bytes verdicts)) = trueFor t bytes verdicts (decode AtReplica bytes)
+  trueEvent t (at-client id (reply-handed bytes verdicts)) = trueFor t bytes verdicts (decode AtClient bytes)
 
   -- Each verdict of the run is true.
   abbrev pub AllTrue : Type 0
@@ -350,10 +351,10 @@ module _ (R : Run) (lines : List Line) (told : Told R lines) where
 
   true-event : (t : ℕ) (e : Event) → trueEvent R lines t e ≡ true → TrueAt R t (some e)
   unfolding TrueAt
-  true-event t (at-client id (writes x card)) h = tt
-  true-event t (at-client id (reads x)) h = tt
-  true-event t (at-replica id (is-handed bytes verdicts)) h = true-for t bytes verdicts (decode AtReplica bytes) h
-  true-event t (at-client id (hears bytes verdicts)) h = true-for t bytes verdicts (decode AtClient bytes) h
+  true-event t (at-client id (write-begun x card)) h = tt
+  true-event t (at-client id (read-begun x)) h = tt
+  true-event t (at-replica id (request-handed bytes verdicts)) h = true-for t bytes verdicts (decode AtReplica bytes) h
+  true-event t (at-client id (reply-handed bytes verdicts)) h = true-for t bytes verdicts (decode AtClient bytes) h
 
   pub true-verdicts : AllTrue R lines → (t : ℕ) → TrueAt R t (event R t)
   unfolding TrueAt

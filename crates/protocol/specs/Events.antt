@@ -1,0 +1,86 @@
+-- Document 01, "Runs": a party's events, and what it makes of each: the step, and the call with its lent output. Viewing clients (document
+-- 02, #101) are clients here: a client's number decides which engine its events are at.
+use mathlib.Core.Bool.{cond}
+use mathlib.Core.List.{List}
+use Prim.Native.Nat.{ℕ}
+use Rattle.base.specs.Outcome.{Outcome, accepted, refused}
+use Rattle.base.specs.Party.{isWriter}
+use Rattle.base.specs.declared.party.ClientId.{ClientId}
+use Rattle.base.specs.declared.party.RegisterId.{RegisterId}
+use Rattle.protocol.specs.Bank.{withPartAt, placeIn, bankStep, BankCall, bankCall}
+use Rattle.protocol.specs.Client.{Answer, send, Turn, madeClient, beginWrite, beginRead, clientStep, ClientCall, beginWriteCall, beginReadCall, clientCall}
+use Rattle.protocol.specs.Replica.{Reply}
+use Rattle.protocol.specs.Viewer.{madeViewer, viewerStep, viewerCall}
+use Rattle.protocol.specs.declared.client.Client.{Client}
+use Rattle.protocol.specs.declared.replica.Bank.{Bank}
+
+-- "a holder or a desk is handed a message, of any bytes and length, with marks of any number and value": the bytes, and the verdicts. At a
+-- replica it is a request,
+pub data ReplicaEvent : Type 0 where
+  request-handed : List ℕ → List ℕ → ReplicaEvent
+
+-- at a client a reply; "a desk begins a write of some card or begins a read". Document 02, #103: "A desk names its set at each beginning".
+pub data ClientEvent : Type 0 where
+  write-begun : RegisterId → List ℕ → ClientEvent
+  read-begun : RegisterId → ClientEvent
+  reply-handed : List ℕ → List ℕ → ClientEvent
+
+-- ---- A replica
+
+-- An answer, and the bank afterwards.
+pub record BankTurn : Type 0 where
+  pub answer : Answer
+  pub next : Bank
+
+-- A register's reply is to send, and its part goes back to its place.
+abbrev pub bankTurn : ℕ → Bank → Outcome Reply → Outcome BankTurn
+bankTurn at before (accepted reply) = accepted (record { answer = send (reply .message); next = withPartAt at (reply .next) before })
+bankTurn at before (refused number) = refused number
+
+-- The step of an event, and its call.
+abbrev pub onReplicaEvent : ReplicaEvent → Bank → Outcome BankTurn
+onReplicaEvent (request-handed bytes verdicts) before = bankTurn (placeIn bytes) before (bankStep before bytes verdicts)
+
+abbrev pub replicaEventCall : ReplicaEvent → List ℕ → Bank → BankCall
+replicaEventCall (request-handed bytes verdicts) old before = bankCall before bytes verdicts old
+
+-- The record that a step leaves, "a refusal leaves it as it was", and its answer alone.
+abbrev pub nextBank : Bank → Outcome BankTurn → Bank
+nextBank before (accepted turn) = turn .next
+nextBank before (refused number) = before
+
+abbrev pub bankAnswer : Outcome BankTurn → Outcome Answer
+bankAnswer (accepted turn) = accepted (turn .answer)
+bankAnswer (refused number) = refused number
+
+-- ---- A client
+
+-- By its number, "viewing desks, with an engine of their own": how it is made, and what it makes of a message.
+abbrev pub madeWith : ℕ → ClientId → ℕ → Client
+madeWith f id firstNonce = cond (isWriter id) (madeClient f id firstNonce) (madeViewer f id firstNonce)
+
+abbrev pub handedStep : ClientId → Client → List ℕ → List ℕ → Outcome Turn
+handedStep id before bytes verdicts = cond (isWriter id) (clientStep before bytes verdicts) (viewerStep before bytes verdicts)
+
+abbrev pub handedCall : ClientId → Client → List ℕ → List ℕ → List ℕ → ClientCall
+handedCall id before bytes verdicts old = cond (isWriter id) (clientCall before bytes verdicts old) (viewerCall before bytes verdicts old)
+
+-- The step of an event, and its call.
+abbrev pub onClientEvent : ClientId → ClientEvent → Client → Outcome Turn
+onClientEvent id (write-begun x card) before = beginWrite before x card
+onClientEvent id (read-begun x) before = beginRead before x
+onClientEvent id (reply-handed bytes verdicts) before = handedStep id before bytes verdicts
+
+abbrev pub clientEventCall : ClientId → ClientEvent → List ℕ → Client → ClientCall
+clientEventCall id (write-begun x card) old before = beginWriteCall before x card old
+clientEventCall id (read-begun x) old before = beginReadCall before x old
+clientEventCall id (reply-handed bytes verdicts) old before = handedCall id before bytes verdicts old
+
+-- The record that a step leaves, and its answer alone.
+abbrev pub nextClient : Client → Outcome Turn → Client
+nextClient before (accepted turn) = turn .next
+nextClient before (refused number) = before
+
+abbrev pub clientAnswer : Outcome Turn → Outcome Answer
+clientAnswer (accepted turn) = accepted (turn .answer)
+clientAnswer (refused number) = refused number
