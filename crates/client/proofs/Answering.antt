@@ -20,7 +20,7 @@ use Rattle.wire.specs.Message.{Message, longest}
 use Rattle.wire.specs.Writing.{Wrote, unsigned, encodedOutcome, inFront}
 use Rattle.wire.specs.declared.writer.Encoded.{Encoded}
 use Rattle.wire.specs.declared.writer.Encoded.the-variants.{Length, Refused}
-use Rattle.protocol.specs.Client.{send, call, answered}
+use Rattle.protocol.specs.Client.{send, giving, given, leaving}
 use Rattle.protocol.specs.declared.client.Client.{Client}
 use Rattle.protocol.specs.declared.client.ClientAnswer.{ClientAnswer}
 use Rattle.protocol.specs.declared.client.ClientAnswer.the-variants.{Send, Done}
@@ -28,10 +28,10 @@ use Rattle.client.specs.Leaving.{callOf, plain, doneWith, sentAs}
 use Rattle.client.specs.declared.Stepped.{Stepped}
 
 module _ (stepped : Stepped) (old : List ℕ) (next : Client) where
-  pub plain-call : (answer : ClientAnswer) → stepped ≡ plain answer next → callOf stepped old ≡ call answer [] next old
+  pub plain-call : (answer : ClientAnswer) → stepped ≡ plain answer next → callOf stepped old ≡ leaving next (giving answer [] old)
   plain-call answer e = ap (λ (s : Stepped). callOf s old) e
 
-  pub done-call : (timestamp : Timestamp) (card : List ℕ) (signers : ReplicaSet) → stepped ≡ doneWith timestamp card signers next → callOf stepped old ≡ call (Done timestamp signers) card next old
+  pub done-call : (timestamp : Timestamp) (card : List ℕ) (signers : ReplicaSet) → stepped ≡ doneWith timestamp card signers next → callOf stepped old ≡ leaving next (giving (Done timestamp signers) card old)
   done-call timestamp card signers e = ap (λ (s : Stepped). callOf s old) e
 
 -- A message written into an output that is long enough, for the register of the operation.
@@ -47,7 +47,7 @@ module _ (old new : List ℕ) (message : Message) (enough : longest ≤ length o
       go (Refused number) h = let z : _≡_ {A = ℕ} 0 1 = cc in absurd (omega arith)
 
   pub sends : (encoded : Encoded) (stepped : Stepped) (next : Client) → Wrote old (unsigned (next .register) message) encoded new → stepped ≡ sentAs encoded next
-      → callOf stepped new ≡ answered old (send message) next
+      → callOf stepped new ≡ leaving next (given (next .register) old (accepted (send message)))
   sends encoded stepped next w e =
       let bytes = unsigned (next .register) message in
       let same : new ≡ inFront bytes old = w .holds ∙ rw roomy in

@@ -16,7 +16,8 @@ use Rattle.client.specs.declared.Stepped.{Stepped as ClientStepped}
 use Rattle.replica.specs.declared.Stepped.{Stepped as ReplicaStepped}
 use Rattle.play.specs.Calls.{sentBefore, clientDoes, replicaDoes, ClientLeaves, ReplicaLeaves}
 use Rattle.play.specs.Grammar.{command}
-use Rattle.play.specs.Player.{saidOf, loggedBy, reply, clientTurn, replicaTurn, addressee, does, turn, Says, Plays}
+use Rattle.protocol.specs.Events.{asClientAnswer}
+use Rattle.play.specs.Player.{saidOf, loggedBy, clientTurn, replicaTurn, addressee, does, turn, Says, Plays}
 use Rattle.play.specs.Worlds.{clientSeat, replicaSeat}
 use Rattle.play.specs.declared.calls.Call.{Call}
 use Rattle.play.specs.declared.log.Log.{Log}
@@ -32,7 +33,7 @@ use Rattle.play.specs.declared.world.World.{World}
 module _ (world : World) (store : List ℕ) (answer : ClientAnswer) (next : Log) (what : Said) (old : List ℕ) (kept : next ≡ loggedBy answer (world .log))
     (says : what ≡ saidOf (world .log .count) answer) where
   module _ (id : ReplicaId) (m i : ℕ) (one : Replica) (stepped : ReplicaStepped) (saying : Saying) (at : i ≡ replicaSeat id) (first : one ≡ getD (world .replicas) i noReplica)
-      (given : answer ≡ reply (stepped .answer)) (does : ReplicaLeaves (replicaDoes one (world .log) store m) (sentBefore (world .log) store) stepped old)
+      (given : answer ≡ asClientAnswer (stepped .answer)) (does : ReplicaLeaves (replicaDoes one (world .log) store m) (sentBefore (world .log) store) stepped old)
       (shown : Says what [] saying) where
     pub replica-plays : Plays (replicaTurn world store id m)
         (record { world = record { replicas = set (world .replicas) i (stepped .replica); clients = world .clients; log = next }; saying = saying }) old
@@ -40,7 +41,7 @@ module _ (world : World) (store : List ℕ) (answer : ClientAnswer) (next : Log)
     replica-plays =
         let party : one ≡ getD (world .replicas) (replicaSeat id) noReplica = first ∙ ap (λ (k : ℕ). getD (world .replicas) k noReplica) at in
         let d = subst (λ (r : Replica). ReplicaLeaves (replicaDoes r (world .log) store m) (sentBefore (world .log) store) stepped old) party does in
-        let said = given ∙ ap reply (d .answer) in
+        let said = given ∙ ap asClientAnswer (d .answer) in
         let log = kept ∙ ap (λ (a : ClientAnswer). loggedBy a (world .log)) said in
         let replicas = ap₂ (λ (k : ℕ) (r : Replica). set (world .replicas) k r) at (d .replica) in
         record {

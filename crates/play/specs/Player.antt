@@ -10,8 +10,7 @@ use Rattle.base.specs.declared.party.ReplicaId.{ReplicaId}
 use Rattle.protocol.specs.Parts.{cardKept}
 use Rattle.protocol.specs.Replica.{noReplica, ReplicaCall}
 use Rattle.protocol.specs.Client.{noClient, ClientCall}
-use Rattle.protocol.specs.declared.replica.ReplicaAnswer.{ReplicaAnswer}
-use Rattle.protocol.specs.declared.replica.ReplicaAnswer.the-variants.{Send as Sends, Refused as Refuses}
+use Rattle.protocol.specs.Events.{asClientAnswer}
 use Rattle.protocol.specs.declared.client.ClientAnswer.{ClientAnswer}
 use Rattle.protocol.specs.declared.client.ClientAnswer.the-variants.{Send, Counted, Done, Ended, Refused}
 use Rattle.play.specs.Calls.{sentBefore, clientDoes, replicaDoes}
@@ -47,11 +46,6 @@ loggedBy (Done timestamp signers) log = log
 loggedBy Ended log = log
 loggedBy (Refused number) log = log
 
--- A replica's answer is one of those of a client.
-unfoldable pub reply : ReplicaAnswer → ClientAnswer
-reply (Sends size) = Send size
-reply (Refuses number) = Refused number
-
 -- What a line leaves: the parties, the messages sent and the store that holds them; and what is said of it, with the card that `done` shows.
 pub record Turn : Type 0 where
   pub world : World
@@ -80,10 +74,10 @@ afterReplica world store id call =
           record {
             replicas = set (world .replicas) (replicaSeat id) (call .replica);
             clients = world .clients;
-            log = loggedBy (reply (call .answer)) (world .log);
+            log = loggedBy (asClientAnswer (call .answer)) (world .log);
           };
       store = sentBefore (world .log) store ++ call .output;
-      said = saidOf (world .log .count) (reply (call .answer));
+      said = saidOf (world .log .count) (asClientAnswer (call .answer));
       card = [];
     }
 

@@ -14,7 +14,8 @@ use protocol::client::ClientAnswer;
 use protocol::replica::ReplicaAnswer;
 ghost use mathlib.Core.Path.{_≡_};
 ghost use Rattle.base.specs.Range.{within};
-ghost use Rattle.play.specs.Player.{saidOf, loggedBy, reply, addressee, clientTurn, replicaTurn, turn, Plays};
+ghost use Rattle.protocol.specs.Events.{asClientAnswer};
+ghost use Rattle.play.specs.Player.{saidOf, loggedBy, addressee, clientTurn, replicaTurn, turn, Plays};
 
 // Whom a command is addressed to, and for what.
 pub enum Addressee {
@@ -53,7 +54,7 @@ fn said(count: u8, answer: ClientAnswer) -> Said
 }
 
 fn reply(answer: ReplicaAnswer) -> ClientAnswer
-    ensures { λ r. ⌜ r ≡ reply answer ⌝ }
+    ensures { λ r. ⌜ r ≡ asClientAnswer answer ⌝ }
 {
     match answer {
         ReplicaAnswer::Send(length) => ClientAnswer::Send(length),

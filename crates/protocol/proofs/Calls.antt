@@ -1,25 +1,28 @@
--- Calls and steps: an output long enough leaves answer and record to the step, a shorter one refuses with 1. Assumes nothing.
-use mathlib.Core.Path.{_≡_, ap}
+-- Calls and steps: an output long enough leaves answer and record to the step, a shorter one refuses with 1; the call of an event. Assumes nothing.
+use mathlib.Core.Path.{_≡_, refl, sym, ap, subst}
 use mathlib.Core.Bool.{Bool, true, false, cond}
 use mathlib.Core.List.{List}
 use Prim.Native.Nat.{ℕ, _≤_, _<_}
 use borrow.Author.Tests.{le-leb, lt-leb}
 use lib.Dec.{leb}
 use lib.ListN.{length}
-use Rattle.base.specs.Outcome.{Outcome, refused}
+use Rattle.base.specs.Outcome.{Outcome, accepted, refused}
 use Rattle.base.proofs.Outcome.{guard-passes, guard-refuses}
 use Rattle.base.specs.Party.{isWriter}
 use Rattle.base.specs.declared.party.ClientId.{ClientId}
 use Rattle.base.specs.declared.party.RegisterId.{RegisterId}
 use Rattle.wire.specs.Decode.{registerIn}
 use Rattle.wire.specs.Message.{longest}
-use Rattle.protocol.specs.Client.{clientAnswers, beginWrite, beginRead, clientStep, beginWriteCall, beginReadCall, clientCall}
-use Rattle.protocol.specs.Events.{ClientEvent, write-begun, read-begun, reply-handed, onClientEvent, clientEventCall}
-use Rattle.protocol.specs.Replica.{replicaAnswers, withOutput, replicaStep, replicaCall}
+use Rattle.protocol.specs.Bank.{partAt, placeIn, bankStep, BankCall, putBack, bankCall}
+use Rattle.protocol.specs.Client.{Turn, given, ClientCall, clientAnswers, beginWrite, beginRead, clientStep, beginWriteCall, beginReadCall, clientCall}
+use Rattle.protocol.specs.Events.{ReplicaEvent, ClientEvent, request-handed, write-begun, read-begun, reply-handed, replicaEventRegister, BankTurn, bankTurn, onReplicaEvent, replicaEventCall, nextBank, bankAnswer, givenByReplica, onClientEvent, clientEventCall, nextClient, clientAnswer, givenByClient}
+use Rattle.protocol.specs.Replica.{Reply, replicaAnswers, withOutput, replicaStep, ReplicaCall, replicaCall}
 use Rattle.protocol.specs.Viewer.{viewerStep, viewerCall}
 use Rattle.protocol.specs.declared.client.Client.{Client}
+use Rattle.protocol.specs.declared.replica.Bank.{Bank}
 use Rattle.protocol.specs.declared.replica.Replica.{Replica}
 use Rattle.protocol.specs.declared.replica.ReplicaAnswer.the-variants.{Refused}
+use Rattle.protocol.proofs.BankFacts.{part-itself}
 
 module _ {A : Type 0} (old : List ℕ) (next : Outcome A) where
   pub long-output : longest ≤ length old → withOutput old next ≡ next
@@ -60,7 +63,7 @@ module _ (client : Client) (old : List ℕ) (long : longest ≤ length old) wher
   viewer-step-takes bytes verdicts = ap (clientAnswers client old) (long-output old (viewerStep client bytes verdicts) long)
 
   -- The call of any event does what its step says.
-  pub client-event-takes : (id : ClientId) (e : ClientEvent) → clientEventCall id e old client ≡ clientAnswers client old (onClientEvent id e client)
+  client-event-takes : (id : ClientId) (e : ClientEvent) → clientEventCall id e old client ≡ clientAnswers client old (onClientEvent id e client)
   client-event-takes id (write-begun x card) = begin-write-takes x card
   client-event-takes id (read-begun x) = begin-read-takes x
   client-event-takes id (reply-handed bytes verdicts) = go (isWriter id)
@@ -68,3 +71,34 @@ module _ (client : Client) (old : List ℕ) (long : longest ≤ length old) wher
       go : (w : Bool) → cond w (clientCall client bytes verdicts old) (viewerCall client bytes verdicts old) ≡ clientAnswers client old (cond w (clientStep client bytes verdicts) (viewerStep client bytes verdicts))
       go true = client-step-takes bytes verdicts
       go false = viewer-step-takes bytes verdicts
+
+-- ---- An event's call leaves the record that the event leaves, and gives its answer
+
+pub record ReplicaSays (register : RegisterId) (before : Bank) (old : List ℕ) (step : Outcome BankTurn) (made : BankCall) : Type 0 where
+  pub leaves : made .bank ≡ nextBank before step
+  pub gives : givenByReplica made ≡ given register old (bankAnswer step)
+
+pub record ClientSays (before : Client) (old : List ℕ) (step : Outcome Turn) (made : ClientCall) : Type 0 where
+  pub leaves : made .client ≡ nextClient before step
+  -- What is sent is for the register of the record afterwards.
+  pub gives : (register : RegisterId) → ((turn : Turn) → step ≡ accepted turn → turn .next .register ≡ register) → givenByClient made ≡ given register old (clientAnswer step)
+
+replica-says : (at : ℕ) (register : RegisterId) (before : Bank) (old : List ℕ) (step : Outcome Reply)
+    → ReplicaSays register before old (bankTurn at before step) (putBack at before (replicaAnswers register (partAt at before) old step))
+replica-says at register before old (accepted reply) = record { leaves = refl; gives = refl }
+replica-says at register before old (refused number) = record { leaves = part-itself before at; gives = refl }
+
+client-says : (before : Client) (old : List ℕ) (step : Outcome Turn) → ClientSays before old step (clientAnswers before old step)
+client-says before old (accepted turn) = record { leaves = refl; gives = λ register is. ap (λ (r : RegisterId). given r old (accepted (turn .answer))) (is turn refl) }
+client-says before old (refused number) = record { leaves = refl; gives = λ register is. refl }
+
+module _ (old : List ℕ) (long : longest ≤ length old) where
+  pub replica-called : (e : ReplicaEvent) (before : Bank) → ReplicaSays (replicaEventRegister e) before old (onReplicaEvent e before) (replicaEventCall e old before)
+  unfolding bankCall bankStep
+  replica-called (request-handed bytes verdicts) before =
+      let part = partAt (placeIn bytes) before in
+      subst (λ (made : ReplicaCall). ReplicaSays (registerIn bytes) before old (bankTurn (placeIn bytes) before (replicaStep part bytes verdicts)) (putBack (placeIn bytes) before made))
+      (sym (replica-takes part bytes verdicts old long)) (replica-says (placeIn bytes) (registerIn bytes) before old (replicaStep part bytes verdicts))
+
+  pub client-called : (id : ClientId) (e : ClientEvent) (before : Client) → ClientSays before old (onClientEvent id e before) (clientEventCall id e old before)
+  client-called id e before = rw (client-event-takes before old long id e) (client-says before old (onClientEvent id e before))

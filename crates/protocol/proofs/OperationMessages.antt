@@ -20,7 +20,7 @@ use Rattle.wire.specs.Layout.{signature}
 use Rattle.wire.specs.Message.{Message, READ-STAMP, PREPARE, WRITE, READ, STAMP, PREPARED, WRITTEN, CARD}
 use Rattle.wire.specs.Proof.{PreparedProof}
 use Rattle.wire.specs.Writing.{roomy}
-use Rattle.protocol.specs.Client.{Answer, send, waits, done, ended, Turn, answered, clientAnswers, enough, keepBetterCard, beginWrite, beginRead, toPrepare, afterStamp, onStamp, afterPrepared, onPrepared, afterWritten, afterWriteBack, onWritten, afterCard, countCard, onCard, onReply, clientStep, beginWriteCall, beginReadCall, clientCall}
+use Rattle.protocol.specs.Client.{Answer, send, waits, done, ended, Turn, given, clientAnswers, enough, keepBetterCard, beginWrite, beginRead, toPrepare, afterStamp, onStamp, afterPrepared, onPrepared, afterWritten, afterWriteBack, onWritten, afterCard, countCard, onCard, onReply, clientStep, beginWriteCall, beginReadCall, clientCall}
 use Rattle.protocol.specs.Events.{write-begun, read-begun, reply-handed}
 use Rattle.protocol.specs.Viewer.{afterView, onViewerReply, viewerStep, viewerCall}
 use Rattle.protocol.specs.OperationMessages.{Call, sentBy, unlessBegun, sentAfter, sentIn, OperationMessages}
@@ -175,7 +175,7 @@ module _ (client : Client) (old : List ℕ) (most : ℕ) where
   call-sends step low turns = go (withOutput old step) (λ turn e. turns .holds turn (guard-accepted 1 (roomy old) step turn e .1))
     where
       answers : (answer : Answer) (next : Client) → sends answer + remaining (next .phase) ≤ most
-          → sentBy (answered old answer next .answer) + remaining (answered old answer next .client .phase) ≤ most
+          → sentBy (given (next .register) old (accepted answer) .answer) + remaining (next .phase) ≤ most
       answers (send message) next h = h
       answers waits next h = h
       answers (done timestamp card signers) next h = h
@@ -191,7 +191,7 @@ module _ (client : Client) (old : List ℕ) (most : ℕ) where
       → unlessBegun (clientAnswers client old out .answer) (sentAfter id (clientAnswers client old out .client) calls) ≤ most
   begins-again id (accepted turn) calls h = go (turn .answer) (turn .next)
     where
-      go : (answer : Answer) (next : Client) → unlessBegun (answered old answer next .answer) (sentAfter id (answered old answer next .client) calls) ≤ most
+      go : (answer : Answer) (next : Client) → unlessBegun (given (next .register) old (accepted answer) .answer) (sentAfter id next calls) ≤ most
       go (send message) next = omega arith
       go waits next = omega arith
       go (done timestamp card signers) next = omega arith
@@ -267,7 +267,7 @@ handed-quiet : (client : Client) (bytes verdicts old : List ℕ) → sentBy (vie
 unfolding viewerCall
 handed-quiet client bytes verdicts old = go (withOutput old (viewerStep client bytes verdicts)) refl
   where
-    answers : (answer : Answer) (next : Client) → sends answer ≡ 0 → sentBy (answered old answer next .answer) ≡ 0
+    answers : (answer : Answer) (next : Client) → sends answer ≡ 0 → sentBy (given (next .register) old (accepted answer) .answer) ≡ 0
     answers (send message) next h = h
     answers waits next h = h
     answers (done timestamp card signers) next h = h

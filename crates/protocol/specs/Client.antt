@@ -385,7 +385,28 @@ clientStep client bytes verdicts = admitted AtClient (client .f) bytes verdicts 
 
 -- ---- The calls
 
--- What a call of a client leaves: answer, card, record, and the output buffer.
+-- What a call gives back beside the record: answer, card, and the output buffer.
+pub record Given : Type 0 where
+  pub answer : ClientAnswer
+  pub «card_length» : ℕ
+  pub card : List ℕ
+  pub output : List ℕ
+
+-- The card stands beside Done, zeros behind it; zeros beside the other answers.
+abbrev pub giving : ClientAnswer → List ℕ → List ℕ → Given
+giving answer card output = record { answer = answer; «card_length» = length card; card = filled 17 card; output = output }
+
+-- What an answer is in a call whose output held `old`: "In every answer the lent output holds the message in front and its old bytes behind
+-- (only old bytes where nothing is sent)"; "A refusal is its number alone; record and lent bytes keep their old contents." A message is for
+-- this register.
+abbrev pub given : RegisterId → List ℕ → Outcome Answer → Given
+given register old (accepted (send message)) = giving (Send (length (unsigned register message))) [] (inFront (unsigned register message) old)
+given register old (accepted waits) = giving Counted [] old
+given register old (accepted (done timestamp card signers)) = giving (Done timestamp signers) card old
+given register old (accepted ended) = giving Ended [] old
+given register old (refused number) = giving (Refused number) [] old
+
+-- What a call of a client leaves: that, and the record.
 pub record ClientCall : Type 0 where
   pub answer : ClientAnswer
   pub «card_length» : ℕ
@@ -393,20 +414,13 @@ pub record ClientCall : Type 0 where
   pub client : Client
   pub output : List ℕ
 
--- The card stands beside Done, zeros behind it; zeros beside the other answers.
-abbrev pub call : ClientAnswer → List ℕ → Client → List ℕ → ClientCall
-call answer card client output = record { answer = answer; «card_length» = length card; card = filled 17 card; client = client; output = output }
+abbrev pub leaving : Client → Given → ClientCall
+leaving client gives = record { answer = gives .answer; «card_length» = gives .«card_length»; card = gives .card; client = client; output = gives .output }
 
 -- What it sends is for the register of its operation.
-abbrev pub answered : List ℕ → Answer → Client → ClientCall
-answered old (send message) next = call (Send (length (unsigned (next .register) message))) [] next (inFront (unsigned (next .register) message) old)
-answered old waits next = call Counted [] next old
-answered old (done timestamp card signers) next = call (Done timestamp signers) card next old
-answered old ended next = call Ended [] next old
-
 abbrev pub clientAnswers : Client → List ℕ → Outcome Turn → ClientCall
-clientAnswers client old (accepted turn) = answered old (turn .answer) (turn .next)
-clientAnswers client old (refused number) = call (Refused number) [] client old
+clientAnswers client old (accepted turn) = leaving (turn .next) (given (turn .next .register) old (accepted (turn .answer)))
+clientAnswers client old (refused number) = leaving client (given (client .register) old (refused number))
 
 unfoldable pub beginWriteCall : Client → RegisterId → List ℕ → List ℕ → ClientCall
 beginWriteCall client register card old = clientAnswers client old (withOutput old (beginWrite client register card))

@@ -1,18 +1,23 @@
 -- Document 01, "Runs": a party's events, and what it makes of each: the step, and the call with its lent output. Viewing clients (document
 -- 02, #101) are clients here: a client's number decides which engine its events are at.
 use mathlib.Core.Bool.{cond}
-use mathlib.Core.List.{List}
+use mathlib.Core.List.{List, []}
 use Prim.Native.Nat.{ℕ}
 use Rattle.base.specs.Outcome.{Outcome, accepted, refused}
 use Rattle.base.specs.Party.{isWriter}
 use Rattle.base.specs.declared.party.ClientId.{ClientId}
 use Rattle.base.specs.declared.party.RegisterId.{RegisterId}
+use Rattle.wire.specs.Decode.{registerIn}
 use Rattle.protocol.specs.Bank.{withPartAt, placeIn, bankStep, BankCall, bankCall}
-use Rattle.protocol.specs.Client.{Answer, send, Turn, madeClient, beginWrite, beginRead, clientStep, ClientCall, beginWriteCall, beginReadCall, clientCall}
+use Rattle.protocol.specs.Client.{Answer, send, Turn, madeClient, beginWrite, beginRead, clientStep, Given, giving, ClientCall, beginWriteCall, beginReadCall, clientCall}
 use Rattle.protocol.specs.Replica.{Reply}
 use Rattle.protocol.specs.Viewer.{madeViewer, viewerStep, viewerCall}
 use Rattle.protocol.specs.declared.client.Client.{Client}
+use Rattle.protocol.specs.declared.client.ClientAnswer.{ClientAnswer}
+use Rattle.protocol.specs.declared.client.ClientAnswer.the-variants.{Send, Refused}
 use Rattle.protocol.specs.declared.replica.Bank.{Bank}
+use Rattle.protocol.specs.declared.replica.ReplicaAnswer.{ReplicaAnswer}
+use Rattle.protocol.specs.declared.replica.ReplicaAnswer.the-variants.{Send as ReplicaSend, Refused as ReplicaRefused}
 
 -- "a holder or a desk is handed a message, of any bytes and length, with marks of any number and value": the bytes, and the verdicts. At a
 -- replica it is a request,
@@ -24,6 +29,15 @@ pub data ClientEvent : Type 0 where
   write-begun : RegisterId → List ℕ → ClientEvent
   read-begun : RegisterId → ClientEvent
   reply-handed : List ℕ → List ℕ → ClientEvent
+
+-- The register of an event, and of what is answered to it: the one that is named, or that the message is for.
+abbrev pub replicaEventRegister : ReplicaEvent → RegisterId
+replicaEventRegister (request-handed bytes verdicts) = registerIn bytes
+
+abbrev pub clientEventRegister : ClientEvent → RegisterId
+clientEventRegister (write-begun x card) = x
+clientEventRegister (read-begun x) = x
+clientEventRegister (reply-handed bytes verdicts) = registerIn bytes
 
 -- ---- A replica
 
@@ -52,6 +66,14 @@ nextBank before (refused number) = before
 abbrev pub bankAnswer : Outcome BankTurn → Outcome Answer
 bankAnswer (accepted turn) = accepted (turn .answer)
 bankAnswer (refused number) = refused number
+
+-- A replica's answer is one of those of a client, and no card stands beside it.
+abbrev pub asClientAnswer : ReplicaAnswer → ClientAnswer
+asClientAnswer (ReplicaSend size) = Send size
+asClientAnswer (ReplicaRefused number) = Refused number
+
+abbrev pub givenByReplica : BankCall → Given
+givenByReplica call = giving (asClientAnswer (call .answer)) [] (call .output)
 
 -- ---- A client
 
@@ -84,3 +106,6 @@ nextClient before (refused number) = before
 abbrev pub clientAnswer : Outcome Turn → Outcome Answer
 clientAnswer (accepted turn) = accepted (turn .answer)
 clientAnswer (refused number) = refused number
+
+abbrev pub givenByClient : ClientCall → Given
+givenByClient call = record { answer = call .answer; «card_length» = call .«card_length»; card = call .card; output = call .output }

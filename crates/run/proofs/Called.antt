@@ -1,5 +1,5 @@
 -- The engines' calls, one for each event, leave the run's records and give its answers. Assumes nothing.
-use mathlib.Core.Path.{_≡_, refl, sym, ap, subst, _∙_}
+use mathlib.Core.Path.{_≡_, refl, sym, ap, _∙_}
 use mathlib.Core.Bool.{Bool, true, false, cond}
 use mathlib.Core.List.{List}
 use mathlib.Core.Option.{Option, none, some}
@@ -7,82 +7,35 @@ use Prim.Native.Nat.{ℕ, zero, suc, _≤_}
 use borrow.Author.Tests.{le-leb}
 use lib.Dec.{eqb}
 use lib.ListN.{length}
-use Rattle.base.specs.Outcome.{Outcome, accepted, refused, guard}
+use Rattle.base.specs.Outcome.{accepted, guard}
 use Rattle.base.specs.Party.{isWriter}
 use Rattle.base.specs.declared.party.ClientId.{ClientId}
-use Rattle.base.specs.declared.party.RegisterId.{RegisterId}
 use Rattle.base.specs.declared.party.ReplicaId.{ReplicaId}
-use Rattle.wire.specs.Decode.{registerIn}
 use Rattle.wire.specs.Message.{longest}
-use Rattle.wire.specs.Writing.{unsigned, inFront}
 use Rattle.wire.specs.declared.message.Party.the-variants.{Client as AtClient}
 use Rattle.wire.proofs.OneForm.{found-register}
-use Rattle.protocol.specs.Client.{Answer, send, waits, done, ended, Turn, answered, clientAnswers, freshClient, ClientCall}
-use Rattle.protocol.specs.Bank.{partAt, freshBank, madeBank, placeIn, bankStep, BankCall, putBack, bankCall}
-use Rattle.protocol.specs.Replica.{Reply, replicaAnswers, replicaStep, ReplicaCall}
+use Rattle.protocol.specs.Client.{Turn, freshClient, given}
+use Rattle.protocol.specs.Bank.{freshBank, madeBank}
 use Rattle.protocol.specs.declared.client.Client.{Client}
-use Rattle.protocol.specs.declared.client.ClientAnswer.the-variants.{Send}
 use Rattle.protocol.specs.declared.replica.Bank.{Bank}
-use Rattle.protocol.proofs.BankFacts.{part-itself}
 use Rattle.protocol.proofs.ClientFacts.{begins-write as begins-write-facts, begins-read as begins-read-facts}
-use Rattle.protocol.proofs.Calls.{replica-takes, client-event-takes}
-use Rattle.protocol.specs.Events.{ClientEvent, request-handed, write-begun, read-begun, reply-handed, bankTurn, nextBank, bankAnswer, madeWith, onClientEvent, clientEventCall, nextClient, clientAnswer}
-use Rattle.run.specs.Calls.{withoutCard, givenByReplica, givenByClient, givenFor, calledAtReplica, calledAtClient, calledReplica, calledClient, givenAt, CallsAreRun}
-use Rattle.run.specs.Run.{Event, at-replica, at-client, begins-write, begins-read, to-replica, to-client, registerOf, Run, afterAtReplica, afterAtClient, event, bankAt, clientAt, answerTo}
+use Rattle.protocol.proofs.Calls.{replica-called, client-called}
+use Rattle.protocol.specs.Events.{ClientEvent, write-begun, read-begun, reply-handed, madeWith, onClientEvent}
+use Rattle.run.specs.Calls.{calledAtReplica, calledAtClient, calledReplica, calledClient, givenAt, CallsAreRun}
+use Rattle.run.specs.Run.{Event, at-replica, at-client, begins-write, begins-read, to-client, registerOf, Run, afterAtReplica, afterAtClient, event, bankAt, clientAt, answerTo}
 use Rattle.run.proofs.Turns.{good-client, handed-takes}
 
--- ---- One call: the step's record, and the step's answer
-
--- at is the place of the message's register, x the register of the event.
-record ReplicaSays (at : ℕ) (x : RegisterId) (before : Bank) (old : List ℕ) (step : Outcome Reply) (made : BankCall) : Type 0 where
-  leaves : made .bank ≡ nextBank before (bankTurn at before step)
-  gives : givenByReplica made ≡ givenFor x old (bankAnswer (bankTurn at before step))
-
-record ClientSays (before : Client) (old : List ℕ) (step : Outcome Turn) (made : ClientCall) : Type 0 where
-  leaves : made .client ≡ nextClient before step
-  -- What is sent is for the register of the record afterwards.
-  gives : (x : RegisterId) → ((turn : Turn) → step ≡ accepted turn → turn .next .register ≡ x) → givenByClient made ≡ givenFor x old (clientAnswer step)
-
-replica-says : (at : ℕ) (x : RegisterId) (before : Bank) (old : List ℕ) (step : Outcome Reply)
-    → ReplicaSays at x before old step (putBack at before (replicaAnswers x (partAt at before) old step))
-replica-says at x before old (accepted reply) = record { leaves = refl; gives = refl }
-replica-says at x before old (refused number) = record { leaves = part-itself before at; gives = refl }
-
-turn-says : (before : Client) (old : List ℕ) (answer : Answer) (next : Client) → ClientSays before old (accepted (record { answer = answer; next = next })) (answered old answer next)
-turn-says before old (send message) next =
-    record {
-      leaves = refl;
-      gives = λ x is. ap (λ (y : RegisterId). withoutCard (Send (length (unsigned y message))) (inFront (unsigned y message) old)) (is (record { answer = send message; next = next }) refl);
-    }
-turn-says before old waits next = record { leaves = refl; gives = λ x is. refl }
-turn-says before old (done timestamp card signers) next = record { leaves = refl; gives = λ x is. refl }
-turn-says before old ended next = record { leaves = refl; gives = λ x is. refl }
-
-client-says : (before : Client) (old : List ℕ) (step : Outcome Turn) → ClientSays before old step (clientAnswers before old step)
-client-says before old (accepted turn) = turn-says before old (turn .answer) (turn .next)
-client-says before old (refused number) = record { leaves = refl; gives = λ x is. refl }
-
 module _ (old : List ℕ) (long : longest ≤ length old) where
-  replica-called : (before : Bank) (bytes verdicts : List ℕ) → ReplicaSays (placeIn bytes) (registerIn bytes) before old (bankStep before bytes verdicts) (bankCall before bytes verdicts old)
-  unfolding bankCall bankStep
-  replica-called before bytes verdicts =
-      let part = partAt (placeIn bytes) before in
-      subst (λ (made : ReplicaCall). ReplicaSays (placeIn bytes) (registerIn bytes) before old (replicaStep part bytes verdicts) (putBack (placeIn bytes) before made))
-      (sym (replica-takes part bytes verdicts old long)) (replica-says (placeIn bytes) (registerIn bytes) before old (replicaStep part bytes verdicts))
-
-  client-called : (id : ClientId) (e : ClientEvent) (before : Client) → ClientSays before old (onClientEvent id e before) (clientEventCall id e old before)
-  client-called id e before = rw (client-event-takes before old long id e) (client-says before old (onClientEvent id e before))
-
   -- An event's call leaves the record that the event leaves.
   replica-left : (id : ReplicaId) (e : Option Event) (before : Bank) → calledAtReplica id e old before ≡ afterAtReplica id e before
   replica-left id none before = refl
-  replica-left id (some (at-replica at (request-handed bytes verdicts))) before = ap (λ (r : Bank). cond (eqb (at .0) (id .0)) r before) (replica-called before bytes verdicts .leaves)
+  replica-left id (some (at-replica at e)) before = ap (λ (r : Bank). cond (eqb (at .0) (id .0)) r before) (replica-called old long e before .leaves)
   replica-left id (some (at-client at e)) before = refl
 
   client-left : (id : ClientId) (e : Option Event) (before : Client) → calledAtClient id e old before ≡ afterAtClient id e before
   client-left id none before = refl
   client-left id (some (at-replica at e)) before = refl
-  client-left id (some (at-client at e)) before = ap (λ (c : Client). cond (eqb (at .0) (id .0)) c before) (client-called at e before .leaves)
+  client-left id (some (at-client at e)) before = ap (λ (c : Client). cond (eqb (at .0) (id .0)) c before) (client-called old long at e before .leaves)
 
 -- ---- All calls of a run
 
@@ -120,10 +73,9 @@ module _ (R : Run) (output : ℕ → List ℕ) (long : (t : ℕ) → longest ≤
       let (message, admitted, stepped, facts) = handed-takes R id (clientAt R id t) bytes verdicts turn (good-client R id (R .at-correct t here q) t) (R .have-bytes t here q) e in
       facts .same-register ∙ sym (found-register AtClient bytes (clientAt R id t .register) message (admitted .decodes))
 
-  answers-to : (t : ℕ) (e : Event) → event R t ≡ some e → givenAt R output t e ≡ givenFor (registerOf e) (output t) (answerTo R t (some e))
+  answers-to : (t : ℕ) (e : Event) → event R t ≡ some e → givenAt R output t e ≡ given (registerOf e) (output t) (answerTo R t (some e))
   unfolding givenAt answerTo
-  answers-to t (at-replica id (request-handed bytes verdicts)) q =
-      rw (replicas id (R .at-correct t (to-replica id bytes verdicts) q) t) (replica-called (output t) (long t) (bankAt R id t) bytes verdicts .gives)
+  answers-to t (at-replica id e) q = rw (replicas id (R .at-correct t (at-replica id e) q) t) (replica-called (output t) (long t) e (bankAt R id t) .gives)
   answers-to t (at-client id e) q =
       rw (clients id (R .at-correct t (at-client id e) q) t) (client-called (output t) (long t) id e (clientAt R id t) .gives (registerOf (at-client id e)) (event-for id t e q))
 

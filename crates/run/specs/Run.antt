@@ -14,13 +14,12 @@ use Rattle.base.specs.declared.party.RegisterId.{RegisterId}
 use Rattle.base.specs.declared.party.ReplicaId.{ReplicaId}
 use Rattle.protocol.specs.Bank.{partAt, freshBank}
 use Rattle.protocol.specs.Client.{Answer, send, freshClient}
-use Rattle.protocol.specs.Events.{ReplicaEvent, ClientEvent, request-handed, write-begun, read-begun, reply-handed, onReplicaEvent, nextBank, bankAnswer, onClientEvent, nextClient, clientAnswer}
+use Rattle.protocol.specs.Events.{ReplicaEvent, ClientEvent, request-handed, write-begun, read-begun, reply-handed, replicaEventRegister, clientEventRegister, onReplicaEvent, nextBank, bankAnswer, onClientEvent, nextClient, clientAnswer}
 use Rattle.protocol.specs.declared.client.Client.{Client}
 use Rattle.protocol.specs.declared.replica.Bank.{Bank}
 use Rattle.protocol.specs.declared.replica.Register.{Register}
 use Rattle.protocol.specs.declared.replica.Replica.{Replica}
 use Rattle.wire.specs.Acceptance.{Sender, replica, client}
-use Rattle.wire.specs.Decode.{registerIn}
 use Rattle.wire.specs.Message.{Message, body}
 
 -- An event is at a replica or at a client.
@@ -40,17 +39,14 @@ to-replica id bytes verdicts = at-replica id (request-handed bytes verdicts)
 abbrev pub to-client : ClientId → List ℕ → List ℕ → Event
 to-client id bytes verdicts = at-client id (reply-handed bytes verdicts)
 
--- The party of an event, as a sender of messages.
+-- The party of an event, as a sender of messages, and its register.
 abbrev pub partyOf : Event → Sender
 partyOf (at-replica id e) = replica id
 partyOf (at-client id e) = client id
 
--- The register of an event, and of what is answered to it: the one that is named, or that the message is for.
 abbrev pub registerOf : Event → RegisterId
-registerOf (at-replica id (request-handed bytes verdicts)) = registerIn bytes
-registerOf (at-client id (write-begun x card)) = x
-registerOf (at-client id (read-begun x)) = x
-registerOf (at-client id (reply-handed bytes verdicts)) = registerIn bytes
+registerOf (at-replica id e) = replicaEventRegister e
+registerOf (at-client id e) = clientEventRegister e
 
 -- Bytes are below 256.
 abbrev pub HasBytes : Event → Type 0

@@ -1,15 +1,12 @@
 -- `play::turn::reply` meets its contract. Assumes nothing.
 use borrow.Author.Needs.{needs}
-use Rattle.play.specs.Player.{reply}
 use Rattle.play.proofs.turn.reply.Statement.{statement}
 use Rattle.play.proofs.turn.reply.Tie as tie
 
 returns : tie.Need-returns
-unfolding reply
 returns c = rw (c .before .answer .given .1)
 
 returns-2 : tie.Need-returns-2
-unfolding reply
 returns-2 c = rw (c .before .answer2 .given .1)
 
 pub reply-spec : {M : Type 1} → statement M
