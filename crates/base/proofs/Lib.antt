@@ -1,3 +1,4 @@
+pub mod Apart
 pub mod BigEndian
 pub mod Booleans
 pub mod Counting

@@ -14,6 +14,7 @@ use Rattle.base.specs.Counting.{replica, count}
 use Rattle.base.specs.Range.{within}
 use Rattle.base.specs.ReplicaSet.{empty, has, with, withAll, setOf, size}
 use Rattle.base.specs.Rising.{listed, rising}
+use Rattle.base.proofs.Apart.{apart}
 use Rattle.base.proofs.Booleans.{and-true-both, or-true}
 use Rattle.base.proofs.Counting.{count-agree}
 use Rattle.base.proofs.Quorum.{rising-first, rising-count}
@@ -63,7 +64,7 @@ rising-size n ids small up = count-members 16 ids (omega arith) ∙ rising-count
 -- All of them are within 1 to n.
 pub rising-within : (last n : ℕ) (ids : List ReplicaId) (id : ReplicaId) → rising last n ids ≡ true → listed ids id ≡ true → (last < id .0) × (id .0 ≤ n)
 unfolding listed
-rising-within last n [] id up there = let z : _≡_ {A = ℕ} 0 1 = cc in absurd (omega arith)
+rising-within last n [] id up there = apart (cc)
 rising-within last n (x ∷ ids) id up there = go (λ e. rising-within (x .0) n ids id (rising-first last n x ids up .2) e) (or-true (eqb (id .0) (x .0)) (listed ids id) there)
   where
     go : (listed ids id ≡ true → (x .0 < id .0) × (id .0 ≤ n)) → (eqb (id .0) (x .0) ≡ true) ⊎ (listed ids id ≡ true) → (last < id .0) × (id .0 ≤ n)

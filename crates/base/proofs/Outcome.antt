@@ -2,8 +2,8 @@
 use mathlib.Core.Path.{_≡_, refl}
 use mathlib.Core.Bool.{Bool, true, false}
 use Prim.Native.Nat.{ℕ}
-use native.Mathlib.Omega.{arith}
 use Rattle.base.specs.Outcome.{Outcome, accepted, refused, guard, _>>=_}
+use Rattle.base.proofs.Apart.{apart}
 
 module _ {A : Type 0} (number : ℕ) (test : Bool) (next : Outcome A) where
   pub guard-passes : test ≡ true → guard number test next ≡ next
@@ -20,7 +20,7 @@ module _ {A : Type 0} (number : ℕ) (test : Bool) (next : Outcome A) where
     where
       go : (b : Bool) → test ≡ b → (test ≡ true) × (next ≡ accepted a)
       go true h = (h, let p = guard-passes h in cc)
-      go false h = let p = guard-refuses h in let z : _≡_ {A = ℕ} 0 1 = cc in absurd (omega arith)
+      go false h = let p = guard-refuses h in apart (cc)
 
 -- What follows a guard stands behind its test.
 pub guard-then : {A B : Type 0} (number : ℕ) (test : Bool) (first : Outcome A) (next : A → Outcome B) → (guard number test first >>= next) ≡ guard number test (first >>= next)

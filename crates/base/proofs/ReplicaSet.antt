@@ -13,6 +13,7 @@ use Rattle.base.specs.declared.replica_set.ReplicaSet.{ReplicaSet}
 use Rattle.base.specs.Counting.{replica, one, count}
 use Rattle.base.specs.Range.{within}
 use Rattle.base.specs.ReplicaSet.{empty, has, with}
+use Rattle.base.proofs.Apart.{apart}
 use Rattle.base.proofs.Counting.{or-is, or-is-other, count-agree, count-one-more}
 use Rattle.base.proofs.Digits.{digit, digit-or, digit-power}
 use Rattle.base.proofs.Range.{inside, bounds}
@@ -40,7 +41,7 @@ has-with set x i low high = go (within 1 16 (x .0)) refl
         has-digit (record { 0 = bitOr (set .0) (2 ^ (x .0 - 1)) }) i low high
         ∙ digit-or (i - 1) (set .0) (2 ^ (x .0 - 1))
         ∙ rw (digit-power (i - 1) (x .0 - 1), eqb-pred i (x .0) low (bounds 1 16 (x .0) e .0), ← has-digit set i low high) (or-comm (has set (replica i)) (eqb i (x .0)))
-    go false e = sym (or-is-other x (replica i) (has set) (λ same. let within-too = inside 1 16 (x .0) (omega arith) (omega arith) in let z : _≡_ {A = ℕ} 0 1 = cc in omega arith))
+    go false e = sym (or-is-other x (replica i) (has set) (λ same. let within-too = inside 1 16 (x .0) (omega arith) (omega arith) in apart (cc)))
 
 -- A set with one new member has one more.
 pub with-new : (n : ℕ) (set : ReplicaSet) (x : ReplicaId) → n ≤ 16 → 1 ≤ x .0 → x .0 ≤ n → has set x ≡ false → count n (has (with set x)) ≡ suc (count n (has set))

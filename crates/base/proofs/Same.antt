@@ -3,17 +3,17 @@ use mathlib.Core.Path.{_≡_, refl, ap₂}
 use mathlib.Core.Bool.{Bool, true, false}
 use mathlib.Core.List.{List, [], _∷_}
 use Prim.Native.Nat.{ℕ}
-use native.Mathlib.Omega.{arith}
 use borrow.Author.Tests.{eqb-true, eq-eqb}
 use lib.Dec.{eqb}
 use Rattle.base.specs.Same.{same}
+use Rattle.base.proofs.Apart.{apart}
 use Rattle.base.proofs.Booleans.{and-true-both}
 
 pub same-equal : (xs ys : List ℕ) → same xs ys ≡ true → xs ≡ ys
 unfolding same
 same-equal [] [] h = refl
-same-equal [] (y ∷ ys) h = let z : _≡_ {A = ℕ} 0 1 = cc in absurd (omega arith)
-same-equal (x ∷ xs) [] h = let z : _≡_ {A = ℕ} 0 1 = cc in absurd (omega arith)
+same-equal [] (y ∷ ys) h = apart (cc)
+same-equal (x ∷ xs) [] h = apart (cc)
 same-equal (x ∷ xs) (y ∷ ys) h =
     let both = and-true-both (eqb x y) (same xs ys) h in
     ap₂ (λ (a : ℕ) (as′ : List ℕ). a ∷ as′) (eqb-true x y (both .0)) (same-equal xs ys (both .1))

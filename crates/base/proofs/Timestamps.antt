@@ -9,6 +9,7 @@ use lib.Dec.{eqb, ltb}
 use Rattle.base.specs.Timestamp.{number, ofNumber, isBefore, successor}
 use Rattle.base.specs.declared.party.ClientId.{ClientId}
 use Rattle.base.specs.declared.timestamp.Timestamp.{Timestamp}
+use Rattle.base.proofs.Apart.{apart}
 
 -- A timestamp is told by its number.
 pub ofNumber-number : (t : Timestamp) → t .client .0 < 256 → ofNumber (number t) ≡ t
@@ -44,7 +45,7 @@ pub successor-number : (t s : Timestamp) (client : ClientId) → t .client .0 < 
 successor-number t s client h e = go (eqb (t .count) 4_294_967_295) e
   where
     go : (last : Bool) → cond last none (some (record { count = t .count + 1; client = client })) ≡ some s → number s ≡ (number t / 256 + 1) * 256 + client .0
-    go true k = let z : _≡_ {A = ℕ} 0 1 = cc in absurd (omega arith)
+    go true k = apart (cc)
     go false k =
         let made : _≡_ {A = Timestamp} (record { count = t .count + 1; client = client }) s = cc in
         rw (← made) (omega arith)

@@ -2,8 +2,8 @@
 use mathlib.Core.Path.{_≡_, refl, subst}
 use mathlib.Core.Bool.{Bool, true, false, cond}
 use Prim.Native.Nat.{ℕ}
-use native.Mathlib.Omega.{arith}
 use Rattle.base.specs.Outcome.{Outcome, accepted, refused, guard, _>>=_}
+use Rattle.base.proofs.Apart.{apart}
 use Rattle.base.proofs.Outcome.{guard-accepted}
 
 -- A property of both arms, by what the test says.
@@ -22,7 +22,7 @@ module _ {A : Type 0} {P : A → Type 0} where
   by-value {a} h = record { holds = λ other e. let same : a ≡ other = cc in subst P same h }
 
   pub by-refusal : {number : ℕ} → Accepts P (refused number)
-  by-refusal = record { holds = λ a e. let z : _≡_ {A = ℕ} 0 1 = cc in absurd (omega arith) }
+  by-refusal = record { holds = λ a e. apart (cc) }
 
   pub by-guard : (number : ℕ) {test : Bool} {next : Outcome A} → (test ≡ true → Accepts P next) → Accepts P (guard number test next)
   by-guard number {test} {next} h = record { holds = λ a e. let passed = guard-accepted number test next a e in h (passed .0) .holds a (passed .1) }

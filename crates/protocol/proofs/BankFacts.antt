@@ -4,13 +4,13 @@ use mathlib.Core.Path.{_≡_, refl, sym, ap, subst, _∙_}
 use mathlib.Core.Bool.{Bool, true, false, cond}
 use mathlib.Core.List.{List}
 use Prim.Native.Nat.{ℕ, _<_}
-use native.Mathlib.Omega.{arith}
 use lib.ListN.{length, length-set, getD-replicate}
 use lib.Seq.{set-getD, getD-set-same, getD-set-other}
 use Rattle.base.specs.Outcome.{Outcome, accepted, refused, guard}
 use Rattle.base.specs.Party.{isRegister, registerPlace}
 use Rattle.base.specs.declared.party.RegisterId.{RegisterId}
 use Rattle.base.specs.declared.party.ReplicaId.{ReplicaId}
+use Rattle.base.proofs.Apart.{apart}
 use Rattle.base.proofs.Registers.{place-below, place-injective}
 use Rattle.wire.specs.Acceptance.{admitted}
 use Rattle.wire.specs.Decode.{registerIn}
@@ -167,5 +167,5 @@ module _ (bank : Bank) (bytes verdicts old : List ℕ) where
       go : (o : Outcome Reply) → replicaAnswers (registerIn bytes) (partAt (placeIn bytes) bank) old o .answer ≡ Refused n
           → (withPartAt (placeIn bytes) (replicaAnswers (registerIn bytes) (partAt (placeIn bytes) bank) old o .replica) bank ≡ bank)
           × (replicaAnswers (registerIn bytes) (partAt (placeIn bytes) bank) old o .output ≡ old)
-      go (accepted reply) e = let z : _≡_ {A = ℕ} 0 1 = cc in absurd (omega arith)
+      go (accepted reply) e = apart (cc)
       go (refused k) e = (part-itself bank (placeIn bytes), refl)

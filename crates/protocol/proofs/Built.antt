@@ -15,6 +15,7 @@ use Rattle.base.specs.ReplicaSet.{has, with, isQuorum}
 use Rattle.base.specs.Rising.{listed, rising}
 use Rattle.base.specs.declared.party.ReplicaId.{ReplicaId}
 use Rattle.base.specs.declared.replica_set.ReplicaSet.{ReplicaSet}
+use Rattle.base.proofs.Apart.{apart}
 use Rattle.base.proofs.Booleans.{or-true}
 use Rattle.base.proofs.Listed.{member-listed}
 use Rattle.base.proofs.Quorum.{rising-first}
@@ -76,14 +77,14 @@ module _ (counted : ReplicaSet) (signatures : List ℕ) where
 
   gathered-counted : (n : ℕ) (id : ReplicaId) → listed (signers (gathered n counted signatures)) id ≡ true → has counted id ≡ true
   unfolding gathered listed
-  gathered-counted zero id e = let z : _≡_ {A = ℕ} 0 1 = cc in absurd (omega arith)
+  gathered-counted zero id e = apart (cc)
   gathered-counted (suc n) id e =
       let joined = listed-append (signers (gathered n counted signatures)) (last-if (has counted (replica (suc n))) (replica (suc n))) id in
       ⊎-elim (gathered-counted n id) (go (has counted (replica (suc n))) refl) (or-true _ _ (rw (gathered-signers n, joined) at e))
     where
       go : (b : Bool) → has counted (replica (suc n)) ≡ b → listed (last-if b (replica (suc n))) id ≡ true → has counted id ≡ true
-      go true there k = ⊎-elim (λ same. subst (λ (i : ℕ). has counted (replica i) ≡ true) (sym (eqb-true (id .0) (suc n) same)) there) (λ no. let z : _≡_ {A = ℕ} 0 1 = cc in absurd (omega arith)) (or-true (eqb (id .0) (suc n)) false k)
-      go false there k = let z : _≡_ {A = ℕ} 0 1 = cc in absurd (omega arith)
+      go true there k = ⊎-elim (λ same. subst (λ (i : ℕ). has counted (replica i) ≡ true) (sym (eqb-true (id .0) (suc n) same)) there) (λ no. apart (cc)) (or-true (eqb (id .0) (suc n)) false k)
+      go false there k = apart (cc)
 
 -- The reply that made the quorum: there are exactly q to list.
 pub built : (f : ℕ) (counted : ReplicaSet) (sender : ReplicaId) (signatures : List ℕ) → isReplica f sender ≡ true → has counted sender ≡ false

@@ -16,6 +16,7 @@ use Rattle.base.specs.declared.party.ClientId.{ClientId}
 use Rattle.base.specs.declared.party.ReplicaId.{ReplicaId}
 use Rattle.base.specs.declared.replica_set.ReplicaSet.{ReplicaSet}
 use Rattle.base.specs.declared.timestamp.Timestamp.{Timestamp}
+use Rattle.base.proofs.Apart.{apart}
 use Rattle.base.proofs.BigEndian.{length-toBytes, bytes-toBytes, bytes-append, bytes-take, bytes-drop}
 use Rattle.wire.specs.Message.{IsDigest, IsSignature, EachFits, PreparedFits, IfThere}
 use Rattle.wire.specs.Proof.{Entry, PreparedProof}
@@ -114,7 +115,7 @@ pub successor-fits : (t next : Timestamp) (client : ClientId) → TimestampFits 
 successor-fits t next client h small e = go (eqb (t .count) 4_294_967_295) refl e
   where
     go : (b : Bool) → eqb (t .count) 4_294_967_295 ≡ b → cond b none (some (record { count = t .count + 1; client = client })) ≡ some next → TimestampFits next
-    go true same k = let z : _≡_ {A = ℕ} 0 1 = cc in absurd (omega arith)
+    go true same k = apart (cc)
     go false other k =
         let made : _≡_ {A = Timestamp} (record { count = t .count + 1; client = client }) next = cc in
         let apart = eqb-false (t .count) 4_294_967_295 other in

@@ -13,6 +13,7 @@ use Rattle.base.specs.Party.{isWriter, isRegister}
 use Rattle.base.specs.ReplicaSet.{empty}
 use Rattle.base.specs.Timestamp.{start}
 use Rattle.base.specs.declared.party.RegisterId.{RegisterId}
+use Rattle.base.proofs.Apart.{apart}
 use Rattle.base.proofs.Booleans.{and-true-both}
 use Rattle.wire.specs.Acceptance.{senderOf, inItsRange}
 use Rattle.wire.specs.Message.{Message, READ-STAMP, PREPARE, WRITE, READ, STAMP, PREPARED, WRITTEN, CARD, Fits, size, IsSignature}
@@ -33,11 +34,11 @@ use Rattle.protocol.proofs.ClientCases.{Begun, PhaseFits, as-read, as-v
 
 idle-phase : (phase : Phase) → isIdle phase ≡ true → phase ≡ Idle
 idle-phase Idle e = refl
-idle-phase (Stamps nonce best counted) e = let z : _≡_ {A = ℕ} 0 1 = cc in absurd (omega arith)
-idle-phase (Prepareds timestamp counted) e = let z : _≡_ {A = ℕ} 0 1 = cc in absurd (omega arith)
-idle-phase (Writtens timestamp counted) e = let z : _≡_ {A = ℕ} 0 1 = cc in absurd (omega arith)
-idle-phase (Cards nonce best counted showed) e = let z : _≡_ {A = ℕ} 0 1 = cc in absurd (omega arith)
-idle-phase (WriteBack timestamp counted) e = let z : _≡_ {A = ℕ} 0 1 = cc in absurd (omega arith)
+idle-phase (Stamps nonce best counted) e = apart (cc)
+idle-phase (Prepareds timestamp counted) e = apart (cc)
+idle-phase (Writtens timestamp counted) e = apart (cc)
+idle-phase (Cards nonce best counted showed) e = apart (cc)
+idle-phase (WriteBack timestamp counted) e = apart (cc)
 
 begun : (before : Client) (register : RegisterId) (question : Message) (phase : Phase) (card : List ℕ) → ClientFits before → isRegister register ≡ true → mayBegin before ≡ true
     → Bytes card → length card ≤ 17 → (before .«last_nonce» + 1 < 2 ^ 64 → LegalMessage question)

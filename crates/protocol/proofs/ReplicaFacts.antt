@@ -18,6 +18,7 @@ use Rattle.base.specs.Timestamp.{number, ofNumber, successor}
 use Rattle.base.specs.declared.party.ClientId.{ClientId}
 use Rattle.base.specs.declared.party.ReplicaId.{ReplicaId}
 use Rattle.base.specs.declared.timestamp.Timestamp.{Timestamp}
+use Rattle.base.proofs.Apart.{apart}
 use Rattle.base.proofs.Booleans.{and-true-both}
 use Rattle.base.proofs.Range.{bounds}
 use Rattle.base.proofs.Same.{same-equal}
@@ -147,11 +148,11 @@ stamp-facts before verdicts client nonce fits message-fits passed =
       held-rises = omega arith;
       signers-held = λ was. was;
       slots-rise = λ c low high. inl (refl, refl);
-      prepared-sent = λ id timestamp digest e. let z : _≡_ {A = ℕ} 0 1 = cc in absurd (omega arith);
-      prepared-asked = λ id timestamp digest e. let z : _≡_ {A = ℕ} 0 1 = cc in absurd (omega arith);
-      written-sent = λ id timestamp e. let z : _≡_ {A = ℕ} 0 1 = cc in absurd (omega arith);
+      prepared-sent = λ id timestamp digest e. apart (cc);
+      prepared-asked = λ id timestamp digest e. apart (cc);
+      written-sent = λ id timestamp e. apart (cc);
       stamp-sent = λ id asked proof c e. (cc, cc, cc);
-      card-sent = λ id asked card proof c e. let z : _≡_ {A = ℕ} 0 1 = cc in absurd (omega arith);
+      card-sent = λ id asked card proof c e. apart (cc);
       written-rises = omega arith;
       written-shown = inl refl;
       slot-change = λ c low high. inl refl;
@@ -170,10 +171,10 @@ card-facts before verdicts client nonce fits message-fits passed =
       held-rises = omega arith;
       signers-held = λ was. was;
       slots-rise = λ c low high. inl (refl, refl);
-      prepared-sent = λ id timestamp digest e. let z : _≡_ {A = ℕ} 0 1 = cc in absurd (omega arith);
-      prepared-asked = λ id timestamp digest e. let z : _≡_ {A = ℕ} 0 1 = cc in absurd (omega arith);
-      written-sent = λ id timestamp e. let z : _≡_ {A = ℕ} 0 1 = cc in absurd (omega arith);
-      stamp-sent = λ id asked proof c e. let z : _≡_ {A = ℕ} 0 1 = cc in absurd (omega arith);
+      prepared-sent = λ id timestamp digest e. apart (cc);
+      prepared-asked = λ id timestamp digest e. apart (cc);
+      written-sent = λ id timestamp e. apart (cc);
+      stamp-sent = λ id asked proof c e. apart (cc);
       card-sent = λ id asked card proof c e. (cc, cc, cc);
       written-rises = omega arith;
       written-shown = inl refl;
@@ -205,11 +206,11 @@ module _ (before : Replica) (verdicts : List ℕ) (client : ClientId) (card : Li
         held-rises = stored .rises;
         signers-held = stored .signers-held;
         slots-rise = λ c low high. inl (refl, refl);
-        prepared-sent = λ id timestamp digest e. let z : _≡_ {A = ℕ} 0 1 = cc in absurd (omega arith);
-        prepared-asked = λ id timestamp digest e. let z : _≡_ {A = ℕ} 0 1 = cc in absurd (omega arith);
+        prepared-sent = λ id timestamp digest e. apart (cc);
+        prepared-asked = λ id timestamp digest e. apart (cc);
         written-sent = λ id timestamp e. (cc, let z : proof .timestamp ≡ timestamp = cc in omega (arith, stored .holds));
-        stamp-sent = λ id asked proof c e. let z : _≡_ {A = ℕ} 0 1 = cc in absurd (omega arith);
-        card-sent = λ id asked card proof c e. let z : _≡_ {A = ℕ} 0 1 = cc in absurd (omega arith);
+        stamp-sent = λ id asked proof c e. apart (cc);
+        card-sent = λ id asked card proof c e. apart (cc);
         written-rises = omega arith;
         written-shown = inl refl;
         slot-change = λ c low high. inl refl;
@@ -337,7 +338,7 @@ next-number : (timestamp : ℕ) (t : Timestamp) (client : ClientId) → isTimest
 next-number timestamp t client e = go (eqb (t .count) 4_294_967_295) e
   where
     go : (b : Bool) → isTimestamp timestamp (cond b none (some (record { count = t .count + 1; client = client }))) ≡ true → timestamp ≡ (t .count + 1) * 256 + client .0
-    go true k = let z : _≡_ {A = ℕ} 0 1 = cc in absurd (omega arith)
+    go true k = apart (cc)
     go false k = eqb-true timestamp ((t .count + 1) * 256 + client .0) k
 
 -- An unused slot, or one that the written timestamp closed, below the new timestamp.
@@ -406,9 +407,9 @@ module _ (before : Replica) (verdicts : List ℕ) (client : ClientId) (timestamp
             let same-d : d ≡ digest = cc in
             let own = own-client in
             (proof, last, rw (same-t, own, same-d) refl);
-        written-sent = λ id t e. let z : _≡_ {A = ℕ} 0 1 = cc in absurd (omega arith);
-        stamp-sent = λ id asked shown c e. let z : _≡_ {A = ℕ} 0 1 = cc in absurd (omega arith);
-        card-sent = λ id asked card shown c e. let z : _≡_ {A = ℕ} 0 1 = cc in absurd (omega arith);
+        written-sent = λ id t e. apart (cc);
+        stamp-sent = λ id asked shown c e. apart (cc);
+        card-sent = λ id asked card shown c e. apart (cc);
         written-rises = omega (arith, raised-rises last (before .register .slots));
         written-shown = rw written (raised-shown last (before .register .slots));
         slot-change = change;

@@ -7,6 +7,7 @@ use native.Mathlib.Omega.{arith}
 use native.Mathlib.Nat.{eq-or-lt-of-le}
 use Rattle.base.specs.Timestamp.{number}
 use Rattle.base.specs.declared.party.RegisterId.{RegisterId}
+use Rattle.base.proofs.Apart.{apart}
 use Rattle.wire.specs.Acceptance.{client}
 use Rattle.protocol.specs.Parts.{startCard}
 use Rattle.run.specs.ReadsFrom.{Write}
@@ -14,7 +15,7 @@ use Rattle.run.specs.Atomicity.{Operation, read, write, faulty-write, is
 use Rattle.run.specs.Claims.{Finished, Before}
 use Rattle.run.specs.Premises.{Premises}
 use Rattle.run.specs.Run.{Run}
-use Rattle.run.proofs.Turns.{apart, same-client}
+use Rattle.run.proofs.Turns.{same-client}
 use Rattle.run.proofs.Demand3.{start-shows}
 use Rattle.run.proofs.Order.{three-ways, correct-of, finish, settled-by, rises, above-write, begun-after as finished-before, one-card, same-operation, total as claimed, not-itself, before-both}
 use Rattle.run.proofs.ReadsFrom.{reads-from}

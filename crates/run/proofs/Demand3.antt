@@ -10,13 +10,14 @@ use Rattle.base.specs.Timestamp.{number}
 use Rattle.base.specs.declared.party.RegisterId.{RegisterId}
 use Rattle.base.specs.declared.replica_set.ReplicaSet.{ReplicaSet}
 use Rattle.base.specs.declared.timestamp.Timestamp.{Timestamp}
+use Rattle.base.proofs.Apart.{apart}
 use Rattle.protocol.specs.Parts.{startCard}
 use Rattle.run.specs.Claims.{Begins, Finished, Claims}
 use Rattle.run.specs.Premises.{Premises}
 use Rattle.run.specs.Run.{begins-write, Run, event}
 use Rattle.run.specs.Views.{Views}
 use Rattle.run.specs.Vouching.{VouchedFor, Vouching}
-use Rattle.run.proofs.Turns.{apart, same-client}
+use Rattle.run.proofs.Turns.{same-client}
 use Rattle.run.proofs.Slots.{one-digest}
 use Rattle.run.proofs.Operations.{Shown}
 use Rattle.run.proofs.Order.{begunWith, finish, view, irreflexive, transitive, total, one-card, in-order, later-write, view-after, view-card}

@@ -9,6 +9,7 @@ use native.Mathlib.Nat.{eq-or-lt-of-le, le-of-suc-le-suc}
 use Rattle.base.specs.Outcome.{accepted}
 use Rattle.base.specs.declared.party.ClientId.{ClientId}
 use Rattle.base.specs.declared.party.RegisterId.{RegisterId}
+use Rattle.base.proofs.Apart.{apart}
 use Rattle.wire.specs.Message.{Message, READ-STAMP, PREPARE, WRITE, READ, STAMP, PREPARED, WRITTEN, CARD}
 use Rattle.protocol.specs.Client.{Answer, send, waits, done, ended, Turn}
 use Rattle.protocol.specs.declared.client.Client.{Client}
@@ -16,7 +17,7 @@ use Rattle.protocol.specs.declared.client.Phase.{Phase}
 use Rattle.protocol.proofs.ClientCases.{Begun, ClientCase, stamp-counted, stamps-enough, stamps-ended, prepared-counted, prepareds-enough, written-counted, writtens-enough, card-counted, cards-agree, cards-viewed, cards-differ, back-counted, back-enough}
 use Rattle.wire.specs.Acceptance.{client}
 use Rattle.run.specs.Run.{Run, clientAt, answerAt, At, Said}
-use Rattle.run.proofs.Turns.{apart, ClientStep, ClientTurn, rested, wrote, asked, heard, client-turn}
+use Rattle.run.proofs.Turns.{ClientStep, ClientTurn, rested, wrote, asked, heard, client-turn}
 use Rattle.run.proofs.Slots.{order}
 
 -- Whether an answer is a question with a nonce.

@@ -20,6 +20,7 @@ use Rattle.base.specs.declared.party.RegisterId.{RegisterId}
 use Rattle.base.specs.declared.party.ReplicaId.{ReplicaId}
 use Rattle.base.specs.declared.replica_set.ReplicaSet.{ReplicaSet}
 use Rattle.base.specs.declared.timestamp.Timestamp.{Timestamp}
+use Rattle.base.proofs.Apart.{apart}
 use Rattle.base.proofs.Booleans.{and-true-both, or-true}
 use Rattle.base.proofs.Counting.{or-is, count-agree, count-none}
 use Rattle.base.proofs.ReplicaSet.{has-with, has-empty}
@@ -44,7 +45,7 @@ use Rattle.run.specs.Claims.{NotDone}
 use Rattle.run.specs.Premises.{CardOfRun, Premises}
 use Rattle.wire.specs.Acceptance.{senderOf, replica}
 use Rattle.run.specs.Run.{Run, clientAt, answerAt, Correct, Said}
-use Rattle.run.proofs.Turns.{apart, same-replica, correct-replica-range, correct-client-range, GoodClient, good-client, ClientStep, Heard}
+use Rattle.run.proofs.Turns.{same-replica, correct-replica-range, correct-client-range, GoodClient, good-client, ClientStep, Heard}
 use Rattle.run.proofs.SentMessages.{said-later, heard-said}
 use Rattle.run.proofs.Slots.{Backed, backed-later, shaped-backed, meet, card-backed}
 use Rattle.run.proofs.Held.{held, held-rises, written-held, Showed, stamp-showed, card-showed}

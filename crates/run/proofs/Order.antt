@@ -13,6 +13,7 @@ use Rattle.base.specs.declared.party.ClientId.{ClientId}
 use Rattle.base.specs.declared.party.RegisterId.{RegisterId}
 use Rattle.base.specs.declared.replica_set.ReplicaSet.{ReplicaSet}
 use Rattle.base.specs.declared.timestamp.Timestamp.{Timestamp}
+use Rattle.base.proofs.Apart.{apart}
 use Rattle.wire.specs.Sha256.{sha256}
 use Rattle.protocol.specs.Client.{done, ended}
 use Rattle.protocol.specs.Parts.{startCard}
@@ -22,7 +23,7 @@ use Rattle.run.specs.Claims.{Begins, NotDone, GoesOn, Finished, Viewed, 
 use Rattle.run.specs.Premises.{Accepted, CardOfRun, eventCard, Premises}
 use Rattle.wire.specs.Acceptance.{client}
 use Rattle.run.specs.Run.{Event, begins-write, begins-read, to-client, Run, partyOf, event, clientAt, answerAt, At, Correct}
-use Rattle.run.proofs.Turns.{apart, same-client, Silent, ClientTurn, rested, wrote, asked, heard, client-turn}
+use Rattle.run.proofs.Turns.{same-client, Silent, ClientTurn, rested, wrote, asked, heard, client-turn}
 use Rattle.run.proofs.Slots.{split-last, order, one-backed}
 use Rattle.run.proofs.Operations.{none-in, Settled, settled-later, Shown, shown-later, During, during-later, not-idle, moved, Above, AtDone, Next, goes-on, finishes, stops, heard-next}
 

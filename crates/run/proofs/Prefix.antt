@@ -10,6 +10,7 @@ use Rattle.base.specs.Outcome.{Outcome, accepted, refused}
 use Rattle.base.specs.declared.party.ClientId.{ClientId}
 use Rattle.base.specs.declared.party.RegisterId.{RegisterId}
 use Rattle.base.specs.declared.party.ReplicaId.{ReplicaId}
+use Rattle.base.proofs.Apart.{apart}
 use Rattle.wire.specs.Acceptance.{Sender}
 use Rattle.wire.specs.Decode.{decode}
 use Rattle.wire.specs.Message.{Message}
@@ -22,7 +23,6 @@ use Rattle.run.specs.Premises.{TrueVerdicts, TrueFor, TrueAt, eventCard,
 use Rattle.run.specs.Run.{Event, at-replica, at-client, Run, afterAtReplica, afterAtClient, event, bankAt, clientAt, answerTo, answerAt, Sent}
 use Rattle.run.proofs.Demand3.{demand-3}
 use Rattle.run.proofs.Slots.{order}
-use Rattle.run.proofs.Turns.{apart}
 
 -- Among the first n, and behind them.
 front : {A : Type 0} (n : ℕ) (xs : List A) (t : ℕ) → t < n → getElem? (take n xs) t ≡ getElem? xs t

@@ -12,6 +12,7 @@ use Rattle.base.specs.Outcome.{Outcome, accepted, refused}
 use Rattle.base.specs.Party.{isRegister, registerPlace}
 use Rattle.base.specs.declared.party.RegisterId.{RegisterId}
 use Rattle.base.specs.declared.party.ReplicaId.{ReplicaId}
+use Rattle.base.proofs.Apart.{apart}
 use Rattle.base.proofs.Booleans.{and-true-both}
 use Rattle.base.proofs.Registers.{place-below, place-injective}
 use Rattle.protocol.specs.Bank.{partAt, placeIn, bankStep}
@@ -32,7 +33,7 @@ use Rattle.wire.proofs.OneForm.{found-register}
 use Rattle.protocol.specs.Events.{request-handed, bankTurn, onReplicaEvent, nextBank, bankAnswer}
 use Rattle.run.specs.Replies.{Delivery, passes, isFor, handedIn, answersIn, handedFor, answersFor, SameReplies}
 use Rattle.run.specs.Run.{Event, at-replica, at-client, to-replica, Run, afterAtReplica, event, bankAt, replicaAt, answerTo}
-use Rattle.run.proofs.Turns.{apart, same-replica, GoodBank, good-bank}
+use Rattle.run.proofs.Turns.{same-replica, GoodBank, good-bank}
 
 -- ---- One register's part alone: what it answers to messages, one after the other
 

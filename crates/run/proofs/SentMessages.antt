@@ -15,6 +15,7 @@ use Rattle.base.specs.Rising.{listed}
 use Rattle.base.specs.declared.party.ClientId.{ClientId}
 use Rattle.base.specs.declared.party.RegisterId.{RegisterId}
 use Rattle.base.specs.declared.party.ReplicaId.{ReplicaId}
+use Rattle.base.proofs.Apart.{apart}
 use Rattle.base.proofs.Booleans.{and-true-both, or-true}
 use Rattle.base.proofs.Range.{bounds}
 use Rattle.wire.specs.Checks.{all, ownGenuine, genuine}
@@ -32,7 +33,7 @@ use Rattle.run.specs.Premises.{TrueVerdicts, TrueFor, TrueAt, Premises}
 use Rattle.wire.specs.Acceptance.{senderOf, Sender, replica, client}
 use Rattle.run.specs.Run.{Event, begins-write, begins-read, to-replica, to-client, registerOf, Run, event, clientAt, answerAt, At, Correct, Said, Sent}
 use Rattle.run.proofs.Bodies.{covered}
-use Rattle.run.proofs.Turns.{apart, same-replica, Answers, ReplicaStep, replica-step, step-register, ClientTurn, rested, wrote, asked, heard, client-turn, Heard}
+use Rattle.run.proofs.Turns.{same-replica, Answers, ReplicaStep, replica-step, step-register, ClientTurn, rested, wrote, asked, heard, client-turn, Heard}
 
 module _ (R : Run) where
   pub said-later : (x : RegisterId) (party : Sender) (message : Message) (t t′ : ℕ) → t ≤ t′ → Said R x party message t → Said R x party message t′

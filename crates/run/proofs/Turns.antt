@@ -15,6 +15,7 @@ use Rattle.base.specs.Party.{replicaCount, isWriter, registerPlace}
 use Rattle.base.specs.declared.party.ClientId.{ClientId}
 use Rattle.base.specs.declared.party.RegisterId.{RegisterId}
 use Rattle.base.specs.declared.party.ReplicaId.{ReplicaId}
+use Rattle.base.proofs.Apart.{apart}
 use Rattle.base.proofs.Range.{bounds}
 use Rattle.base.proofs.Registers.{place-below}
 use Rattle.wire.specs.Decode.{registerIn}
@@ -47,10 +48,6 @@ use Rattle.protocol.proofs.Towards.{client-takes, viewer-takes}
 use Rattle.wire.specs.Acceptance.{Sender, replica, client}
 use Rattle.protocol.specs.Events.{ClientEvent, request-handed, write-begun, read-begun, reply-handed, bankTurn, nextBank, bankAnswer, handedStep, onClientEvent, nextClient, clientAnswer}
 use Rattle.run.specs.Run.{Event, at-replica, at-client, begins-write, begins-read, to-replica, to-client, Run, partyOf, registerOf, event, bankAt, replicaAt, registerAt, clientAt, answerTo, answerAt, At}
-
--- Two constructors are not equal.
-pub apart : {A : Type 0} → _≡_ {A = ℕ} 0 1 → A
-apart z = absurd (omega arith)
 
 -- Ids are told by their numbers.
 pub same-replica : (a b : ReplicaId) → a .0 ≡ b .0 → a ≡ b

@@ -12,6 +12,7 @@ use Rattle.base.specs.declared.party.ClientId.{ClientId}
 use Rattle.base.specs.declared.party.RegisterId.{RegisterId}
 use Rattle.base.specs.declared.replica_set.ReplicaSet.{ReplicaSet}
 use Rattle.base.specs.declared.timestamp.Timestamp.{Timestamp}
+use Rattle.base.proofs.Apart.{apart}
 use Rattle.wire.specs.Acceptance.{client}
 use Rattle.wire.specs.Message.{PREPARE}
 use Rattle.wire.specs.Proof.{PreparedProof, WrittenProof}
@@ -24,7 +25,7 @@ use Rattle.run.specs.ReadsFrom.{Write}
 use Rattle.run.specs.Claims.{Begins, GoesOn, Finished}
 use Rattle.run.specs.Premises.{Accepted, CardOfRun, eventCard, Premises}
 use Rattle.run.specs.Run.{begins-write, to-client, registerOf, Run, event, clientAt, answerAt, At, Correct}
-use Rattle.run.proofs.Turns.{apart, Silent, Heard, heard-register, ClientTurn, rested, wrote, asked, heard, client-turn}
+use Rattle.run.proofs.Turns.{Silent, Heard, heard-register, ClientTurn, rested, wrote, asked, heard, client-turn}
 use Rattle.run.proofs.Stages.{isStamping, preparedFor, isPrepare, isOver, Stage, stamping, prepares, keeps, finishes, others, stage}
 use Rattle.run.proofs.Slots.{split-last, order}
 use Rattle.run.proofs.Operations.{Settled, settled-later, Chosen, WriteIn, During, goes-on, stops, finishes as ends}

@@ -3,14 +3,14 @@ use mathlib.Core.Path.{_≡_}
 use mathlib.Core.List.{List, [], _∷_}
 use mathlib.Core.Option.{some}
 use Prim.Native.Nat.{ℕ, zero, suc}
-use native.Mathlib.Omega.{arith}
 use lib.ListN.{take, getElem?}
+use Rattle.base.proofs.Apart.{apart}
 use Rattle.run.specs.Run.{begins-write, Run}
 
 -- What stands among the first elements stands in the list.
 pub in-prefix : {A : Type 0} (n : ℕ) (xs : List A) (t : ℕ) (x : A) → getElem? (take n xs) t ≡ some x → getElem? xs t ≡ some x
-in-prefix zero xs t x e = let z : _≡_ {A = ℕ} 0 1 = cc in absurd (omega arith)
-in-prefix (suc n) [] t x e = let z : _≡_ {A = ℕ} 0 1 = cc in absurd (omega arith)
+in-prefix zero xs t x e = apart (cc)
+in-prefix (suc n) [] t x e = apart (cc)
 in-prefix (suc n) (y ∷ xs) zero x e = e
 in-prefix (suc n) (y ∷ xs) (suc t) x e = in-prefix n xs t x e
 

@@ -3,7 +3,6 @@ use mathlib.Core.Path.{_≡_, refl}
 use mathlib.Core.Bool.{Bool, true, false, _||_, not, false≢true}
 use mathlib.Core.List.{List, [], _∷_}
 use Prim.Native.Nat.{ℕ}
-use native.Mathlib.Omega.{arith}
 use borrow.Author.Tests.{eqb-false}
 use lib.Dec.{eqb}
 use lib.ListN.{getD}
@@ -11,6 +10,7 @@ use Rattle.base.specs.Outcome.{Outcome, accepted, refused}
 use Rattle.base.specs.declared.party.RegisterId.{RegisterId}
 use Rattle.base.specs.declared.replica_set.ReplicaSet.{ReplicaSet}
 use Rattle.base.specs.declared.timestamp.Timestamp.{Timestamp}
+use Rattle.base.proofs.Apart.{apart}
 use Rattle.protocol.specs.Client.{Answer, send, waits, done, ended}
 use Rattle.wire.specs.Message.{Message, body}
 
@@ -80,7 +80,7 @@ isRefused (refused number) = true
 -- An answer is not what is told to be refused.
 pub not-refused : (x : RegisterId) (answer : Answer) (told : Outcome Answer) → code x (accepted answer) ≡ code x told → isRefused told ≡ true → ⊥
 not-refused x answer (accepted told) e h = no-test h
-not-refused x answer (refused number) e h = let is = is-refused x (accepted answer) number e in let z : _≡_ {A = ℕ} 0 1 = cc in omega arith
+not-refused x answer (refused number) e h = let is = is-refused x (accepted answer) number e in apart (cc)
 
 -- What an answer's numbers say: neither done nor ended; counted.
 abbrev pub goesOn : List ℕ → Bool

@@ -10,6 +10,7 @@ use native.Mathlib.Omega.{arith}
 use borrow.Author.Tests.{eqb-true, eq-eqb, ltb-true, lt-leb}
 use lib.Dec.{eqb, leb, ltb, lit<, lit≤}
 use lib.ListN.{length, getElem?}
+use Rattle.base.proofs.Apart.{apart}
 use Rattle.base.proofs.Booleans.{and-true-both}
 use Rattle.base.proofs.Range.{inside, bounds}
 use Rattle.base.specs.BigEndian.{Bytes}
@@ -69,7 +70,7 @@ each test t [] = true
 each test t (line ∷ lines) = test t line && each test (suc t) lines
 
 each-from : (P : ℕ → Line → Type 0) (t i : ℕ) (lines : List Line) (line : Line) → Each P t lines → getElem? lines i ≡ some line → P (t + i) line
-each-from P t i [] line all found = let z : _≡_ {A = ℕ} 0 1 = cc in absurd (omega arith)
+each-from P t i [] line all found = apart (cc)
 each-from P t zero (first ∷ lines) line all found =
     let here : first ≡ line = cc in
     let now : t ≡ t + 0 = omega arith in
@@ -106,7 +107,7 @@ lineOf lines t e found = go (getElem? lines t) refl
     go : (l : Option Line) → getElem? lines t ≡ l → (line : Line) × (getElem? lines t ≡ some line) × (line .event ≡ e)
     go none at =
         let nothing : none ≡ some e = sym (ap eventIn at) ∙ sym (event-in t lines) ∙ found in
-        let z : _≡_ {A = ℕ} 0 1 = cc in absurd (omega arith)
+        apart (cc)
     go (some line) at =
         let there : some (line .event) ≡ some e = sym (ap eventIn at) ∙ sym (event-in t lines) ∙ found in
         (line, at, cc)
@@ -373,7 +374,7 @@ module _ (R : Run) (lines : List Line) (told : Told R lines) where
       go : (line : Option Line) → getElem? lines (of-run .time) ≡ line → isKnown cards card ≡ true
       go none at =
           let nothing : none ≡ some card = carried none at in
-          let z : _≡_ {A = ℕ} 0 1 = cc in absurd (omega arith)
+          apart (cc)
       go (some line) at =
           let test = each-tested (isKnownOrRefused R lines cards) (of-run .time) lines line no-other at in
           let (answer, answered) = of-run .not-refused in
