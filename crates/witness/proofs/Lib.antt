@@ -4,6 +4,7 @@ pub mod Cards
 pub mod Cast
 pub mod Computing
 pub mod FirstWrite
+pub mod Meeting
 pub mod NotEmpty
 pub mod Replay
 pub mod SameHanded

@@ -1,22 +1,21 @@
 -- A run at f = 1 that meets the premises, in which one client writes registers 1 and 2 at one timestamp: one digest for each register, and so
--- two for the timestamp. Assumes nothing.
+-- two for the timestamp. A view of register 2 follows (`Meeting`). Assumes nothing.
 use mathlib.Core.Path.{_≡_, refl, ap}
-use mathlib.Core.Bool.{true}
+use mathlib.Core.Bool.{true, false}
 use mathlib.Core.List.{List, [], _∷_, _++_}
 use mathlib.Core.Option.{some}
-use Prim.Native.Nat.{ℕ, _≤_}
+use Prim.Native.Nat.{ℕ}
 use native.Mathlib.Omega.{arith}
 use lib.Dec.{lit<, lit≤}
 use lib.ListN.{getD}
 use Rattle.base.specs.Counting.{count}
 use Rattle.base.specs.Outcome.{refused}
 use Rattle.base.specs.Range.{within}
-use Rattle.base.specs.Timestamp.{number}
 use Rattle.base.specs.declared.party.RegisterId.{RegisterId}
 use Rattle.base.specs.declared.party.ReplicaId.{ReplicaId}
 use Rattle.protocol.specs.Client.{send, waits, done}
 use Rattle.run.proofs.Demand3.{demand-3}
-use Rattle.run.specs.Claims.{Finished, Genuine, Viewed}
+use Rattle.run.specs.Claims.{Finished, Genuine}
 use Rattle.run.specs.Premises.{Premises}
 use Rattle.run.specs.Run.{begins-read, to-replica, to-client, Run, answerAt}
 use Rattle.wire.specs.Message.{Message, READ-STAMP, READ, CARD}
@@ -26,7 +25,7 @@ use Rattle.witness.proofs.Cast.{replica-1, replica-2, replica-3, replic
 use Rattle.witness.proofs.Computing.{messages, steps, digests}
 use Rattle.witness.proofs.FirstWrite.{proof-of, written, under-way, finishing}
 use Rattle.witness.proofs.Replay.{plays, freshStore, played}
-use Rattle.witness.proofs.Story.{Line, _↝_, _↛_, each, wellTold, told, Told, hasBytes, NoOtherCards, AllTrue, trueVerdicts, premises-told, refused-told, finished-told, viewed-told, allBytes, genuine-told}
+use Rattle.witness.proofs.Story.{Line, _↝_, _↛_, each, wellTold, told, Told, hasBytes, NoOtherCards, AllTrue, trueVerdicts, premises-told, refused-told, finished-told, allBytes, genuine-told}
 
 -- Two writes of one client, of registers 1 and 2, at one timestamp with different cards; and a genuine prepared proof of each.
 pub record TwoDigests (R : Run) : Type 0 where
@@ -43,9 +42,12 @@ pub record TwoDigests (R : Run) : Type 0 where
   pub proofs-alike : proof .timestamp ≡ proof′ .timestamp
   pub two-digests : proof .digest ≡ proof′ .digest → ⊥
 
--- What a viewing client asks of register 2, and what a replica that holds the second write shows it.
-abbrev register-17 : RegisterId
+-- What a viewing client asks in vain and what it asks of register 2, and what a replica that holds the second write shows it.
+abbrev pub register-17 : RegisterId
 register-17 = record { 0 = 17 }
+
+abbrev pub asks-stamp : List ℕ
+asks-stamp = from-client-for register-2 viewer-65 (READ-STAMP viewer-65 1)
 
 abbrev asks : List ℕ
 asks = from-client-for register-2 viewer-65 (READ viewer-65 1)
@@ -58,7 +60,7 @@ shown id message = from-replica-for register-2 id message
 
 -- ---- What happens: replicas 1 to 3 and clients 1 to 65 are correct
 
-story : List Line
+unfoldable pub story : List Line
 unfolding under-way finishing
 story =
     -- 0 to 15: client 1 writes `service` to register 1.
@@ -74,7 +76,7 @@ story =
     -- heard of the write, and replica 4, which is faulty, shows 0.0 too.
     ++ begins-read viewer-65 register-17 ↛ 20
     ∷ begins-read viewer-65 register-2 ↝ send (READ viewer-65 1)
-    ∷ to-replica replica-1 (from-client-for register-2 viewer-65 (READ-STAMP viewer-65 1)) not-genuine ↛ 19
+    ∷ to-replica replica-1 asks-stamp not-genuine ↛ 19
     ∷ to-replica replica-2 asks one ↝ send (shows-lathe replica-2)
     ∷ to-replica replica-3 asks one ↝ send (stale 1 viewer-65 replica-3)
     ∷ to-client viewer-65 (shown replica-2 shows-lathe) four ↝ waits
@@ -93,7 +95,7 @@ answers-as-told : plays (freshStore run 65) story ≡ true
 unfolding run story steps digests plays
 answers-as-told = refl
 
-as-told : Told run story
+pub as-told : Told run story
 unfolding run
 as-told = played run 65 story refl answers-as-told
 
@@ -109,13 +111,17 @@ pub premises : Premises run
 unfolding run count within
 premises = premises-told run story as-told cards (lit≤ tt) verdicts-true no-other-cards right-digests different-cards
 
+pub faulty : run .correct-replica replica-4 ≡ false
+unfolding run within
+faulty = refl
+
 -- ---- The writes, and a genuine proof of each
 
-first-write : Finished run register-1
+pub first-write : Finished run register-1
 unfolding story code messages
 first-write = finished-told run story as-told register-1 client-1 0 15 _ _ _ at-1·1 service by-1-2-4 refl (lit< tt) refl refl refl true (service, refl) refl
 
-pub second-write : Finished run register-2
+unfoldable pub second-write : Finished run register-2
 unfolding story code messages
 second-write = finished-told run story as-told register-2 client-1 16 32 _ _ _ at-1·1 lathe by-1-2-4 refl (lit< tt) refl refl refl true (lathe, refl) refl
 
@@ -156,17 +162,3 @@ not-for-the-other genuine = different (demand-3 run premises register-1 .one-dig
 pub refusal : answerAt run 28 ≡ refused 18
 unfolding story
 refusal = refused-told run story as-told 28 _ 18 refl
-
--- ---- The view: it began after the second write was done, and shows that write
-
-pub view : Viewed run register-2
-unfolding story code messages
-view = viewed-told run story as-told register-2 viewer-65 34 40 _ _ _ at-1·1 lathe by-1-2-4 refl (lit< tt) refl refl refl refl refl
-
-pub not-earlier : number (second-write .timestamp) ≤ number (view .timestamp)
-unfolding finished-told viewed-told second-write view
-not-earlier = demand-3 run premises register-2 .view-after second-write view (lit< tt)
-
-pub refused-beginning : answerAt run 33 ≡ refused 20
-unfolding story
-refused-beginning = refused-told run story as-told 33 _ 20 refl
