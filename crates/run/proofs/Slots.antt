@@ -40,7 +40,7 @@ use Rattle.protocol.proofs.ReplicaFacts.{clientOf, SlotRises, prepared-legal}
 use Rattle.run.specs.Claims.{Genuine, OneDigest}
 use Rattle.run.specs.Premises.{TrueVerdicts, FewFaulty, Premises}
 use Rattle.wire.specs.Acceptance.{replica}
-use Rattle.run.specs.Run.{Run, registerAt, clientAt, answerAt, Said}
+use Rattle.run.specs.Run.{Run, registerAt, clientAt, answerAt, Said, Sent}
 use Rattle.run.proofs.Turns.{correct-replica-range, Answers, ReplicaTurn, rests, steps, replica-turn, ReplicaStep, replica-step, Heard}
 use Rattle.run.proofs.SentMessages.{said-later, said-answers, said, front-true, rest-true, entry-sent, heard-true, heard-legal}
 
@@ -145,14 +145,23 @@ module _ (R : Run) (x : RegisterId) where
   shaped-backed t s d entries shape said-it =
       record { exact = shaped-signers (R .f) entries shape; enough = omega (arith, shaped-count (R .f) entries shape); signed = said-it }
 
-  -- A proof of the right shape whose entries are genuine.
-  backed-by : (t : ℕ) (proof : PreparedProof) (verdicts : List ℕ) → x .0 < 256 → PreparedFits proof → shaped (R .f) (proof .entries) ≡ true → length (proof .entries) ≤ length verdicts → genuine verdicts ≡ true
-      → TrueVerdicts R t (preparedSignatures x proof) verdicts → Backed t (proof .timestamp) (proof .digest) (signerSet (proof .entries))
-  backed-by t proof verdicts small fits shape long ones true-ones =
+  -- The proof's correct signers sent PREPARED with its timestamp and digest, for this register: so it is where its entries are genuine,
+  abbrev SignersSent : ℕ → PreparedProof → Type 0
+  SignersSent t proof =
+      (id : ReplicaId) → has (signerSet (proof .entries)) id ≡ true → R .correct-replica id ≡ true → Sent R (replica id) (body x (PREPARED id (proof .timestamp) (proof .digest))) t
+
+  entries-sent : (t : ℕ) (proof : PreparedProof) (verdicts : List ℕ) → length (proof .entries) ≤ length verdicts → genuine verdicts ≡ true
+      → TrueVerdicts R t (preparedSignatures x proof) verdicts → SignersSent t proof
+  entries-sent t proof verdicts long ones true-ones id k c =
+      entry-sent R t x (λ id. PREPARED id (proof .timestamp) (proof .digest)) (proof .entries) verdicts long ones true-ones id (member-listed (signers (proof .entries)) id k) c
+
+  -- and then a proof of the right shape is backed.
+  backed-by : (t : ℕ) (proof : PreparedProof) → x .0 < 256 → PreparedFits proof → shaped (R .f) (proof .entries) ≡ true → SignersSent t proof
+      → Backed t (proof .timestamp) (proof .digest) (signerSet (proof .entries))
+  backed-by t proof small fits shape sent =
       shaped-backed t (proof .timestamp) (proof .digest) (proof .entries) shape (λ id k c.
       let range = correct-replica-range R id c in
-      said R (replica id) c x (PREPARED id (proof .timestamp) (proof .digest)) (prepared-legal id (proof .timestamp) (proof .digest) (omega arith) (fits .0) (fits .1) x small) t
-      (entry-sent R t x (λ id. PREPARED id (proof .timestamp) (proof .digest)) (proof .entries) verdicts long ones true-ones id (member-listed (signers (proof .entries)) id k) c))
+      said R (replica id) c x (PREPARED id (proof .timestamp) (proof .digest)) (prepared-legal id (proof .timestamp) (proof .digest) (omega arith) (fits .0) (fits .1) x small) t (sent id k c))
 
   -- The prepared proof of a CARD that a client takes in an operation of this register.
   pub card-backed : Premises R → (id : ClientId) (t : ℕ) (h : Heard R id t) (sender : ReplicaId) (nonce : ℕ) (card : List ℕ) (proof : PreparedProof) (addressed : ClientId)
@@ -167,20 +176,27 @@ module _ (R : Run) (x : RegisterId) where
       let entries-true = front-true R t (preparedSignatures x proof) [] (drop 1 (h .verdicts)) (rest-true R t _ _ (h .verdicts) true-ones) in
       let each = and-true-both (eqb (length (h .verdicts)) (1 + length (proof .entries ++ []))) (all (λ v. leb v 1) (h .verdicts)) (ok .one-each) in
       let long : length (h .verdicts) ≡ 1 + length (proof .entries ++ []) = eqb-true (length (h .verdicts)) (1 + length (proof .entries ++ [])) (each .0) in
-      backed-by t proof (drop 1 (h .verdicts)) (legal .register-fits) (legal .fits .3) (ok .prepared-shaped) (dropped (h .verdicts) long) (ok .entries-genuine) entries-true
+      backed-by t proof (legal .register-fits) (legal .fits .3) (ok .prepared-shaped)
+      (entries-sent t proof (drop 1 (h .verdicts)) (dropped (h .verdicts) long) (ok .entries-genuine) entries-true)
     where
       dropped : (verdicts : List ℕ) → length verdicts ≡ 1 + length (proof .entries ++ []) → length (proof .entries) ≤ length (drop 1 verdicts)
       dropped [] l = absurd (omega arith)
       dropped (v ∷ vs) l = let both = length-append (proof .entries) [] in omega arith
 
-  -- A genuine proof is backed at the end of the list.
+  -- A genuine proof is judged entry by entry, and so its correct signers sent PREPARED; it is backed at the end of the list.
+  judged-each : (proof : PreparedProof) (g : Genuine R x proof) → length (proof .entries) ≤ length (g .verdicts)
+  judged-each proof g = let each = g .one-each in omega arith
+
+  genuine-sent : (proof : PreparedProof) (g : Genuine R x proof) → length (proof .entries) ≤ length (g .verdicts) → genuine (g .verdicts) ≡ true → SignersSent (length (R .events)) proof
+  genuine-sent proof g long ones = entries-sent (length (R .events)) proof (g .verdicts) long ones (g .true-verdicts)
+
   pub genuine-backed : x .0 < 256 → (proof : PreparedProof) → Genuine R x proof → Backed (length (R .events)) (proof .timestamp) (proof .digest) (signerSet (proof .entries))
   unfolding proofOutcome
   genuine-backed small proof g =
       let nine = guard-accepted 9 (shaped (R .f) (proof .entries)) (guard 10 (genuine (g .verdicts)) (guard 11 (issued (proof .timestamp)) (accepted (signerSet (proof .entries))))) (signerSet (proof .entries)) (g .passes) in
       let ten = guard-accepted 10 (genuine (g .verdicts)) (guard 11 (issued (proof .timestamp)) (accepted (signerSet (proof .entries)))) (signerSet (proof .entries)) (nine .1) in
-      let each = g .one-each in
-      backed-by (length (R .events)) proof (g .verdicts) small (prepared-rewritten (g .bytes) proof (g .are-bytes) (g .reads) .1) (nine .0) (omega arith) (ten .0) (g .true-verdicts)
+      let fits = prepared-rewritten (g .bytes) proof (g .are-bytes) (g .reads) .1 in
+      backed-by (length (R .events)) proof small fits (nine .0) (genuine-sent proof g (judged-each proof g) (ten .0))
 
   -- ---- What the bound on faulty replicas alone gives
 
