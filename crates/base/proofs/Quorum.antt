@@ -55,6 +55,10 @@ both-count (suc n) p q = go (p (replica (suc n))) (q (replica (suc n))) (both-co
     go false true h = omega arith
     go false false h = omega arith
 
+-- Two quorums have f + 1 replicas in common, whoever they are.
+quorums-overlap : (f : ℕ) → f ≤ 5 → replicaCount f + f + 1 ≤ quorumSize f + quorumSize f
+quorums-overlap f bound = omega arith
+
 module _ (f : ℕ) (correct : ReplicaId → Bool) (few : count (replicaCount f) (λ i. not (correct i)) ≤ f) (bound : f ≤ 5) where
   -- At most f faulty replicas: the correct ones are a quorum.
   pub correct-quorum : quorumSize f ≤ count (replicaCount f) correct
@@ -62,11 +66,11 @@ module _ (f : ℕ) (correct : ReplicaId → Bool) (few : count (replicaCount f) 
 
   -- Two quorums share a correct replica.
   pub quorums-meet : (p q : ReplicaId → Bool) → quorumSize f ≤ count (replicaCount f) p → quorumSize f ≤ count (replicaCount f) q → Common (replicaCount f) p q correct
-  quorums-meet p q hp hq = three-meet (replicaCount f) p q correct (omega (arith, correct-quorum))
+  quorums-meet p q hp hq = three-meet (replicaCount f) p q correct (omega (arith, quorums-overlap f bound, correct-quorum))
 
   -- A quorum contains f + 1 correct replicas.
   pub quorum-correct : (p : ReplicaId → Bool) → quorumSize f ≤ count (replicaCount f) p → f + 1 ≤ count (replicaCount f) (λ i. p i && correct i)
-  quorum-correct p hp = omega (arith, both-count (replicaCount f) p correct, correct-quorum)
+  quorum-correct p hp = omega (arith, both-count (replicaCount f) p correct, quorums-overlap f bound, correct-quorum)
 
 pub rising-first : (last n : ℕ) (x : ReplicaId) (xs : List ReplicaId) → rising last n (x ∷ xs) ≡ true → (last < x .0) × (x .0 ≤ n) × (rising (x .0) n xs ≡ true)
 unfolding rising
