@@ -3,7 +3,7 @@ use mathlib.Core.Path.{_≡_, refl, sym, ap, ap₂, _∙_}
 use mathlib.Core.Bool.{Bool, true, false, cond}
 use mathlib.Core.List.{List}
 use mathlib.Core.Logic.{⊎-elim}
-use mathlib.Core.Option.{Option, none, some}
+use mathlib.Core.Option.{Option}
 use Prim.Native.Nat.{ℕ, _≤_}
 use native.Mathlib.Omega.{arith}
 use lib.Dec.{eqb}
@@ -11,31 +11,25 @@ use lib.ListN.{length}
 use Rattle.base.specs.Counting.{replica}
 use Rattle.base.specs.Outcome.{Outcome, accepted, refused, guard}
 use Rattle.base.specs.Party.{replicaCount, isReplica}
-use Rattle.base.specs.Same.{same}
 use Rattle.base.specs.Timestamp.{number}
-use Rattle.base.proofs.Booleans.{and-true-both}
 use Rattle.base.proofs.Range.{bounds}
-use Rattle.base.proofs.Same.{same-equal}
 use Rattle.base.specs.declared.party.ClientId.{ClientId}
 use Rattle.base.specs.declared.party.RegisterId.{RegisterId}
 use Rattle.base.specs.declared.party.ReplicaId.{ReplicaId}
 use Rattle.base.specs.declared.replica_set.ReplicaSet.{ReplicaSet}
 use Rattle.wire.specs.Acceptance.{admitted, acceptance}
-use Rattle.wire.specs.Card.{isCard}
 use Rattle.wire.specs.Decode.{messageIn, registerIn, forRegister}
 use Rattle.wire.specs.Layout.{signature}
 use Rattle.wire.specs.Message.{Message, CARD}
 use Rattle.wire.specs.Parts.{partAt, cardAt, preparedPart, WholeIfThere}
 use Rattle.wire.specs.Proof.{PreparedProof}
-use Rattle.wire.specs.Sha256.{sha256}
 use Rattle.wire.specs.declared.message.Fields.{Fields}
 use Rattle.wire.specs.declared.message.Party.the-variants.{Client as AtClient}
 use Rattle.wire.proofs.Admitted.{admitted-passed, acceptance-accepted, acceptance-refused}
 use Rattle.wire.proofs.Handed.{handed-stamp, handed-prepared, handed-written, handed-card, reply-kind, register-is, proof-whole, signature-is, signature-length}
 use Rattle.wire.proofs.Parsed.{decode-splits}
-use Rattle.wire.proofs.card.Digests.{card-short}
 use Rattle.protocol.specs.Client.{Turn, withPhase, onStamp, onPrepared, onWritten, onCard, onReply, towards, clientStep}
-use Rattle.protocol.specs.Parts.{cardStands, startCard}
+use Rattle.protocol.specs.Parts.{cardStands}
 use Rattle.protocol.specs.Viewer.{onViewerReply, viewerStep}
 use Rattle.protocol.specs.declared.client.Client.{Client}
 use Rattle.protocol.specs.declared.client.Phase.{Phase}
@@ -44,11 +38,6 @@ use Rattle.client.specs.Roles.{afterCards, roleStep}
 use Rattle.client.specs.declared.role.Role.{Role}
 use Rattle.client.specs.declared.role.Role.the-variants.{Ordinary, Viewing}
 use Rattle.client.specs.Messages.{afterTests, Passing}
-
--- A card that passes 14 has at most 17 bytes.
-pub standing-short : (card : List ℕ) (proof : Option PreparedProof) → cardStands card proof ≡ true → length card ≤ 17
-standing-short card none e = rw (same-equal card startCard e) (omega arith)
-standing-short card (some proof) e = card-short card (and-true-both (isCard card) (same (sha256 card) (proof .digest)) e .0)
 
 -- The step is what follows for the message that was let through.
 module _ (client : Client) (bytes verdicts : List ℕ) (fields : Fields) (signers : ReplicaSet) (e : acceptance AtClient (client .f) bytes verdicts ≡ accepted (fields, signers)) where

@@ -8,7 +8,6 @@ use base::party::ReplicaId;
 use base::replica_set::ReplicaSet;
 use base::timestamp::Timestamp;
 use protocol::client::Client;
-use wire::card::CardCheck;
 use wire::layout::DIGEST;
 use wire::parts;
 ghost use mathlib.Core.Path.{_≡_};
@@ -135,11 +134,7 @@ pub(super) fn card_stands<'a>(card: &'a [u8], proof: &'a [u8]) -> bool
     if proof.len() == 0 {
         return is_start_card(card);
     }
-    let CardCheck::Good = wire::card::check(card) else {
-        return false;
-    };
-    let digest = wire::sha256::sha256(card).bytes;
-    same(&digest, parts::digest(proof))
+    wire::card::stands_under(card, parts::digest(proof))
 }
 
 // Whether a WRITTEN has the timestamp awaited, and its replica's was not taken yet.

@@ -21,7 +21,6 @@ use Rattle.base.proofs.Booleans.{and-true-both}
 use Rattle.base.proofs.Range.{bounds}
 use Rattle.base.proofs.Registers.{place-below}
 use Rattle.base.proofs.Same.{same-equal}
-use Rattle.wire.specs.Card.{isCard}
 use Rattle.wire.specs.Message.{Message, PREPARE, WRITE, STAMP, PREPARED, WRITTEN, CARD, IsSignature, PreparedFits, WrittenFits, IfThere, Fits, size, writtenSize}
 use Rattle.wire.specs.Proof.{PreparedProof, signerSet}
 use Rattle.wire.specs.Sha256.{sha256}
@@ -35,7 +34,7 @@ use Rattle.protocol.specs.declared.client.Written.{Written}
 use Rattle.protocol.proofs.Accepts.{Accepts, by-value, by-refusal, by-guard, by-cases}
 use Rattle.protocol.proofs.ArrayLaws.{zeros-fit, card-in-bytes, card-in-short, entries-in-length, entries-in-fit, issued-there, issued-timestamp, issued-size}
 use Rattle.protocol.proofs.Built.{built as built-shape}
-use Rattle.wire.proofs.card.Digests.{card-short}
+use Rattle.wire.proofs.card.Digests.{standing-under-short}
 use Rattle.protocol.proofs.ClientArrays.{digest-fits, signature-put, built-fit, built-few, number-fits, best-fits, successor-fits}
 use Rattle.protocol.proofs.ClientCases.{Leaves, SameCard, NewFrom, betterCard, ClientCase, stamp-counted, stamps-enough, stamps-ended, prepared-counted, prepareds-enough, written-counted, writtens-enough, card-counted, cards-agree, cards-viewed, cards-differ, back-counted, back-enough, LegalAnswer, PhaseFits, Follows, as-read, as-view, ClientFacts}
 use Rattle.protocol.proofs.ClientKept.{Kept, itself-kept, phase-kept, digest-changed, signatures-changed, signers-changed, written-changed, Best, better-kept, better-card-kept}
@@ -96,9 +95,9 @@ replica-range : (f : ℕ) (id : ReplicaId) → isReplica f id ≡ true → (1 �
 replica-range f id e = let range = bounds 1 (replicaCount f) (id .0) e in (range .0, omega arith)
 
 -- A card that stands has at most 17 bytes.
-standing-short : (card : List ℕ) (proof : Option PreparedProof) → cardStands card proof ≡ true → length card ≤ 17
+pub standing-short : (card : List ℕ) (proof : Option PreparedProof) → cardStands card proof ≡ true → length card ≤ 17
 standing-short card none e = rw (same-equal card startCard e) (omega arith)
-standing-short card (some proof) e = card-short card (and-true-both (isCard card) (same (sha256 card) (proof .digest)) e .0)
+standing-short card (some proof) e = standing-under-short card (proof .digest) e
 
 leaves : {turn : Turn} → Leaves turn (turn .answer) (turn .next .phase)
 leaves = record { answer-is = refl; phase-is = refl }

@@ -1,13 +1,12 @@
 -- Cards and proofs as the records keep them: arrays with zeros behind what is kept.
-use mathlib.Core.Bool.{Bool, _&&_}
+use mathlib.Core.Bool.{Bool}
 use mathlib.Core.List.{List, [], _∷_}
 use mathlib.Core.Option.{Option, none, some}
 use Prim.Native.Nat.{ℕ}
 use lib.Dec.{eqb}
 use Rattle.base.specs.Same.{same}
-use Rattle.wire.specs.Card.{isCard}
+use Rattle.wire.specs.Card.{standsUnder}
 use Rattle.wire.specs.Proof.{Entry, PreparedProof}
-use Rattle.wire.specs.Sha256.{sha256}
 use Rattle.wire.specs.Writing.{keptCard, keptEntries, unless}
 
 -- "The starting card is `00 00` hex."
@@ -28,4 +27,4 @@ ifIssued timestamp proof = unless (eqb timestamp 0) proof
 -- 14: "A card breaks its table, its digest differs from the proof's, or it lacks a proof and is not `00 00`."
 abbrev pub cardStands : List ℕ → Option PreparedProof → Bool
 cardStands card none = same card startCard
-cardStands card (some proof) = isCard card && same (sha256 card) (proof .digest)
+cardStands card (some proof) = standsUnder card (proof .digest)

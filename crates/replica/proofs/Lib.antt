@@ -3,4 +3,3 @@ pub mod Cells
 pub mod Lending
 pub mod Replies
 pub mod Slots
-pub mod Words

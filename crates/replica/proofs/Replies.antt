@@ -2,36 +2,30 @@
 use mathlib.Core.Path.{_≡_, refl, sym, ap, _∙_}
 use mathlib.Core.Bool.{Bool, true, false, _||_}
 use mathlib.Core.List.{List}
-use Prim.Native.Nat.{ℕ, _-_, _≤_, _<_, max}
+use Prim.Native.Nat.{ℕ, _≤_, _<_, max}
 use native.Mathlib.Omega.{arith}
 use borrow.Author.Tests.{le-leb}
 use lib.Dec.{eqb, leb, ltb}
 use lib.ListN.{length}
 use Rattle.base.specs.Outcome.{Outcome, accepted, refused, guard}
-use Rattle.base.specs.Same.{same}
 use Rattle.base.specs.Timestamp.{number, ofNumber, successor, successorOf}
 use Rattle.base.specs.declared.party.ClientId.{ClientId}
 use Rattle.base.specs.declared.party.RegisterId.{RegisterId}
 use Rattle.base.specs.declared.timestamp.Successor.{Successor}
 use Rattle.base.specs.declared.timestamp.Successor.the-variants.{Next, Missing}
 use Rattle.base.specs.declared.timestamp.Timestamp.{Timestamp}
-use Rattle.base.proofs.Booleans.{and-true-both}
 use Rattle.base.proofs.Outcome.{guard-passes}
 use Rattle.base.proofs.Timestamps.{ofNumber-number}
-use Rattle.wire.specs.Card.{isCard, cardDigest, digestAnswer}
+use Rattle.wire.specs.Card.{standsUnder}
 use Rattle.wire.specs.Message.{Message, PREPARED, WRITTEN, longest}
 use Rattle.wire.specs.Proof.{PreparedProof}
-use Rattle.wire.specs.Sha256.{sha256}
 use Rattle.wire.specs.Writing.{Wrote, encodedOutcome, unsigned}
-use Rattle.wire.specs.declared.card.CardCheck.the-variants.{Good, Refused as Bad}
-use Rattle.wire.specs.declared.card.CardDigest.{CardDigest}
 use Rattle.wire.specs.declared.writer.Encoded.{Encoded}
-use Rattle.wire.proofs.card.Digests.{card-short}
 use Rattle.protocol.specs.Replica.{heldTimestamp, Reply, answerOutcome, answering, isTimestamp, slotIs, slotTakes, withWritten, withSlot, withSlots, holding, withHeld, afterWrite, onWrite, replicaAnswers}
 use Rattle.protocol.specs.declared.replica.Replica.{Replica}
 use Rattle.protocol.specs.declared.replica.ReplicaAnswer.{ReplicaAnswer}
 use Rattle.protocol.specs.declared.replica.ReplicaAnswer.the-variants.{Send, Refused}
-use Rattle.replica.specs.Kinds.{ownOrMissing, prepareWith, standsFor}
+use Rattle.replica.specs.Kinds.{ownOrMissing, prepareWith}
 use Rattle.replica.specs.Leaving.{keeping, Leaves}
 use Rattle.replica.specs.Stepping.{Changes}
 use Rattle.replica.specs.declared.Stepped.{Stepped}
@@ -69,22 +63,6 @@ sends-keeping register replica old new outcome message next encoded answer stepp
 pub refuses : (register : RegisterId) (replica : Replica) (old : List ℕ) (outcome : Outcome Reply) (number : ℕ) (stepped : Stepped)
     → outcome ≡ refused number → stepped ≡ keeping (Refused number) replica → Leaves replica (replicaAnswers register replica old outcome) stepped old
 refuses register replica old outcome number stepped e s = rw (e, s) (record { answer = refl; next = refl; output = refl; changes = unchanged replica (Refused number) })
-
--- What the digest of a card says of test 14.
-module _ (card digest : List ℕ) (made : CardDigest) (e : made ≡ cardDigest card) where
-  pub stands : made .check ≡ Good → same (made .bytes) digest ≡ standsFor card digest
-  stands good = go (isCard card) refl
-    where
-      go : (b : Bool) → isCard card ≡ b → same (made .bytes) digest ≡ standsFor card digest
-      go true h = rw (e, h)
-      go false h = let f : made ≡ digestAnswer false card = e ∙ ap (λ (b : Bool). digestAnswer b card) h in let z : _≡_ {A = ℕ} 0 1 = cc in absurd (omega arith)
-
-  pub breaks : (number : ℕ) → made .check ≡ Bad number → standsFor card digest ≡ false
-  breaks number bad = go (isCard card) refl
-    where
-      go : (b : Bool) → isCard card ≡ b → standsFor card digest ≡ false
-      go true h = let f : made ≡ digestAnswer true card = e ∙ ap (λ (b : Bool). digestAnswer b card) h in let z : _≡_ {A = ℕ} 0 1 = cc in absurd (omega arith)
-      go false h = rw h
 
 -- Test 13, from the successor that was found.
 module _ (timestamp : ℕ) (shown : Timestamp) (client : ClientId) (found : Successor) (small : shown .client .0 < 256) (e : successorOf found ≡ successor shown client) where
@@ -126,11 +104,11 @@ module _ (replica : Replica) (client : ClientId) (timestamp : ℕ) (digest : Lis
 
 -- WRITE, test by test.
 module _ (replica : Replica) (card : List ℕ) (proof : PreparedProof) where
-  pub wrong-card : standsFor card (proof .digest) ≡ false → onWrite replica card proof ≡ refused 14
+  pub wrong-card : standsUnder card (proof .digest) ≡ false → onWrite replica card proof ≡ refused 14
   unfolding guard
   wrong-card e = rw e
 
-  pub right-card : standsFor card (proof .digest) ≡ true
+  pub right-card : standsUnder card (proof .digest) ≡ true
       → onWrite replica card proof ≡ answering (WRITTEN (replica .id) (proof .timestamp)) (withHeld replica (afterWrite card proof (replica .register .held)))
   unfolding guard
   right-card e = rw e
@@ -142,6 +120,3 @@ module _ (replica : Replica) (card : List ℕ) (proof : PreparedProof) where
   pub is-later : ltb (heldTimestamp (replica .register .held)) (proof .timestamp) ≡ true → afterWrite card proof (replica .register .held) ≡ holding card proof
   unfolding afterWrite
   is-later e = rw e
-
-pub standing-short : (card digest : List ℕ) → standsFor card digest ≡ true → length card ≤ 17
-standing-short card digest e = card-short card (and-true-both (isCard card) (same (sha256 card) digest) e .0)

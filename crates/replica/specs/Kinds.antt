@@ -1,4 +1,4 @@
--- PREPARE and WRITE on plain values, as the code reads them: once 2 to 11 are passed, what a replica makes of them.
+-- PREPARE on plain values, as the code reads it: what a replica makes of it once 2 to 11 are passed.
 use mathlib.Core.Bool.{Bool, _&&_, _||_, cond}
 use mathlib.Core.List.{List}
 use Prim.Native.Nat.{ℕ, _+_, _*_, _%_, max}
@@ -7,9 +7,7 @@ use Rattle.base.specs.Outcome.{Outcome, accepted, guard, _>>=_}
 use Rattle.base.specs.Same.{same}
 use Rattle.base.specs.Timestamp.{number, ofNumber, successor}
 use Rattle.base.specs.declared.party.ClientId.{ClientId}
-use Rattle.wire.specs.Card.{isCard}
 use Rattle.wire.specs.Message.{PREPARED}
-use Rattle.wire.specs.Sha256.{sha256}
 use Rattle.protocol.specs.Replica.{withWritten, withSlot, slotIs, slotTakes, isTimestamp, Reply, answering, withSlots}
 use Rattle.protocol.specs.declared.replica.Replica.{Replica}
 use Rattle.protocol.specs.declared.replica.Slots.{Slots}
@@ -37,7 +35,3 @@ prepareWith replica client timestamp digest shown last =
     (guard 13 (isTimestamp timestamp (successor (ofNumber shown) client))
     (preparedWith client timestamp digest (max (number (replica .register .slots .written)) last) (replica .register .slots) >>= λ slots.
     answering (PREPARED (replica .id) timestamp digest) (withSlots replica slots)))
-
--- 14 of a card with its proof's digest.
-abbrev pub standsFor : List ℕ → List ℕ → Bool
-standsFor card digest = isCard card && same (sha256 card) digest

@@ -1,7 +1,6 @@
 // The four requests on plain values, each with its reply in the output, for the register that was asked for.
 use crate::Prepared;
 use crate::Stepped;
-use crate::digests::same_digest;
 use crate::fresh_held;
 use crate::register::holding;
 use crate::register::is_kept;
@@ -23,7 +22,7 @@ use protocol::replica::Register;
 use protocol::replica::Replica;
 use protocol::replica::ReplicaAnswer;
 use protocol::replica::Slots;
-use wire::card::CardCheck;
+use wire::card::stands_under;
 use wire::layout::DIGEST;
 use wire::parts;
 use wire::writer::Encoded;
@@ -36,7 +35,7 @@ ghost use Rattle.wire.specs.Parts.{Whole};
 ghost use Rattle.wire.specs.Proof.{preparedFrom, signerSet};
 ghost use Rattle.wire.specs.Writing.{encodedOutcome};
 ghost use Rattle.protocol.specs.Replica.{answerOutcome, isTimestamp, withSlots, withHeld, onReadStamp, onWrite, onRead, replicaAnswers};
-ghost use Rattle.replica.specs.Kinds.{ownOrMissing, standsFor, prepareWith};
+ghost use Rattle.replica.specs.Kinds.{ownOrMissing, prepareWith};
 ghost use Rattle.replica.specs.Leaving.{nothingPrepared, keeping, Leaves};
 
 // In place of what was not prepared.
@@ -238,19 +237,6 @@ pub(super) fn prepare(
     }
 }
 
-// Test 14 of a card with its proof's digest.
-fn stands_for(card: &[u8], digest: &[u8]) -> bool
-    ensures { λ r. ⌜ r ≡ standsFor (now (card .entry)) (now (digest .entry)) ⌝ }
-{
-    let made = wire::card::digest(card);
-    let check = made.check;
-    let CardCheck::Good = check else {
-        return false;
-    };
-    let found = made.bytes;
-    same_digest(&found, digest)
-}
-
 // WRITE
 pub(super) fn write(
     replica: Replica,
@@ -263,7 +249,7 @@ pub(super) fn write(
     requires { ⌜ Whole (now proof) × (signers ≡ signerSet (preparedFrom (now proof) .entries)) × (longest ≤ length (now out)) ⌝ }
     ensures { λ r. ⌜ Leaves replica (replicaAnswers register replica (now (out .entry)) (onWrite replica (now (card .entry)) (preparedFrom (now (proof .entry))))) r (now (out .exit)) ⌝ }
 {
-    if !stands_for(card, parts::digest(proof)) {
+    if !stands_under(card, parts::digest(proof)) {
         return refuse(replica, BAD_CARD);
     }
     let timestamp = parts::timestamp(proof);

@@ -1,5 +1,4 @@
 // The replica engine (document 01: a holder) of one register: a fresh one, the step by value, and the thin step on a lent register.
-mod digests;
 mod kinds;
 mod register;
 mod requests;

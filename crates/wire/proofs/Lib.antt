@@ -27,3 +27,4 @@ pub mod Unsigned
 pub mod Verdicts
 pub mod Widths
 pub mod Windows
+pub mod Words

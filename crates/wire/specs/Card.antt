@@ -9,13 +9,13 @@ use Rattle.base.specs.BigEndian.{fromBytes, toBytes}
 use Rattle.base.specs.BitMap.{mapOf}
 use Rattle.base.specs.Outcome.{Outcome, accepted, refused, guard}
 use Rattle.base.specs.Range.{within}
+use Rattle.base.specs.Same.{same}
 use Rattle.wire.specs.declared.card.Row.{Row}
 use Rattle.wire.specs.declared.card.FieldRead.{FieldRead}
 use Rattle.wire.specs.declared.card.FieldRead.the-variants.{Value, Nothing}
 use Rattle.wire.specs.Sha256.{sha256}
 use Rattle.wire.specs.declared.card.CardCheck.{CardCheck}
 use Rattle.wire.specs.declared.card.CardCheck.the-variants.{Good, Refused}
-use Rattle.wire.specs.declared.card.CardDigest.{CardDigest}
 use Rattle.wire.specs.declared.card.CardFields.{CardFields}
 use Rattle.wire.specs.declared.card.CardRead.{CardRead}
 
@@ -143,10 +143,6 @@ readAnswer (some fields) = record { check = Good; fields = fieldsRecord fields }
 abbrev pub cardRead : List ℕ → CardRead
 cardRead card = readAnswer (readCard card)
 
--- "The card digest is SHA-256 of its bytes."
-abbrev pub digestAnswer : Bool → List ℕ → CardDigest
-digestAnswer true card = record { check = Good; bytes = sha256 card }
-digestAnswer false card = record { check = Refused 14; bytes = replicate 32 0 }
-
-abbrev pub cardDigest : List ℕ → CardDigest
-cardDigest card = digestAnswer (isCard card) card
+-- "The card digest is SHA-256 of its bytes." Of a card with a proof, 14: it "breaks its table", or "its digest differs from the proof's".
+abbrev pub standsUnder : List ℕ → List ℕ → Bool
+standsUnder card digest = isCard card && same (sha256 card) digest

@@ -1,12 +1,12 @@
 // Cards: the value of the register.
-use crate::layout::DIGEST;
+use crate::digest_words::same_digest;
 use base::refusal::BAD_CARD;
 ghost use mathlib.Core.Path.{_≡_};
 ghost use mathlib.Core.Option.{none};
 ghost use Prim.Native.Nat.{_+_, _≤_, _<_};
 ghost use lib.ListN.{length, getD, drop};
 ghost use Rattle.base.specs.BigEndian.{fromBytes};
-ghost use Rattle.wire.specs.Card.{row, table, standing, readFields, goodCardMap, checkCard, cardOutcome, fieldOf, readAnswer, cardRead, cardDigest};
+ghost use Rattle.wire.specs.Card.{row, table, standing, readFields, goodCardMap, checkCard, cardOutcome, fieldOf, readAnswer, cardRead, standsUnder};
 
 pub enum CardCheck {
     Good,
@@ -22,12 +22,6 @@ pub struct CardFields {
 pub struct CardRead {
     pub check: CardCheck,
     pub fields: CardFields,
-}
-
-// A card's digest; 32 zero bytes where the card is refused.
-pub struct CardDigest {
-    pub check: CardCheck,
-    pub bytes: [u8; DIGEST],
 }
 
 // A row of the card's table: how many bytes the field has, its least and its greatest value.
@@ -189,19 +183,13 @@ pub fn check(card: &[u8]) -> CardCheck
     read(card).check
 }
 
-// The digest of a card alone, or refusal 14.
-pub fn digest(card: &[u8]) -> CardDigest
-    ensures { λ r. ⌜ r ≡ cardDigest (now (card .entry)) ⌝ }
+// Whether a card keeps its table and has this digest: test 14 of a card with its proof's.
+pub fn stands_under(card: &[u8], digest: &[u8]) -> bool
+    ensures { λ r. ⌜ r ≡ standsUnder (now (card .entry)) (now (digest .entry)) ⌝ }
 {
     let CardCheck::Good = check(card) else {
-        return CardDigest {
-            check: CardCheck::Refused(BAD_CARD),
-            bytes: [0; DIGEST],
-        };
+        return false;
     };
-    let bytes = crate::sha256::sha256(card).bytes;
-    CardDigest {
-        check: CardCheck::Good,
-        bytes,
-    }
+    let found = crate::sha256::sha256(card).bytes;
+    same_digest(&found, digest)
 }

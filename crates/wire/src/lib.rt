@@ -4,6 +4,7 @@ pub mod arrays;
 pub mod card;
 pub mod card_part;
 mod checks;
+mod digest_words;
 mod frame;
 pub mod layout;
 pub mod message;

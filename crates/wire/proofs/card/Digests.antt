@@ -8,9 +8,11 @@ use native.Mathlib.Omega.{arith}
 use borrow.Author.Tests.{le-leb}
 use lib.ListN.{length}
 use Rattle.base.specs.Outcome.{accepted}
+use Rattle.base.specs.Same.{same}
+use Rattle.base.proofs.Booleans.{and-true-both}
 use Rattle.base.proofs.Outcome.{guard-passes, guard-refuses}
-use Rattle.wire.specs.Card.{Fields, readCard, isSome, isCard, checkCard, cardOutcome}
-use Rattle.wire.specs.Sha256.{answer, digestOf, longestInput}
+use Rattle.wire.specs.Card.{Fields, readCard, isSome, isCard, checkCard, cardOutcome, standsUnder}
+use Rattle.wire.specs.Sha256.{sha256, answer, digestOf, longestInput}
 use Rattle.wire.specs.declared.card.CardCheck.{CardCheck}
 use Rattle.wire.specs.declared.card.CardCheck.the-variants.{Good, Refused}
 use Rattle.wire.proofs.card.RoundTrip.{at-most-17}
@@ -36,6 +38,9 @@ card-short card h = go (readCard card) refl
     go : (fields : Option Fields) → readCard card ≡ fields → length card ≤ 17
     go none e = let z : _≡_ {A = ℕ} 0 1 = cc (ap isSome e) in absurd (omega arith)
     go (some fields) e = at-most-17 card fields e
+
+pub standing-under-short : (card digest : List ℕ) → standsUnder card digest ≡ true → length card ≤ 17
+standing-under-short card digest e = card-short card (and-true-both (isCard card) (same (sha256 card) digest) e .0)
 
 -- A good card is short enough for the digest routine.
 pub good-digest : (card : List ℕ) → isCard card ≡ true → digestOf card ≡ answer true card

@@ -12,7 +12,8 @@ use Rattle.protocol.specs.Parts.{cardStands}
 use Rattle.protocol.specs.declared.client.ClientAnswer.the-variants.{Refused}
 use Rattle.client.specs.Roles.{afterCards}
 use Rattle.client.proofs.Answering.{plain-call}
-use Rattle.client.proofs.Parting.{card-step, proof-there, standing-short}
+use Rattle.protocol.proofs.ClientReplies.{standing-short}
+use Rattle.client.proofs.Parting.{card-step, proof-there}
 use Rattle.client.proofs.messages.take_card.Statement.{statement}
 use Rattle.client.proofs.messages.take_card.Tie as tie
 

@@ -7,12 +7,13 @@ use borrow.Author.Tests.{not-true, not-false}
 use borrow.Author.Needs.{needs}
 use lib.Dec.{ltb}
 use Rattle.base.specs.Timestamp.{number}
+use Rattle.wire.specs.Card.{standsUnder}
 use Rattle.wire.specs.Message.{WRITTEN}
 use Rattle.wire.specs.Proof.{preparedFrom}
 use Rattle.wire.proofs.Handed.{ByParts, by-parts}
+use Rattle.wire.proofs.card.Digests.{standing-under-short}
 use Rattle.protocol.specs.Replica.{heldTimestamp, afterWrite, answering, onWrite, withHeld}
-use Rattle.replica.specs.Kinds.{standsFor}
-use Rattle.replica.proofs.Replies.{sends, sends-keeping, refuses, wrong-card, right-card, not-later, is-later, standing-short}
+use Rattle.replica.proofs.Replies.{sends, sends-keeping, refuses, wrong-card, right-card, not-later, is-later}
 use Rattle.replica.proofs.kinds.write.Statement.{statement}
 use Rattle.replica.proofs.kinds.write.Tie as tie
 
@@ -20,11 +21,11 @@ parts : (c : tie.Start) → ByParts (c .args .proof .now)
 parts c = by-parts (c .args .proof .now) (c .pre .0)
 
 -- Test 14 as the code asks it.
-asked : (c : tie.After-stands-for)
-    → standsFor (c .before .before .before .before .before .args .card .now) (preparedFrom (c .before .before .before .before .before .args .proof .now) .digest) ≡ c .stands-for .result
+asked : (c : tie.After-stands-under)
+    → standsUnder (c .before .before .before .before .before .args .card .now) (preparedFrom (c .before .before .before .before .before .args .proof .now) .digest) ≡ c .stands-under .result
 asked c =
     let s = c .before .before .before .before .before in
-    rw (parts s .digest, ← c .before .digest .ensures) (sym (c .stands-for .ensures))
+    rw (parts s .digest, ← c .before .digest .ensures) (sym (c .stands-under .ensures))
 
 -- The timestamp as the code reads it.
 stamp : (c : tie.After-timestamp) → preparedFrom (c .before .before .before .before .before .before .before .args .proof .now) .timestamp ≡ number (c .timestamp .result)
@@ -37,7 +38,7 @@ returns c =
     refuses (a .register) (a .replica) (a .out .now) _ 14 _ (wrong-card (a .replica) (a .card .now) (preparedFrom (a .proof .now)) (asked x ∙ not-true _ (c .before .if1 .taken))) (c .refuse .ensures)
 
 -- Test 14 is passed: WRITTEN with the timestamp that the code wrote.
-right : (c : tie.After-timestamp) → standsFor (c .before .before .before .before .before .before .before .args .card .now) (preparedFrom (c .before .before .before .before .before .before .before .args .proof .now) .digest) ≡ true
+right : (c : tie.After-timestamp) → standsUnder (c .before .before .before .before .before .before .before .args .card .now) (preparedFrom (c .before .before .before .before .before .before .before .args .proof .now) .digest) ≡ true
 right c = asked (c .before .before) ∙ not-false _ (c .before .if1 .left)
 
 replies : (c : tie.After-timestamp)
@@ -64,7 +65,7 @@ holding-requires : tie.Need-holding-requires
 holding-requires c κs =
     let x = c .before .before .before .before .before .before .before .before in
     let s = x .before .before .before .before .before .before .before in
-    (s .pre .0, s .pre .1, standing-short (s .args .card .now) (preparedFrom (s .args .proof .now) .digest) (right x))
+    (s .pre .0, s .pre .1, standing-under-short (s .args .card .now) (preparedFrom (s .args .proof .now) .digest) (right x))
 
 returns-3 : tie.Need-returns-3
 returns-3 c =

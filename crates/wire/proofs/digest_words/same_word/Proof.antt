@@ -1,9 +1,9 @@
--- `replica::digests::same_word` meets its contract. Assumes nothing.
+-- `wire::digest_words::same_word` meets its contract. Assumes nothing.
 use native.Mathlib.Omega.{arith}
 use borrow.Author.Needs.{needs}
-use Rattle.replica.proofs.Words.{word-same}
-use Rattle.replica.proofs.digests.same_word.Statement.{statement}
-use Rattle.replica.proofs.digests.same_word.Tie as tie
+use Rattle.wire.proofs.Words.{word-same}
+use Rattle.wire.proofs.digest_words.same_word.Statement.{statement}
+use Rattle.wire.proofs.digest_words.same_word.Tie as tie
 
 returns : tie.Need-returns
 returns c =

@@ -1,6 +1,6 @@
 // Digests compared word by word, which takes a WRITE fewer instructions than byte by byte (docs/SPEED.md).
+use crate::layout::DIGEST;
 use base::big_endian::from_four;
-use wire::layout::DIGEST;
 ghost use mathlib.Core.Path.{_≡_};
 ghost use mathlib.Core.List.{_∷_, []};
 ghost use lib.ListN.{length};

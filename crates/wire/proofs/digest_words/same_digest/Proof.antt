@@ -1,4 +1,4 @@
--- `replica::digests::same_digest` meets its contract. Assumes nothing.
+-- `wire::digest_words::same_digest` meets its contract. Assumes nothing.
 use mathlib.Core.Path.{_≡_, sym, ap, _∙_}
 use Prim.Native.Nat.{ℕ, _-_, _%_, _≤_, _<_}
 use native.Mathlib.Omega.{arith}
@@ -8,9 +8,9 @@ use lib.ListN.{length, getD}
 use lib.Seq.{ext-getD}
 use Rattle.base.specs.Same.{same}
 use Rattle.base.proofs.Same.{same-equal, same-itself, same-differ}
-use Rattle.replica.proofs.Words.{four-more, four-differ}
-use Rattle.replica.proofs.digests.same_digest.Statement.{statement}
-use Rattle.replica.proofs.digests.same_digest.Tie as tie
+use Rattle.wire.proofs.Words.{four-more, four-differ}
+use Rattle.wire.proofs.digest_words.same_digest.Statement.{statement}
+use Rattle.wire.proofs.digest_words.same_digest.Tie as tie
 
 abbrev Inv-loop : tie.InvT-loop
 Inv-loop digest bytes i₀ i = (i ≤ 32) × (i % 4 ≡ 0) × ((k : ℕ) → k < i → getD digest k 0 ≡ getD bytes k 0)

@@ -1,0 +1,32 @@
+-- `wire::card::stands_under` meets its contract. Assumes nothing.
+use mathlib.Core.Path.{_∙_}
+use Rattle.wire.proofs.card.Digests.{checked-good, checked-refused, good-digest}
+use borrow.Author.Needs.{needs}
+use Rattle.wire.proofs.card.stands_under.Statement.{statement}
+use Rattle.wire.proofs.card.stands_under.Tie as tie
+
+returns : tie.Need-returns
+returns c =
+    let check = c .before .before .check in
+    let card = c .before .before .before .before .before .args .card .now in
+    rw (checked-refused card (check .result) (check .ensures) _ (c .enum-told2 .given .1))
+
+returns-2 : tie.Need-returns-2
+returns-2 c =
+    let d = c .before .before .before in
+    let check = d .before .before .before .check in
+    let card = d .before .before .before .before .before .before .args .card .now in
+    let good = checked-good card (check .result) (check .ensures) (d .before .enum-told .given .1) in
+    rw (good) (rw (d .sha256 .ensures ∙ good-digest card good) at (c .same-digest .ensures))
+
+pub stands-under-spec : {M : Type 1} → statement M
+stands-under-spec =
+    tie.close
+    (tie.spec
+    (λ c κs. search needs)
+    (λ c. search needs)
+    (λ c. search needs)
+    returns
+    (λ c κs. search needs)
+    (λ c κs. search needs)
+    returns-2)
