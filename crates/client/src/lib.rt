@@ -9,7 +9,6 @@ mod role;
 mod signatures;
 pub mod viewer;
 mod write;
-mod written;
 
 use answers::refused;
 use base::party::ClientId;

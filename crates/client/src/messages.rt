@@ -6,7 +6,7 @@ use crate::replies::card_stands;
 use crate::role::Role;
 use crate::write::on_prepared;
 use crate::write::on_stamp;
-use crate::written::on_written;
+use crate::write::on_written;
 use base::party::ReplicaId;
 use base::refusal::BAD_CARD;
 use base::refusal::NOT_AWAITED;

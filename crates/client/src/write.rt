@@ -1,4 +1,4 @@
-// A write's replies: STAMPs, PREPAREDs, and the WRITTENs that end it.
+// A write's replies: STAMPs, PREPAREDs, and the WRITTENs that end it, or a write-back.
 use crate::Stepped;
 use crate::answers::card_digest;
 use crate::answers::done;
@@ -6,6 +6,7 @@ use crate::answers::plain;
 use crate::answers::refused;
 use crate::answers::sent;
 use crate::answers::waits;
+use crate::read::after_write_back;
 use crate::record::built;
 use crate::record::last_written;
 use crate::record::with_digest;
@@ -16,6 +17,7 @@ use crate::record::with_signers;
 use crate::replies::best_of;
 use crate::replies::is_awaited;
 use crate::replies::is_awaited_prepared;
+use crate::replies::is_awaited_written;
 use crate::replies::keep_better;
 use crate::signatures::with_signature;
 use base::party::ClientId;
@@ -28,13 +30,14 @@ use protocol::client::Client;
 use protocol::client::ClientAnswer;
 use protocol::client::Phase;
 ghost use mathlib.Core.Path.{_≡_};
-ghost use Prim.Native.Nat.{_≤_};
+ghost use mathlib.Core.List.{List};
+ghost use Prim.Native.Nat.{ℕ, _≤_};
 ghost use lib.ListN.{length};
 ghost use Rattle.base.specs.ReplicaSet.{with};
 ghost use Rattle.base.specs.Timestamp.{number, successor};
 ghost use Rattle.wire.specs.Message.{longest};
 ghost use Rattle.wire.specs.Parts.{preparedPart, preparedSigners, WholeIfThere};
-ghost use Rattle.protocol.specs.Client.{clientAnswers, toPrepare, afterStamp, onStamp, afterPrepared, onPrepared, afterWritten, withSignature, withSignatures};
+ghost use Rattle.protocol.specs.Client.{clientAnswers, toPrepare, afterStamp, onStamp, afterPrepared, onPrepared, afterWritten, onWritten, withSignature, withSignatures};
 ghost use Rattle.client.specs.Leaving.{callOf, Takes, TakesAny};
 
 // PREPARE the successor of the largest timestamp. The last count has none: the write ends.
@@ -194,7 +197,7 @@ fn after_written(mut client: Client, timestamp: Timestamp, counted: ReplicaSet) 
 }
 
 // A WRITTEN to a client that waits for them to end its write.
-pub(super) fn count_written(
+fn count_written(
     mut client: Client,
     asked: Timestamp,
     counted: ReplicaSet,
@@ -207,4 +210,32 @@ pub(super) fn count_written(
     let signatures = client.signatures;
     client = with_signatures(client, with_signature(signatures, sender, signature));
     after_written(client, asked, counted.with(sender))
+}
+
+// A WRITTEN, and the phase that it meets: a write's, or a write-back's.
+pub(super) fn on_written(
+    client: Client,
+    phase: Phase,
+    sender: ReplicaId,
+    timestamp: Timestamp,
+    signature: &[u8],
+) -> Stepped
+    requires { ⌜ (1 ≤ sender .0) × (sender .0 ≤ 16) × (length (now signature) ≡ 64) ⌝ }
+    ensures { λ r. ⌜ ((old : List ℕ) → callOf r old ≡ clientAnswers client old (onWritten client sender (number timestamp) (now (signature .entry)) phase)) ⌝ }
+{
+    match phase {
+        Phase::Writtens(asked, counted) => {
+            if !is_awaited_written(timestamp, asked, counted, sender) {
+                return refused(NOT_AWAITED, client);
+            }
+            count_written(client, asked, counted, sender, signature)
+        }
+        Phase::WriteBack(asked, counted) => {
+            if !is_awaited_written(timestamp, asked, counted, sender) {
+                return refused(NOT_AWAITED, client);
+            }
+            after_write_back(client, asked, counted.with(sender))
+        }
+        _ => refused(NOT_AWAITED, client),
+    }
 }

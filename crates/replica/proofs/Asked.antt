@@ -33,8 +33,8 @@ use Rattle.protocol.specs.Replica.{afterPrepare, Reply, onReadStamp, onPrepare,
 use Rattle.protocol.specs.declared.replica.Replica.{Replica}
 use Rattle.protocol.specs.declared.replica.ReplicaAnswer.the-variants.{Refused}
 use Rattle.protocol.proofs.Calls.{long-output, replica-short}
-use Rattle.replica.specs.Kinds.{preparedWith, prepareWith}
 use Rattle.replica.specs.Leaving.{keeping, Leaves, Answers}
+use Rattle.replica.specs.Prepares.{preparedWith, prepareWith}
 use Rattle.replica.specs.Stepping.{Changes, Steps}
 use Rattle.replica.specs.declared.Stepped.{Stepped}
 use Rattle.replica.proofs.Replies.{unchanged}

@@ -25,8 +25,8 @@ use Rattle.protocol.specs.Replica.{heldTimestamp, Reply, answerOutcome, answeri
 use Rattle.protocol.specs.declared.replica.Replica.{Replica}
 use Rattle.protocol.specs.declared.replica.ReplicaAnswer.{ReplicaAnswer}
 use Rattle.protocol.specs.declared.replica.ReplicaAnswer.the-variants.{Send, Refused}
-use Rattle.replica.specs.Kinds.{ownOrMissing, prepareWith}
 use Rattle.replica.specs.Leaving.{keeping, Leaves}
+use Rattle.replica.specs.Prepares.{ownOrMissing, prepareWith}
 use Rattle.replica.specs.Stepping.{Changes}
 use Rattle.replica.specs.declared.Stepped.{Stepped}
 use Rattle.replica.proofs.Slots.{admitted, not-admitted}

@@ -18,7 +18,7 @@ use Rattle.base.proofs.Same.{same-equal}
 use Rattle.base.proofs.Timestamps.{ofNumber-number}
 use Rattle.protocol.specs.Replica.{slotCount, slotDigest, slotTimestamp, slotIs, slotTakes, withSlot, withWritten}
 use Rattle.protocol.specs.declared.replica.Slots.{Slots}
-use Rattle.replica.specs.Kinds.{preparedWith}
+use Rattle.replica.specs.Prepares.{preparedWith}
 
 -- A part of a list put back where it stands.
 part-back : (at width next : ℕ) (l : List ℕ) → next ≡ at + width → take at l ++ (take width (drop at l) ++ drop next l) ≡ l

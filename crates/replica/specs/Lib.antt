@@ -1,3 +1,3 @@
-pub mod Kinds
 pub mod Leaving
+pub mod Prepares
 pub mod Stepping

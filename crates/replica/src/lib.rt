@@ -1,8 +1,12 @@
 // The replica engine (document 01: a holder) of one register: a fresh one, the step by value, and the thin step on a lent register.
-mod kinds;
+mod answers;
+mod prepare;
+mod read;
+mod read_stamp;
 mod register;
-mod requests;
+mod write;
 
+use answers::refuse;
 use base::party::ClientId;
 use base::party::ReplicaId;
 use base::refusal::OUTPUT_TOO_SHORT;
@@ -21,9 +25,14 @@ use wire::layout::CARD_ROOM;
 use wire::layout::DIGEST;
 use wire::layout::ENTRIES_ROOM;
 use wire::layout::LONGEST_MESSAGE;
+use wire::message::Fields;
 use wire::message::Party;
 ghost use mathlib.Core.Path.{_≡_};
+ghost use Prim.Native.Nat.{_≤_};
+ghost use lib.ListN.{length};
+ghost use Rattle.wire.specs.Message.{longest};
 ghost use Rattle.protocol.specs.Replica.{freshRegister};
+ghost use Rattle.replica.specs.Leaving.{Passes, Answers};
 ghost use Rattle.replica.specs.Stepping.{partOf, Steps, Changes};
 
 // What a PREPARE puts: its client's slot, and the written timestamp.
@@ -72,18 +81,51 @@ pub fn fresh_register() -> Register
     }
 }
 
+// What a replica makes of a message that tests 2 to 11 let through: a file for each kind.
+fn on_message(
+    replica: Replica,
+    message: &[u8],
+    fields: Fields,
+    signers: ReplicaSet,
+    out: &mut [u8],
+) -> Stepped
+    requires { ⌜ Passes replica (now message) fields signers × (longest ≤ length (now out)) ⌝ }
+    ensures { λ r. ⌜ Answers replica (now (message .entry)) fields (now (out .entry)) r (now (out .exit)) ⌝ }
+{
+    let kind = fields.kind;
+    let register = fields.register;
+    match kind {
+        1 => read_stamp::read_stamp(
+            replica,
+            register,
+            ClientId(fields.sender),
+            fields.nonce,
+            out,
+        ),
+        2 => prepare::on_prepare(replica, message, fields, out),
+        3 => write::on_write(replica, message, fields, signers, out),
+        _ => read::read(
+            replica,
+            register,
+            ClientId(fields.sender),
+            fields.nonce,
+            out,
+        ),
+    }
+}
+
 // A message is handed to a replica, with a verdict for each signature and an output for the reply.
 pub fn step(replica: Replica, message: &[u8], verdicts: &[u8], out: &mut [u8]) -> Stepped
     ensures { λ r. ⌜ Steps replica (now (message .entry)) (now (verdicts .entry)) (now (out .entry)) (r .answer) (r .replica) (now (out .exit)) × Changes replica r ⌝ }
 {
     if out.len() < LONGEST_MESSAGE {
-        return kinds::refuse(replica, OUTPUT_TOO_SHORT);
+        return refuse(replica, OUTPUT_TOO_SHORT);
     }
     match accept(Party::Replica, replica.f, message, verdicts) {
         Accepting::Message(fields, signers) => {
-            requests::on_message(replica, message, fields, signers, out)
+            on_message(replica, message, fields, signers, out)
         }
-        Accepting::Refused(number) => kinds::refuse(replica, number),
+        Accepting::Refused(number) => refuse(replica, number),
     }
 }
 

@@ -24,7 +24,7 @@ ghost use Rattle.base.specs.Timestamp.{number};
 ghost use Rattle.protocol.specs.Replica.{holding};
 ghost use Rattle.wire.specs.Parts.{Whole};
 ghost use Rattle.wire.specs.Proof.{preparedFrom, signerSet};
-ghost use Rattle.replica.specs.Kinds.{isSlot, takesSlot};
+ghost use Rattle.replica.specs.Prepares.{isSlot, takesSlot};
 ghost use Rattle.replica.specs.Stepping.{puttingCount, puttingDigest, putting};
 
 // Whether a client's slot has this digest. The digests are copied here, where they are read.
