@@ -6,16 +6,20 @@ use wire::card::CardRead;
 
 const BITS: usize = 7;
 
+fn print_field(bit: usize, value: u32) {
+    console::print(b" ");
+    console::print_number(bit as u64);
+    console::print(b"=");
+    console::print_number(value as u64);
+}
+
 fn print_fields(fields: CardFields) {
     let values = fields.values;
     let mut rest = fields.map;
     let mut bit = 0;
     while bit < BITS {
         if rest % 2 == 1 {
-            text::print(b" ");
-            text::print_number(bit as u32);
-            text::print(b"=");
-            text::print_number(values[bit]);
+            print_field(bit, values[bit]);
         }
         rest = rest / 2;
         bit += 1;
@@ -26,33 +30,33 @@ fn print_card(read: CardRead) {
     let check = read.check;
     match check {
         CardCheck::Good => {
-            text::print(b"good");
+            console::print(b"good");
             let fields = read.fields;
             print_fields(fields);
         }
         CardCheck::Refused(number) => {
-            text::print(b"refused ");
-            text::print_number(number as u32);
+            console::print(b"refused ");
+            console::print_number(number as u64);
         }
     }
-    text::print(b"\n");
+    console::print(b"\n");
 }
 
 // The bytes have room for any line of the input.
 fn answer(line: &[u8]) {
     let mut bytes = [0u8; 32768];
-    let n = text::read_hex(line, &mut bytes);
+    let n = text::hex::read_hex(line, &mut bytes);
     if line.len() == 2 * n {
         print_card(wire::card::read(&bytes[..n]));
     } else {
-        text::print(b"unread\n");
+        console::print(b"unread\n");
     }
 }
 
 fn answer_lines(input: &[u8]) {
     let mut from = 0;
     while from < input.len() {
-        let end = text::line_end(input, from);
+        let end = text::line::line_end(input, from);
         answer(&input[from..end]);
         from = end + 1;
     }
@@ -62,5 +66,5 @@ fn main() {
     let mut input = io::large_buffer();
     let n = io::read_full(STDIN_FILENO, &mut input);
     answer_lines(&input[..n]);
-    text::say_rest(n, input.len());
+    console::say_rest(n, input.len());
 }

@@ -1,37 +1,35 @@
 // Prints SHA-256 digests, a line each: FIPS 180-4's example messages, then a message of each length at which the padding changes,
 // of those around the longest, and of one that would be short to whoever counts in 16 bits.
+use console::print;
 use libc::STDOUT_FILENO;
 
-// The digit of the low four bits.
-fn digit(byte: u8) -> u8 {
-    let n = byte % 16;
-    if n < 10 { b'0' + n } else { b'a' + (n - 10) }
+// Two small digits.
+fn print_byte(byte: u8) {
+    io::print_hex(STDOUT_FILENO, byte as u64, 2);
 }
 
-fn write_hex(bytes: &[u8; 32]) {
-    let mut line = [b'\n'; 65];
-    let mut i: usize = 0;
+fn print_digest(bytes: &[u8; 32]) {
+    let mut i = 0;
     while i < 32 {
-        line[2 * i] = digit(bytes[i] / 16);
-        line[2 * i + 1] = digit(bytes[i]);
+        print_byte(bytes[i]);
         i += 1;
     }
-    io::write_all(STDOUT_FILENO, &line);
+    print(b"\n");
 }
 
 fn show_digest(message: &[u8]) {
     let digest = wire::sha256::sha256(message);
     let bytes = digest.bytes;
     if digest.fits {
-        io::write_all(STDOUT_FILENO, b": ");
+        print(b": ");
     } else {
-        io::write_all(STDOUT_FILENO, b": too long ");
+        print(b": too long ");
     }
-    write_hex(&bytes);
+    print_digest(&bytes);
 }
 
 fn show(label: &[u8], message: &[u8]) {
-    io::write_all(STDOUT_FILENO, label);
+    print(label);
     show_digest(message);
 }
 
@@ -62,7 +60,7 @@ fn fill(pattern: &mut [u8]) {
 // The pattern's first `length` bytes.
 fn show_front(pattern: &[u8], length: usize) {
     if length <= pattern.len() {
-        io::print_decimal(STDOUT_FILENO, length as u64);
+        console::print_number(length as u64);
         show_digest(&pattern[0..length]);
     }
 }

@@ -4,8 +4,7 @@
 // Behind `s h ` or `s d ` it prints the message's signatures: how many, whose each is, and the bytes that it covers.
 use base::timestamp::Timestamp;
 use libc::STDIN_FILENO;
-use libc::STDOUT_FILENO;
-use text::Digit;
+use text::hex::Digit;
 use wire::acceptance::Accepting;
 use wire::card_part::later_card;
 use wire::message::Fields;
@@ -39,47 +38,47 @@ fn print_name(map: u16, mask: u16, name: &[u8]) -> bool {
     if map & mask == 0 {
         return false;
     }
-    text::print(name);
+    console::print(name);
     true
 }
 
 fn print_byte(byte: u8) {
-    text::print_number(byte as u32);
+    console::print_number(byte as u64);
 }
 
 fn print_timestamp(timestamp: Timestamp) {
-    text::print_number(timestamp.count);
-    text::print(b".");
+    console::print_number(timestamp.count as u64);
+    console::print(b".");
     print_byte(timestamp.client.0);
 }
 
 fn print_kind(kind: u8) {
     match kind {
-        1 => text::print(b"READ-STAMP"),
-        2 => text::print(b"PREPARE"),
-        3 => text::print(b"WRITE"),
-        4 => text::print(b"READ"),
-        5 => text::print(b"STAMP"),
-        6 => text::print(b"PREPARED"),
-        7 => text::print(b"WRITTEN"),
-        _ => text::print(b"CARD"),
+        1 => console::print(b"READ-STAMP"),
+        2 => console::print(b"PREPARE"),
+        3 => console::print(b"WRITE"),
+        4 => console::print(b"READ"),
+        5 => console::print(b"STAMP"),
+        6 => console::print(b"PREPARED"),
+        7 => console::print(b"WRITTEN"),
+        _ => console::print(b"CARD"),
     }
 }
 
 // A proof's timestamp, and the number of its entries.
 fn print_proof(proof: &[u8], entries: u8) {
     print_timestamp(parts::timestamp(proof));
-    text::print(b" entries ");
+    console::print(b" entries ");
     print_byte(entries);
 }
 
 fn print_numbers(fields: Fields) {
     let map = fields.map;
     print_kind(fields.kind);
-    text::print(b" sender ");
+    console::print(b" sender ");
     print_byte(fields.sender);
     if print_name(map, NONCE, b" nonce ") {
-        io::print_decimal(STDOUT_FILENO, fields.nonce);
+        console::print_number(fields.nonce);
     }
     if print_name(map, TIMESTAMP, b" timestamp ") {
         let timestamp = fields.timestamp;
@@ -91,10 +90,10 @@ fn print_parts(bytes: &[u8], fields: Fields) {
     let map = fields.map;
     if print_name(map, DIGEST, b" digest ") {
         let at = fields.digest;
-        text::print_hex(parts::part(bytes, at));
+        console::print_hex(parts::part(bytes, at));
     }
     if print_name(map, CARD, b" card ") {
-        text::print_hex(wire::card_part::card_part(bytes));
+        console::print_hex(wire::card_part::card_part(bytes));
     }
     if print_name(map, PREPARED, b" prepared ") {
         let at = fields.prepared;
@@ -115,7 +114,7 @@ fn print_parts(bytes: &[u8], fields: Fields) {
 }
 
 fn print_refusal(number: u8) {
-    text::print(b"refused ");
+    console::print(b"refused ");
     print_byte(number);
 }
 
@@ -127,25 +126,25 @@ fn print_reading(party: Party, bytes: &[u8]) {
         }
         Reading::Refused(number) => print_refusal(number),
     }
-    text::print(b"\n");
+    console::print(b"\n");
 }
 
 fn print_judgement(party: Party, f: u8, bytes: &[u8], verdicts: &[u8]) {
     match wire::acceptance::accept(party, f, bytes, verdicts) {
-        Accepting::Message(_, _) => text::print(b"accepted"),
+        Accepting::Message(_, _) => console::print(b"accepted"),
         Accepting::Refused(number) => print_refusal(number),
     }
-    text::print(b"\n");
+    console::print(b"\n");
 }
 
 fn print_signer(signer: Signer) {
     match signer {
         Signer::Replica(id) => {
-            text::print(b" replica ");
+            console::print(b" replica ");
             print_byte(id.0);
         }
         Signer::Client(id) => {
-            text::print(b" client ");
+            console::print(b" client ");
             print_byte(id.0);
         }
     }
@@ -156,12 +155,12 @@ fn print_signature(party: Party, bytes: &[u8], i: usize) {
     match wire::signatures::signature(party, bytes, i, &mut out) {
         Signed::By(signer, covered) => {
             print_signer(signer);
-            text::print(b" over ");
-            text::print_hex(&out[..covered]);
+            console::print(b" over ");
+            console::print_hex(&out[..covered]);
         }
-        Signed::Nothing => text::print(b" nothing"),
+        Signed::Nothing => console::print(b" nothing"),
         Signed::Refused(number) => {
-            text::print(b" ");
+            console::print(b" ");
             print_refusal(number);
         }
     }
@@ -170,24 +169,24 @@ fn print_signature(party: Party, bytes: &[u8], i: usize) {
 // The signatures, and that there is no further one.
 fn print_signatures(party: Party, bytes: &[u8]) {
     let count = wire::signatures::signature_count(party, bytes);
-    text::print(b"signatures ");
-    text::print_number(count as u32);
+    console::print(b"signatures ");
+    console::print_number(count as u64);
     let mut i = 0;
     while i <= count {
         print_signature(party, bytes, i);
         i += 1;
     }
-    text::print(b"\n");
+    console::print(b"\n");
 }
 
 fn unread() {
-    text::print(b"unread\n");
+    console::print(b"unread\n");
 }
 
 // The bytes have room for more than a message may have.
 fn answer(party: Party, digits: &[u8]) {
     let mut bytes = [0u8; 32768];
-    let n = text::read_hex(digits, &mut bytes);
+    let n = text::hex::read_hex(digits, &mut bytes);
     if digits.len() == 2 * n {
         print_reading(party, &bytes[..n]);
     } else {
@@ -197,7 +196,7 @@ fn answer(party: Party, digits: &[u8]) {
 
 fn list(party: Party, digits: &[u8]) {
     let mut bytes = [0u8; 4096];
-    let n = text::read_hex(digits, &mut bytes);
+    let n = text::hex::read_hex(digits, &mut bytes);
     if digits.len() == 2 * n {
         print_signatures(party, &bytes[..n]);
     } else {
@@ -237,7 +236,7 @@ fn space(line: &[u8]) -> usize
 
 fn judge_by(party: Party, f: u8, bytes: &[u8], digits: &[u8]) {
     let mut verdicts = [0u8; 64];
-    let n = text::read_hex(digits, &mut verdicts);
+    let n = text::hex::read_hex(digits, &mut verdicts);
     if digits.len() == 2 * n {
         print_judgement(party, f, bytes, &verdicts[..n]);
     } else {
@@ -247,7 +246,7 @@ fn judge_by(party: Party, f: u8, bytes: &[u8], digits: &[u8]) {
 
 fn judge(party: Party, f: u8, message: &[u8], verdicts: &[u8]) {
     let mut bytes = [0u8; 4096];
-    let n = text::read_hex(message, &mut bytes);
+    let n = text::hex::read_hex(message, &mut bytes);
     if message.len() == 2 * n {
         judge_by(party, f, &bytes[..n], verdicts);
     } else {
@@ -268,10 +267,10 @@ fn judge_words(party: Party, f: u8, words: &[u8]) {
 
 fn print_later_of(first: &[u8], digits: &[u8]) {
     let mut second = [0u8; 2048];
-    let n = text::read_hex(digits, &mut second);
-    text::print(b"later card ");
-    text::print_hex(later_card(first, &second[..n]));
-    text::print(b"\n");
+    let n = text::hex::read_hex(digits, &mut second);
+    console::print(b"later card ");
+    console::print_hex(later_card(first, &second[..n]));
+    console::print(b"\n");
 }
 
 // The later card of two messages, both in hex, a space between them.
@@ -280,7 +279,7 @@ fn print_later(words: &[u8]) {
     if end < words.len() {
         let behind = end + 1;
         let mut first = [0u8; 2048];
-        let n = text::read_hex(&words[0..end], &mut first);
+        let n = text::hex::read_hex(&words[0..end], &mut first);
         print_later_of(&first[..n], &words[behind..]);
     } else {
         unread();
@@ -292,7 +291,7 @@ fn judge_line(line: &[u8]) {
         unread();
         return;
     }
-    let Digit::Value(f) = text::hex_value(line[1]) else {
+    let Digit::Value(f) = text::hex::hex_value(line[1]) else {
         unread();
         return;
     };
@@ -328,7 +327,7 @@ fn answer_line(line: &[u8]) {
 fn answer_lines(input: &[u8]) {
     let mut from = 0;
     while from < input.len() {
-        let end = text::line_end(input, from);
+        let end = text::line::line_end(input, from);
         answer_line(&input[from..end]);
         from = end + 1;
     }
@@ -345,5 +344,5 @@ fn main() {
     let mut input = room();
     let n = io::read_full(STDIN_FILENO, &mut input);
     answer_lines(&input[..n]);
-    text::say_rest(n, input.len());
+    console::say_rest(n, input.len());
 }

@@ -31,7 +31,7 @@ fn begin_write(client: Client, digits: &[u8], out: &mut [u8]) -> Stepped
     ensures { λ r. ⌜ ClientLeaves (beginWriteCall client theRegister (hexPairs 17 (now (digits .entry))) (now (out .entry))) [] r (now (out .exit)) ⌝ }
 {
     let mut card = [0u8; 17];
-    let n = text::read_hex(digits, &mut card);
+    let n = text::hex::read_hex(digits, &mut card);
     client::begin_write(client, REGISTER, &card[..n], out)
 }
 

@@ -65,5 +65,5 @@ pub fn copy_message(log: Log, before: usize, store: &[u8], to: &mut [u8]) -> usi
     ensures { λ r. ⌜ Puts (now (to .entry)) 0 (message log (now (store .entry)) before) r (now (to .exit)) ⌝ }
 {
     let at = start(before, store.len());
-    text::put(to, 0, front(behind(store, at), length_of(log, before)))
+    text::buffer::put(to, 0, front(behind(store, at), length_of(log, before)))
 }

@@ -2,9 +2,9 @@
 use base::replica_set::ReplicaSet;
 use base::slices::front;
 use base::timestamp::Timestamp;
-use text::put;
-use text::put_hex;
-use text::put_number;
+use text::buffer::put;
+use text::decimal::put_number;
+use text::hex::put_hex;
 ghost use mathlib.Core.Path.{_≡_};
 ghost use mathlib.Core.List.{[], _++_};
 ghost use Prim.Native.Nat.{min};

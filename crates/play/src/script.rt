@@ -45,7 +45,7 @@ fn keep_byte(script: &mut [u8], kept: Kept, byte: u8) -> Kept
     let one = [byte];
     if byte == NEWLINE {
         return Kept {
-            length: text::put(script, kept.length, &one),
+            length: text::buffer::put(script, kept.length, &one),
             place: Place {
                 column: 0,
                 lines: place.lines + 1,
@@ -56,7 +56,7 @@ fn keep_byte(script: &mut [u8], kept: Kept, byte: u8) -> Kept
         return kept;
     }
     Kept {
-        length: text::put(script, kept.length, &one),
+        length: text::buffer::put(script, kept.length, &one),
         place: Place {
             column: place.column + 1,
             lines: place.lines,

@@ -47,7 +47,7 @@ fn play_lines(begun: Played, script: &[u8], store: &mut [u8], out: &mut [u8]) ->
             return played.end;
         }
         number += 1;
-        let end = text::line_end(script, from);
+        let end = text::line::line_end(script, from);
         played = play_line(played, number, &script[from..end], store, out);
         from = end + 1;
     }
@@ -67,7 +67,7 @@ pub fn play(script: &[u8], out: &mut [u8]) -> usize
     ensures { λ r. ⌜ Puts (now (out .entry)) 0 (printed (now (script .entry))) r (now (out .exit)) ⌝ }
 {
     let mut sent = store();
-    let at = text::put(out, 0, b"holders 4 desks 4\n");
+    let at = text::buffer::put(out, 0, b"holders 4 desks 4\n");
     let begun = Played {
         world: fresh(),
         end: at,

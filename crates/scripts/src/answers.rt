@@ -8,7 +8,8 @@ use base::replica_set::ReplicaSet;
 use base::slices::behind;
 use base::slices::front;
 use base::timestamp::Timestamp;
-use libc::STDOUT_FILENO;
+use console::print_hex;
+use console::print_number;
 ghost use mathlib.Core.Path.{_≡_};
 ghost use lib.ListN.{length};
 
@@ -75,47 +76,36 @@ fn touched(rest: &[u8]) -> bool {
     false
 }
 
-fn print_number(n: usize) {
-    io::print_decimal(STDOUT_FILENO, n as u64);
-}
-
-// In one write, as text::print_hex writes each byte by itself.
-fn print_hex(bytes: &[u8]) {
-    let mut digits = [0u8; 3_200];
-    let n = text::put_hex(&mut digits, 0, bytes);
-    text::print(front(&digits, n));
-}
-
 fn print_sent(number: usize, message: &[u8]) {
-    text::print(b"sent ");
-    print_number(number);
-    text::print(b" ");
+    console::print(b"sent ");
+    print_number(number as u64);
+    console::print(b" ");
     print_hex(message);
 }
 
 fn print_done(timestamp: Timestamp, card: &[u8], signers: ReplicaSet) {
-    text::print(b"done ");
-    print_number(timestamp.count as usize);
-    text::print(b".");
-    print_number(timestamp.client.0 as usize);
-    text::print(b" ");
+    console::print(b"done ");
+    print_number(timestamp.count as u64);
+    console::print(b".");
+    print_number(timestamp.client.0 as u64);
+    console::print(b" ");
     print_hex(card);
-    text::print(b" ");
+    console::print(b" ");
     let bytes = signers.to_bytes();
     print_hex(&bytes);
 }
 
 fn print_refused(number: u8) {
-    text::print(b"refused ");
-    print_number(number as usize);
+    console::print(b"refused ");
+    print_number(number as u64);
 }
 
 fn print_said(said: u8, line: &[u8]) {
     if said == COMMENT {
-        text::print(line);
+        console::print(line);
         return;
     }
-    text::print(word(
+    console::print(word(
         b"unread new ready kept restored counted ended",
         said as usize,
     ));
@@ -124,9 +114,9 @@ fn print_said(said: u8, line: &[u8]) {
 // The line's end, behind `touched` where the call changed a byte of the output that is not the message's.
 fn print_end(rest: &[u8]) {
     if touched(rest) {
-        text::print(b" touched");
+        console::print(b" touched");
     }
-    text::print(b"\n");
+    console::print(b"\n");
 }
 
 fn print(answer: Answer, line: &[u8], number: usize, out: &[u8]) {

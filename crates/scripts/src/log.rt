@@ -48,7 +48,7 @@ pub fn keep(store: &mut Store, number: usize, message: &[u8]) {
         let at = number * ROOM;
         store[at] = (message.len() / 256 % 256) as u8;
         store[at + 1] = (message.len() % 256) as u8;
-        text::put(store, at + 2, message);
+        text::buffer::put(store, at + 2, message);
     }
 }
 
@@ -56,7 +56,7 @@ pub fn keep(store: &mut Store, number: usize, message: &[u8]) {
 fn fetch(number: usize, store: &Store, to: &mut [u8]) -> Numeral {
     let at = place(number, 200) * ROOM;
     let n = wide(store[at]) * 256 + wide(store[at + 1]);
-    text::put(to, 0, front(behind(store, at + 2), n));
+    text::buffer::put(to, 0, front(behind(store, at + 2), n));
     Numeral::Value(n as u64)
 }
 

@@ -37,7 +37,7 @@ fn play_lines(script: &[u8]) {
     let mut sent = 0;
     let mut from = 0;
     while from < script.len() {
-        let end = text::line_end(script, from);
+        let end = text::line::line_end(script, from);
         let line = &script[from..end];
         from = end + 1;
         let task = tasks::of_line(line, &held);
@@ -90,5 +90,5 @@ fn main() {
     let mut script = empty();
     let n = read(&mut script);
     play(&script, n);
-    text::say_rest(n, SCRIPT);
+    console::say_rest(n, SCRIPT);
 }

@@ -97,7 +97,7 @@ pub fn hex(word: &[u8], to: &mut [u8]) -> Numeral {
     if word.len() == 0 {
         return Numeral::Nothing;
     }
-    let n = text::read_hex(word, to);
+    let n = text::hex::read_hex(word, to);
     if word.len() != 2 * n {
         return Numeral::Nothing;
     }

@@ -1,3 +1,3 @@
-pub mod Digits
+pub mod Decimals
 pub mod Lines
 pub mod Putting

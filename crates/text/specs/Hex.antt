@@ -3,13 +3,12 @@ use mathlib.Core.Path.{_≡_}
 use mathlib.Core.Bool.{cond}
 use mathlib.Core.List.{List, [], _∷_, _++_}
 use mathlib.Core.Option.{Option, none, some}
-use Prim.Native.Nat.{ℕ, zero, suc, _+_, _-_, _*_, _/_, _%_, _<_}
+use Prim.Native.Nat.{ℕ, zero, suc, _+_, _-_, _*_, _/_, _%_, _≤_, _<_}
 use lib.Dec.{ltb}
-use lib.ListN.{length, getD, drop}
+use lib.ListN.{length, getD, take, drop}
 use Rattle.base.specs.Range.{within}
-use Rattle.io.specs.Counts.{Counts}
-use Rattle.text.specs.declared.Digit.{Digit}
-use Rattle.text.specs.declared.Digit.the-variants.{Value, Nothing}
+use Rattle.text.specs.declared.hex.Digit.{Digit}
+use Rattle.text.specs.declared.hex.Digit.the-variants.{Value, Nothing}
 
 -- 0 to 9, A to F, a to f
 unfoldable pub hexValue : ℕ → Option ℕ
@@ -56,8 +55,9 @@ abbrev pub DigitBelow : ℕ → Digit → Type 0
 DigitBelow n (Value value) = value < n
 DigitBelow n Nothing = Unit {0}
 
--- What reading a line into a buffer does: the pairs' bytes in front, the old ones behind. The last part follows, for callers that lend the front.
+-- What reading a line into a buffer does: the pairs' bytes in front, the old ones behind. The last two parts follow, for callers that lend the front.
 pub record HexRead (line old new : List ℕ) (count : ℕ) : Type 0 where
   pub is : new ≡ hexPairs (length old) line ++ drop count old
   pub counted : count ≡ length (hexPairs (length old) line)
-  pub counts : Counts count new
+  pub inside : count ≤ length new
+  pub front : count ≡ length (take count new)

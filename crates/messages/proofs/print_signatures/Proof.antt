@@ -20,7 +20,6 @@ print-signatures-spec =
     (λ c κs. search needs)
     (λ c. search needs)
     (λ c κs. search needs)
-    (λ c. search needs)
     (λ c κs. search needs)
     (λ c. (omega arith, omega arith))
     (λ c κs. search needs)

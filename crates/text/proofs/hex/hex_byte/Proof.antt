@@ -1,4 +1,4 @@
--- `text::hex_byte` meets its contract. Assumes nothing.
+-- `text::hex::hex_byte` meets its contract. Assumes nothing.
 use mathlib.Core.Path.{_≡_, refl, sym, ap, _∙_}
 use mathlib.Core.List.{List}
 use mathlib.Core.Option.{Option, none, some}
@@ -8,8 +8,8 @@ use lib.ListN.{length, getD, List·getD-eq-default}
 use Rattle.base.specs.Range.{within}
 use Rattle.text.specs.Hex.{hexValue, joined, pairValue, digitOf}
 use borrow.Author.Needs.{needs}
-use Rattle.text.proofs.hex_byte.Statement.{statement}
-use Rattle.text.proofs.hex_byte.Tie as tie
+use Rattle.text.proofs.hex.hex_byte.Statement.{statement}
+use Rattle.text.proofs.hex.hex_byte.Tie as tie
 
 without-low : (high : Option ℕ) → joined high none ≡ none
 without-low none = refl

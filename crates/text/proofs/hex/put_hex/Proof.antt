@@ -1,4 +1,4 @@
--- `text::put_hex` meets its contract: whoever puts what is left has put all. Assumes nothing.
+-- `text::hex::put_hex` meets its contract: whoever puts what is left has put all. Assumes nothing.
 use mathlib.Core.Path.{_≡_, refl}
 use mathlib.Core.List.{List, _++_}
 use Prim.Native.Nat.{ℕ, _+_, _-_, _≤_, _<_}
@@ -10,8 +10,8 @@ use lib.Seq.{drop-cons, drop-length}
 use Rattle.text.specs.Hex.{hex, hexPair}
 use Rattle.text.specs.Put.{Puts}
 use Rattle.text.proofs.Putting.{then, nothing, same-bytes}
-use Rattle.text.proofs.put_hex.Statement.{statement}
-use Rattle.text.proofs.put_hex.Tie as tie
+use Rattle.text.proofs.hex.put_hex.Statement.{statement}
+use Rattle.text.proofs.hex.put_hex.Tie as tie
 
 -- One byte more of those that are left.
 more : (bytes : List ℕ) (i : ℕ) → i < length bytes → hexPair (getD bytes i 0) ++ hex (drop (i + 1) bytes) ≡ hex (drop i bytes)

@@ -1,4 +1,4 @@
--- `text::line_end` meets its contract. Assumes nothing.
+-- `text::line::line_end` meets its contract. Assumes nothing.
 use mathlib.Core.Path.{_≡_}
 use mathlib.Core.List.{List}
 use Prim.Native.Nat.{ℕ, suc, _+_, _-_, max, _≤_, _<_}
@@ -9,8 +9,8 @@ use borrow.Author.Tests.{eq-eqb, ne-eqb}
 use lib.ListN.{length, getD, drop, drop-of-length-le}
 use lib.Seq.{drop-cons}
 use Rattle.text.specs.Line.{lineLength}
-use Rattle.text.proofs.line_end.Statement.{statement}
-use Rattle.text.proofs.line_end.Tie as tie
+use Rattle.text.proofs.line.line_end.Statement.{statement}
+use Rattle.text.proofs.line.line_end.Tie as tie
 
 module _ (text : List ℕ) (at : ℕ) where
   at-newline : at < length text → getD text at 0 ≡ 10 → lineLength (drop at text) ≡ 0

@@ -1,11 +1,11 @@
--- `text::hex_value` meets its contract. Assumes nothing.
+-- `text::hex::hex_value` meets its contract. Assumes nothing.
 use mathlib.Core.Path.{sym, _∙_}
 use native.Mathlib.Omega.{arith}
 use borrow.Author.Needs.{needs}
 use Rattle.base.proofs.Range.{bounds}
 use Rattle.text.specs.Hex.{hexValue}
-use Rattle.text.proofs.hex_value.Statement.{statement}
-use Rattle.text.proofs.hex_value.Tie as tie
+use Rattle.text.proofs.hex.hex_value.Statement.{statement}
+use Rattle.text.proofs.hex.hex_value.Tie as tie
 
 sub-t3 : tie.Need-sub-t3
 sub-t3 c = bounds 48 57 (c .before .before .args .byte) (sym (c .before .within .ensures) ∙ c .if1 .taken) .0

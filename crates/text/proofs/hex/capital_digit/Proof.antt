@@ -1,10 +1,10 @@
--- `text::capital_digit` meets its contract. Assumes nothing.
+-- `text::hex::capital_digit` meets its contract. Assumes nothing.
 use native.Mathlib.Omega.{arith}
 use borrow.Author.Needs.{needs}
 use borrow.Author.Tests.{lt-ltb, le-ltb}
 use Rattle.text.specs.Hex.{hexDigit}
-use Rattle.text.proofs.capital_digit.Statement.{statement}
-use Rattle.text.proofs.capital_digit.Tie as tie
+use Rattle.text.proofs.hex.capital_digit.Statement.{statement}
+use Rattle.text.proofs.hex.capital_digit.Tie as tie
 
 returns : tie.Need-returns
 unfolding hexDigit

@@ -1,7 +1,7 @@
--- `text::put_pair` meets its contract. Assumes nothing.
+-- `text::hex::put_pair` meets its contract. Assumes nothing.
 use borrow.Author.Needs.{needs}
-use Rattle.text.proofs.put_pair.Statement.{statement}
-use Rattle.text.proofs.put_pair.Tie as tie
+use Rattle.text.proofs.hex.put_pair.Statement.{statement}
+use Rattle.text.proofs.hex.put_pair.Tie as tie
 
 returns : tie.Need-returns
 returns c =

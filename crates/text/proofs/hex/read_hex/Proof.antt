@@ -1,4 +1,4 @@
--- `text::read_hex` meets its contract. Assumes nothing.
+-- `text::hex::read_hex` meets its contract. Assumes nothing.
 use mathlib.Core.Path.{_≡_, refl, sym, ap, _∙_}
 use mathlib.Core.List.{List, [], _∷_, _++_, append-assoc, append-nil}
 use Prim.Native.Nat.{ℕ, suc, _+_, _-_, _*_, _≤_, _<_}
@@ -8,8 +8,8 @@ use borrow.Author.Needs.{needs}
 use lib.ListN.{length, getD, take, drop, length-set, take-append-drop}
 use lib.Seq.{getD-drop, drop-drop, take-suc-set, drop-set-lt, length-take-le}
 use Rattle.text.specs.Hex.{pairValue, pairsFrom, hexPairs, digitOf, HexRead}
-use Rattle.text.proofs.read_hex.Statement.{statement}
-use Rattle.text.proofs.read_hex.Tie as tie
+use Rattle.text.proofs.hex.read_hex.Statement.{statement}
+use Rattle.text.proofs.hex.read_hex.Tie as tie
 
 -- The pairs from the nth on.
 pairs-at : (room n : ℕ) (line : List ℕ) → n < room
@@ -26,7 +26,7 @@ ended : (line old out : List ℕ) (n : ℕ) → n ≤ length out → hexPairs (l
 ended line old out n h e k =
     let front = e ∙ append-nil (take n out) in
     let count = sym (length-take-le n out h) in
-    record { is = rw (front, ← k) (sym (take-append-drop n out)); counted = rw front count; counts = (h, count) }
+    record { is = rw (front, ← k) (sym (take-append-drop n out)); counted = rw front count; inside = h; front = count }
 
 abbrev Inv-loop : tie.InvT-loop
 Inv-loop line out₀ n₀ out n =

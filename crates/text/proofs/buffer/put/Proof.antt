@@ -1,4 +1,4 @@
--- `text::put` meets its contract. Assumes nothing.
+-- `text::buffer::put` meets its contract. Assumes nothing.
 use mathlib.Core.Path.{_≡_, refl, ap, _∙_}
 use mathlib.Core.List.{List}
 use Prim.Native.Nat.{ℕ, _+_, _-_, max, _≤_}
@@ -8,8 +8,8 @@ use borrow.Author.Needs.{needs}
 use lib.ListN.{length, getD, length-set}
 use lib.Seq.{paste, paste-zero, paste-suc}
 use Rattle.text.specs.Put.{fitting, written, Puts}
-use Rattle.text.proofs.put.Statement.{statement}
-use Rattle.text.proofs.put.Tie as tie
+use Rattle.text.proofs.buffer.put.Statement.{statement}
+use Rattle.text.proofs.buffer.put.Tie as tie
 
 -- All that fit were put.
 ended : (old : List ℕ) (at : ℕ) (bytes : List ℕ) (i next : ℕ) (new : List ℕ) → new ≡ paste old at bytes i → next ≡ at + i → i ≡ fitting old at bytes → Puts old at bytes next new
