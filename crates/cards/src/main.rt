@@ -1,5 +1,8 @@
 // Reads cards in hex, one a line, and prints what the check says of each, with the fields of a good one.
+use base::slices::front;
 use libc::STDIN_FILENO;
+use text::hex::Length;
+use text::hex::read_word;
 use wire::card::CardCheck;
 use wire::card::CardFields;
 use wire::card::CardRead;
@@ -45,11 +48,9 @@ fn print_card(read: CardRead) {
 // The bytes have room for any line of the input.
 fn answer(line: &[u8]) {
     let mut bytes = [0u8; 32768];
-    let n = text::hex::read_hex(line, &mut bytes);
-    if line.len() == 2 * n {
-        print_card(wire::card::read(&bytes[..n]));
-    } else {
-        console::print(b"unread\n");
+    match read_word(line, &mut bytes) {
+        Length::Count(n) => print_card(wire::card::read(front(&bytes, n))),
+        Length::NoHex => console::print(b"unread\n"),
     }
 }
 

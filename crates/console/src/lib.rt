@@ -1,9 +1,11 @@
 // Text on standard output, for the programs.
 use base::slices::behind;
 use base::slices::front;
+use base::timestamp::Timestamp;
 use libc::STDIN_FILENO;
 use libc::STDOUT_FILENO;
 use text::hex::put_hex;
+use text::timestamp::put_timestamp;
 
 pub fn print(text: &[u8]) {
     io::write_all(STDOUT_FILENO, text);
@@ -11,6 +13,13 @@ pub fn print(text: &[u8]) {
 
 pub fn print_number(n: u64) {
     io::print_decimal(STDOUT_FILENO, n);
+}
+
+// Ten digits, a dot and three digits have room.
+pub fn print_timestamp(timestamp: Timestamp) {
+    let mut text = [0u8; 14];
+    let end = put_timestamp(&mut text, 0, timestamp);
+    print(front(&text, end));
 }
 
 // So many bytes in one write, whose digits fill the buffer.

@@ -2,9 +2,13 @@
 // Behind `hF ` or `dF `, F a fault bound, verdicts follow the message, and it prints what tests 2 to 11, with 19 and 20, make of both.
 // Behind `l ` two messages stand, and it prints the later card.
 // Behind `s h ` or `s d ` it prints the message's signatures: how many, whose each is, and the bytes that it covers.
-use base::timestamp::Timestamp;
+use base::slices::front;
+use console::print_timestamp;
 use libc::STDIN_FILENO;
 use text::hex::Digit;
+use text::hex::Length;
+use text::hex::read_word;
+use text::line::word_end;
 use wire::acceptance::Accepting;
 use wire::card_part::later_card;
 use wire::message::Fields;
@@ -14,7 +18,6 @@ use wire::parts;
 use wire::signatures::Signed;
 use wire::signatures::Signer;
 ghost use mathlib.Core.Path.{_≡_};
-ghost use Prim.Native.Nat.{_≤_};
 ghost use lib.ListN.{length};
 
 const NONCE: u16 = 0x004;
@@ -44,12 +47,6 @@ fn print_name(map: u16, mask: u16, name: &[u8]) -> bool {
 
 fn print_byte(byte: u8) {
     console::print_number(byte as u64);
-}
-
-fn print_timestamp(timestamp: Timestamp) {
-    console::print_number(timestamp.count as u64);
-    console::print(b".");
-    print_byte(timestamp.client.0);
 }
 
 fn print_kind(kind: u8) {
@@ -186,21 +183,17 @@ fn unread() {
 // The bytes have room for more than a message may have.
 fn answer(party: Party, digits: &[u8]) {
     let mut bytes = [0u8; 32768];
-    let n = text::hex::read_hex(digits, &mut bytes);
-    if digits.len() == 2 * n {
-        print_reading(party, &bytes[..n]);
-    } else {
-        unread();
+    match read_word(digits, &mut bytes) {
+        Length::Count(n) => print_reading(party, front(&bytes, n)),
+        Length::NoHex => unread(),
     }
 }
 
 fn list(party: Party, digits: &[u8]) {
     let mut bytes = [0u8; 4096];
-    let n = text::hex::read_hex(digits, &mut bytes);
-    if digits.len() == 2 * n {
-        print_signatures(party, &bytes[..n]);
-    } else {
-        unread();
+    match read_word(digits, &mut bytes) {
+        Length::Count(n) => print_signatures(party, front(&bytes, n)),
+        Length::NoHex => unread(),
     }
 }
 
@@ -220,43 +213,25 @@ fn list_line(line: &[u8]) {
     }
 }
 
-// Where the first space stands, or the end.
-fn space(line: &[u8]) -> usize
-    ensures { λ r. ⌜ r ≤ length (now (line .entry)) ⌝ }
-{
-    let mut at = 0;
-    while at < line.len() {
-        if line[at] == b' ' {
-            return at;
-        }
-        at += 1;
-    }
-    at
-}
-
 fn judge_by(party: Party, f: u8, bytes: &[u8], digits: &[u8]) {
     let mut verdicts = [0u8; 64];
-    let n = text::hex::read_hex(digits, &mut verdicts);
-    if digits.len() == 2 * n {
-        print_judgement(party, f, bytes, &verdicts[..n]);
-    } else {
-        unread();
+    match read_word(digits, &mut verdicts) {
+        Length::Count(n) => print_judgement(party, f, bytes, front(&verdicts, n)),
+        Length::NoHex => unread(),
     }
 }
 
 fn judge(party: Party, f: u8, message: &[u8], verdicts: &[u8]) {
     let mut bytes = [0u8; 4096];
-    let n = text::hex::read_hex(message, &mut bytes);
-    if message.len() == 2 * n {
-        judge_by(party, f, &bytes[..n], verdicts);
-    } else {
-        unread();
+    match read_word(message, &mut bytes) {
+        Length::Count(n) => judge_by(party, f, front(&bytes, n), verdicts),
+        Length::NoHex => unread(),
     }
 }
 
 // A message and its verdicts, both in hex, a space between them.
 fn judge_words(party: Party, f: u8, words: &[u8]) {
-    let end = space(words);
+    let end = word_end(words, 0);
     if end < words.len() {
         let behind = end + 1;
         judge(party, f, &words[0..end], &words[behind..]);
@@ -275,7 +250,7 @@ fn print_later_of(first: &[u8], digits: &[u8]) {
 
 // The later card of two messages, both in hex, a space between them.
 fn print_later(words: &[u8]) {
-    let end = space(words);
+    let end = word_end(words, 0);
     if end < words.len() {
         let behind = end + 1;
         let mut first = [0u8; 2048];

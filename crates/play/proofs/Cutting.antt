@@ -8,7 +8,7 @@ use borrow.Author.Tests.{lt-leb, le-leb, eqb-false, leb-true, leb-false, ne-eqb}
 use lib.Dec.{eqb, leb}
 use lib.ListN.{length, take, drop, length-append}
 use lib.Seq.{take-all, take-at, take-append-add, drop-append-add}
-use Rattle.text.specs.Line.{lineLength, lines}
+use Rattle.text.specs.Line.{lengthTo, lineLength, lines}
 use Rattle.text.proofs.Lines.{first-line}
 use Rattle.play.specs.Output.{header}
 use Rattle.play.specs.Script.{startPlace, step, keptByte, keptOf}
@@ -22,7 +22,7 @@ abbrev Plain : List ℕ → Type 0
 Plain text = lineLength text ≡ length text
 
 plain-front : (text rest : List ℕ) → Plain text → lineLength (text ++ rest) ≡ length text + lineLength rest
-unfolding lineLength
+unfolding lengthTo
 plain-front [] rest p = omega arith
 plain-front (byte ∷ text) rest p = go (eqb byte 10) refl (plain-front text rest)
   where
@@ -31,7 +31,7 @@ plain-front (byte ∷ text) rest p = go (eqb byte 10) refl (plain-front text res
     go false e more = let q : suc (lineLength text) ≡ suc (length text) = rw e at p in let m = more (omega arith) in rw e (omega arith)
 
 plain-more : (text : List ℕ) (byte : ℕ) → Plain text → (byte ≡ 10 → ⊥) → Plain (text ++ (byte ∷ []))
-unfolding lineLength
+unfolding lengthTo
 plain-more text byte p other = rw (plain-front text (byte ∷ []) p, length-append text (byte ∷ []), ne-eqb byte 10 other)
 
 -- The first line of a text that starts without a newline, and those behind.
@@ -44,7 +44,7 @@ split text rest p some =
 -- Where its first newline stands behind it; and where it is as long as a line is kept.
 module _ (text : List ℕ) (p : Plain text) where
   at-newline : (byte : ℕ) (rest : List ℕ) → eqb byte 10 ≡ true → lines (text ++ byte ∷ rest) ≡ text ∷ lines rest
-  unfolding lineLength
+  unfolding lengthTo
   at-newline byte rest e = split text (byte ∷ rest) p (simp length-append (omega arith)) ∙ rw e (ap (λ (first : List ℕ). first ∷ lines rest) (append-nil text))
 
   module _ (full : length text ≡ 39) where
@@ -52,7 +52,7 @@ module _ (text : List ℕ) (p : Plain text) where
     cut-first rest = rw (split text rest p (simp length-append (omega arith)), take-at text (take (lineLength rest) rest) 39 full)
 
     cut-byte : (byte : ℕ) (bytes : List ℕ) → eqb byte 10 ≡ false → map (take 39) (lines (text ++ bytes)) ≡ map (take 39) (lines (text ++ byte ∷ bytes))
-    unfolding lineLength
+    unfolding lengthTo
     cut-byte byte bytes e = cut-first bytes ∙ sym (cut-first (byte ∷ bytes) ∙ rw e)
 
 abbrev At : List ℕ → ℕ → Place
@@ -67,7 +67,7 @@ unfolding lines
 no-lines = refl
 
 at-end : (text : List ℕ) (n : ℕ) → Plain text → length text ≤ 39 → Alike text n []
-unfolding keptOf lineLength
+unfolding keptOf lengthTo
 at-end [] n p short = rw no-lines
 at-end (byte ∷ text) n p short = rw (split (byte ∷ text) [] p (omega arith), no-lines, append-nil text, take-all 38 text (omega arith))
 
@@ -94,7 +94,7 @@ module _ (text : List ℕ) (n : ℕ) (p : Plain text) (short : length text ≤ 3
 
   one-byte : ((next : List ℕ) (m : ℕ) → Plain next → length next ≤ 39 → Alike next m bytes) → (full newline? long : Bool) → leb 100 n ≡ full → eqb byte 10 ≡ newline? → leb 39 (length text) ≡ long
       → Alike text n (byte ∷ bytes)
-  unfolding lineLength
+  unfolding lengthTo
   one-byte later true b c f e l = past-100 (leb-true 100 n f)
   one-byte later false true c f e l = newline (leb-false 100 n f) e (later [] (n + 1) refl (omega arith))
   one-byte later false false true f e l = left-out (leb-false 100 n f) e (leb-true 39 (length text) l) (later text n p short)
@@ -114,7 +114,7 @@ take-map (suc n) (text ∷ texts) = ap (λ (l : List (List ℕ)). take 39 text �
 
 -- What is kept of an input prints what the input prints.
 pub kept-prints : (input : List ℕ) → printed (keptOf startPlace input) ≡ printed input
-unfolding printed startPlace lineLength
+unfolding printed startPlace lengthTo
 kept-prints input =
     let same = kept-lines input [] 0 refl (omega arith) ∙ take-map 100 (lines input) in
     ap (λ (l : List ℕ). header ++ l) (ap (printedLines freshWorld emptyStore 1) same ∙ cut-lines freshWorld emptyStore 1 (take 100 (lines input)))

@@ -12,8 +12,9 @@ use Rattle.base.specs.declared.replica_set.ReplicaSet.{ReplicaSet}
 use Rattle.text.specs.Decimal.{digitsWithin}
 use Rattle.text.specs.Hex.{hex}
 use Rattle.text.specs.Line.{lines}
+use Rattle.text.specs.Timestamp.{stamp}
 use Rattle.play.specs.Grammar.{command}
-use Rattle.play.specs.Output.{header, stamp, behindCard, said, line}
+use Rattle.play.specs.Output.{header, behindCard, said, line}
 use Rattle.play.specs.Player.{Turn, addressee, does, clientTurn, replicaTurn, turn}
 use Rattle.play.specs.Script.{startPlace, step, keptByte, keptOf}
 use Rattle.play.specs.Session.{printedLines, printed}

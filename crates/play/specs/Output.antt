@@ -3,19 +3,15 @@ use mathlib.Core.List.{List, [], _∷_, _++_}
 use Prim.Native.Nat.{ℕ}
 use Rattle.base.specs.BigEndian.{toBytes}
 use Rattle.base.specs.declared.replica_set.ReplicaSet.{ReplicaSet}
-use Rattle.base.specs.declared.timestamp.Timestamp.{Timestamp}
 use Rattle.text.specs.Decimal.{decimal}
 use Rattle.text.specs.Hex.{hex}
+use Rattle.text.specs.Timestamp.{stamp}
 use Rattle.play.specs.declared.output.Said.{Said}
 use Rattle.play.specs.declared.output.Said.the-variants.{Sent, Taken, Done, Ended, Refused, Unread}
 
 -- `holders 4 desks 4`
 unfoldable pub header : List ℕ
 header = 104 ∷ 111 ∷ 108 ∷ 100 ∷ 101 ∷ 114 ∷ 115 ∷ 32 ∷ 52 ∷ 32 ∷ 100 ∷ 101 ∷ 115 ∷ 107 ∷ 115 ∷ 32 ∷ 52 ∷ 10 ∷ []
-
--- "written count.desk"
-unfoldable pub stamp : Timestamp → List ℕ
-stamp t = decimal (t .count) ++ (46 ∷ []) ++ decimal (t .client .0)
 
 -- Document 02, #102: the signers "as four capital hex digits after the card"
 unfoldable pub behindCard : ReplicaSet → List ℕ

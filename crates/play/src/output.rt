@@ -5,13 +5,14 @@ use base::timestamp::Timestamp;
 use text::buffer::put;
 use text::decimal::put_number;
 use text::hex::put_hex;
+use text::timestamp::put_timestamp;
 ghost use mathlib.Core.Path.{_≡_};
 ghost use mathlib.Core.List.{[], _++_};
 ghost use Prim.Native.Nat.{min};
 ghost use Rattle.protocol.specs.Parts.{cardKept};
 ghost use Rattle.text.specs.Decimal.{decimal};
 ghost use Rattle.text.specs.Put.{Puts};
-ghost use Rattle.play.specs.Output.{stamp, behindCard, said, line};
+ghost use Rattle.play.specs.Output.{behindCard, said, line};
 ghost use Rattle.play.specs.Player.{Says};
 
 // What a line says of its call.
@@ -40,14 +41,6 @@ pub(super) fn without_card(what: Said) -> Saying
         card: [0; 17],
         card_length: 0,
     }
-}
-
-fn put_timestamp(out: &mut [u8], at: usize, timestamp: Timestamp) -> usize
-    ensures { λ r. ⌜ Puts (now (out .entry)) at (stamp timestamp) r (now (out .exit)) ⌝ }
-{
-    let count = put_number(out, at, timestamp.count as u64);
-    let dot = put(out, count, b".");
-    put_number(out, dot, timestamp.client.0 as u64)
 }
 
 fn put_signers(out: &mut [u8], at: usize, signers: ReplicaSet) -> usize

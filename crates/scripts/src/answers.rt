@@ -10,6 +10,7 @@ use base::slices::front;
 use base::timestamp::Timestamp;
 use console::print_hex;
 use console::print_number;
+use console::print_timestamp;
 ghost use mathlib.Core.Path.{_≡_};
 ghost use lib.ListN.{length};
 
@@ -85,9 +86,7 @@ fn print_sent(number: usize, message: &[u8]) {
 
 fn print_done(timestamp: Timestamp, card: &[u8], signers: ReplicaSet) {
     console::print(b"done ");
-    print_number(timestamp.count as u64);
-    console::print(b".");
-    print_number(timestamp.client.0 as u64);
+    print_timestamp(timestamp);
     console::print(b" ");
     print_hex(card);
     console::print(b" ");

@@ -4,15 +4,15 @@ use crate::tasks::Call;
 use crate::tasks::Task;
 use crate::tasks::Whom;
 use crate::tasks::place;
-use crate::words::Byte;
-use crate::words::Numeral;
-use crate::words::decimal_byte;
 use crate::words::hex;
-use crate::words::number;
 use crate::words::rest;
 use crate::words::word;
 use base::slices::behind;
 use base::slices::front;
+use text::decimal::decimal_byte;
+use text::decimal::decimal_or_zero;
+use text::hex::Digit;
+use text::hex::Length;
 use wire::message::Party;
 use wire::signatures::signature_count;
 ghost use Prim.Native.Nat.{_*_, _≤_};
@@ -30,7 +30,7 @@ pub type Message = [u8; 4_096];
 pub type Verdicts = [u8; 400];
 
 // So many bytes of a card are taken.
-const CARD: u64 = 64;
+const CARD: usize = 64;
 
 fn wide(byte: u8) -> usize
     ensures { λ r. ⌜ r ≤ 255 ⌝ }
@@ -53,11 +53,11 @@ pub fn keep(store: &mut Store, number: usize, message: &[u8]) {
 }
 
 // The message with a number, which is one of the kept.
-fn fetch(number: usize, store: &Store, to: &mut [u8]) -> Numeral {
+fn fetch(number: usize, store: &Store, to: &mut [u8]) -> Length {
     let at = place(number, 200) * ROOM;
     let n = wide(store[at]) * 256 + wide(store[at + 1]);
     text::buffer::put(to, 0, front(behind(store, at + 2), n));
-    Numeral::Value(n as u64)
+    Length::Count(n)
 }
 
 fn is_kept(number: usize, sent: usize) -> bool {
@@ -71,15 +71,15 @@ fn is_kept(number: usize, sent: usize) -> bool {
 }
 
 // The message that a word is: `@M` for one that was sent, or hex.
-fn message(name: &[u8], store: &Store, sent: usize, to: &mut [u8]) -> Numeral {
+fn message(name: &[u8], store: &Store, sent: usize, to: &mut [u8]) -> Length {
     if !check::same(front(name, 1), b"@") {
         return hex(name, to);
     }
-    let n = number(behind(name, 1)) as usize;
+    let n = decimal_or_zero(behind(name, 1)) as usize;
     if is_kept(n, sent) {
         return fetch(n, store, to);
     }
-    Numeral::Nothing
+    Length::NoHex
 }
 
 // What a message to someone is read as.
@@ -91,9 +91,9 @@ fn party(whom: Whom) -> Party {
 }
 
 // The verdicts that a word is: `+` for a 1 per signature, which are there already, or hex. A message that cannot be read has none, and is refused before they count.
-fn verdicts(name: &[u8], party: Party, message: &[u8], ones: &mut [u8]) -> Numeral {
+fn verdicts(name: &[u8], party: Party, message: &[u8], ones: &mut [u8]) -> Length {
     if check::same(name, b"+") {
-        return Numeral::Value(signature_count(party, message) as u64);
+        return Length::Count(signature_count(party, message));
     }
     hex(name, ones)
 }
@@ -107,27 +107,27 @@ fn hand_over(
     bytes: &mut Message,
     ones: &mut Verdicts,
 ) -> Call {
-    let Numeral::Value(n) = message(word(line, 2), store, sent, bytes) else {
+    let Length::Count(n) = message(word(line, 2), store, sent, bytes) else {
         return Call::Copy(UNREAD);
     };
-    let Numeral::Value(m) = verdicts(rest(line, 3), party, front(bytes, n as usize), ones) else {
+    let Length::Count(m) = verdicts(rest(line, 3), party, front(bytes, n), ones) else {
         return Call::Copy(UNREAD);
     };
-    Call::HandOver(n as usize, m as usize)
+    Call::HandOver(n, m)
 }
 
 // `write ID REGISTER CARD`
 fn write(line: &[u8], card: &mut Message) -> Call {
-    let Byte::Value(register) = decimal_byte(word(line, 2)) else {
+    let Digit::Value(register) = decimal_byte(word(line, 2)) else {
         return Call::Copy(UNREAD);
     };
-    let Numeral::Value(n) = hex(rest(line, 3), card) else {
+    let Length::Count(n) = hex(rest(line, 3), card) else {
         return Call::Copy(UNREAD);
     };
     if n > CARD {
         return Call::Copy(UNREAD);
     }
-    Call::Write(register, n as usize)
+    Call::Write(register, n)
 }
 
 // The call of a task, with what its line hands over stored; a call whose words cannot be read only copies.

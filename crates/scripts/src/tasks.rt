@@ -7,15 +7,15 @@ use crate::answers::Outcome;
 use crate::answers::READY;
 use crate::answers::RESTORED;
 use crate::answers::UNREAD;
-use crate::words::Byte;
-use crate::words::Numeral;
-use crate::words::decimal;
-use crate::words::decimal_byte;
-use crate::words::number;
 use crate::words::rest;
 use crate::words::word;
 use base::party::within;
 use base::slices::front;
+use text::decimal::Numeral;
+use text::decimal::decimal_byte;
+use text::decimal::decimal_or_zero;
+use text::decimal::read_decimal;
+use text::hex::Digit;
 ghost use Prim.Native.Nat.{_≤_};
 
 // Whom a line is about.
@@ -117,7 +117,7 @@ fn last(whom: Whom) -> usize
 fn seat(whom: Whom, id: &[u8]) -> usize
     ensures { λ r. ⌜ r ≤ 96 ⌝ }
 {
-    place(number(id) as usize, last(whom))
+    place(decimal_or_zero(id) as usize, last(whom))
 }
 
 // Where it is noted whether a place holds a record.
@@ -187,13 +187,13 @@ fn command(name: &[u8]) -> usize {
 }
 
 fn set_up(whom: Whom, f: &[u8], id: &[u8], nonce: &[u8]) -> Task {
-    let Byte::Value(f) = decimal_byte(f) else {
+    let Digit::Value(f) = decimal_byte(f) else {
         return nobody(UNREAD);
     };
-    let Byte::Value(number) = decimal_byte(id) else {
+    let Digit::Value(number) = decimal_byte(id) else {
         return nobody(UNREAD);
     };
-    let Numeral::Value(nonce) = decimal(nonce) else {
+    let Numeral::Value(nonce) = read_decimal(nonce) else {
         return nobody(UNREAD);
     };
     let at = seat(whom, id);
@@ -232,7 +232,7 @@ fn of_named(whom: Whom, call: Call, line: &[u8], held: &Held) -> Task {
 
 // `read ID REGISTER` and `view ID REGISTER`
 fn of_read(whom: Whom, line: &[u8], held: &Held) -> Task {
-    let Byte::Value(register) = decimal_byte(rest(line, 2)) else {
+    let Digit::Value(register) = decimal_byte(rest(line, 2)) else {
         return nobody(UNREAD);
     };
     of_named(whom, Call::Read(register), line, held)
@@ -262,7 +262,7 @@ fn other(line: &[u8]) -> Task {
 }
 
 fn is_length(word: &[u8]) -> bool {
-    match decimal(word) {
+    match read_decimal(word) {
         Numeral::Value(n) => n <= OUTPUT,
         Numeral::Nothing => false,
     }
@@ -286,7 +286,7 @@ pub fn lent(line: &[u8]) -> usize
     if command(word(line, 0)) != LENT {
         return 1_600;
     }
-    place(number(word(line, 1)) as usize, 1_600)
+    place(decimal_or_zero(word(line, 1)) as usize, 1_600)
 }
 
 // What a line asks for.

@@ -4,11 +4,13 @@ use mathlib.Core.Bool.{cond}
 use mathlib.Core.List.{List, [], _∷_, _++_}
 use mathlib.Core.Option.{Option, none, some}
 use Prim.Native.Nat.{ℕ, zero, suc, _+_, _-_, _*_, _/_, _%_, _≤_, _<_}
-use lib.Dec.{ltb}
+use lib.Dec.{eqb, ltb}
 use lib.ListN.{length, getD, take, drop}
 use Rattle.base.specs.Range.{within}
 use Rattle.text.specs.declared.hex.Digit.{Digit}
 use Rattle.text.specs.declared.hex.Digit.the-variants.{Value, Nothing}
+use Rattle.text.specs.declared.hex.Length.{Length}
+use Rattle.text.specs.declared.hex.Length.the-variants.{Count, NoHex}
 
 -- 0 to 9, A to F, a to f
 unfoldable pub hexValue : ℕ → Option ℕ
@@ -61,3 +63,16 @@ pub record HexRead (line old new : List ℕ) (count : ℕ) : Type 0 where
   pub counted : count ≡ length (hexPairs (length old) line)
   pub inside : count ≤ length new
   pub front : count ≡ length (take count new)
+
+-- How many bytes a word writes that is pairs and nothing else, if there is room for them.
+unfoldable pub wordLength : ℕ → List ℕ → Option ℕ
+wordLength room word = let count = length (hexPairs room word) in cond (eqb (length word) (2 * count)) (some count) none
+
+abbrev pub lengthOf : Length → Option ℕ
+lengthOf (Count count) = some count
+lengthOf NoHex = none
+
+-- What reading a whole word does: its pairs are read in any case, and the answer tells whether they are all of it.
+pub record WordRead (word old new : List ℕ) (answer : Length) : Type 0 where
+  pub read : HexRead word old new (length (hexPairs (length old) word))
+  pub is : lengthOf answer ≡ wordLength (length old) word

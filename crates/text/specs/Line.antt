@@ -1,4 +1,4 @@
--- Lines of a text.
+-- Lines of a text, and words of a line.
 use mathlib.Core.Path.{_≡_}
 use mathlib.Core.Bool.{cond}
 use mathlib.Core.List.{List, [], _∷_}
@@ -6,10 +6,14 @@ use Prim.Native.Nat.{ℕ, suc, _+_, max, _≤_}
 use lib.Dec.{eqb}
 use lib.ListN.{length, drop}
 
--- How many bytes come before the first newline, or in all.
-unfoldable pub lineLength : List ℕ → ℕ
-lineLength [] = 0
-lineLength (byte ∷ text) = cond (eqb byte 10) 0 (suc (lineLength text))
+-- How many bytes come before the first such byte, or in all.
+unfoldable pub lengthTo : ℕ → List ℕ → ℕ
+lengthTo mark [] = 0
+lengthTo mark (byte ∷ text) = cond (eqb byte mark) 0 (suc (lengthTo mark text))
+
+-- The first line ends at a newline.
+abbrev pub lineLength : List ℕ → ℕ
+lineLength text = lengthTo 10 text
 
 -- A byte in front of the first line.
 abbrev pub toFirstLine : ℕ → List (List ℕ) → List (List ℕ)
@@ -21,8 +25,8 @@ unfoldable pub lines : List ℕ → List (List ℕ)
 lines [] = []
 lines (byte ∷ text) = cond (eqb byte 10) ([] ∷ lines text) (toFirstLine byte (lines text))
 
--- The place behind the line that starts at `from`. The second and the third follow from the first, for callers that index.
-pub record LineEnd (text : List ℕ) (from end : ℕ) : Type 0 where
-  pub is : end ≡ from + lineLength (drop from text)
+-- The first place from `from` on that has such a byte, or the end. The second and the third follow from the first, for callers that index.
+pub record EndsAt (mark : ℕ) (text : List ℕ) (from end : ℕ) : Type 0 where
+  pub is : end ≡ from + lengthTo mark (drop from text)
   pub behind : from ≤ end
   pub inside : end ≤ max from (length text)

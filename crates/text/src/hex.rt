@@ -4,13 +4,19 @@ use base::party::within;
 ghost use mathlib.Core.Path.{_≡_};
 ghost use Prim.Native.Nat.{_+_, _<_};
 ghost use lib.ListN.{getD};
-ghost use Rattle.text.specs.Hex.{hexValue, pairValue, HexRead, digitOf, DigitBelow, hexDigit, hexPair, hex};
+ghost use Rattle.text.specs.Hex.{hexValue, pairValue, HexRead, WordRead, digitOf, DigitBelow, hexDigit, hexPair, hex};
 ghost use Rattle.text.specs.Put.{Puts};
 
 // The value of a digit or of a pair of digits, which other bytes lack.
 pub enum Digit {
     Value(u8),
     Nothing,
+}
+
+// How many bytes a word writes, which other text lacks.
+pub enum Length {
+    Count(usize),
+    NoHex,
 }
 
 // The value of a hex digit, capital or small.
@@ -62,6 +68,17 @@ pub fn read_hex(line: &[u8], out: &mut [u8]) -> usize
         n += 1;
     }
     n
+}
+
+// The same of a word that must be pairs and nothing else.
+pub fn read_word(word: &[u8], out: &mut [u8]) -> Length
+    ensures { λ r. ⌜ WordRead (now (word .entry)) (now (out .entry)) (now (out .exit)) r ⌝ }
+{
+    let n = read_hex(word, out);
+    if word.len() != 2 * n {
+        return Length::NoHex;
+    }
+    Length::Count(n)
 }
 
 fn capital_digit(n: u8) -> u8

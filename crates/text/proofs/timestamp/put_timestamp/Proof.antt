@@ -1,9 +1,9 @@
--- `play::output::put_timestamp` meets its contract. Assumes nothing.
+-- `text::timestamp::put_timestamp` meets its contract. Assumes nothing.
 use borrow.Author.Needs.{needs}
 use Rattle.text.proofs.Putting.{then}
-use Rattle.play.specs.Output.{stamp}
-use Rattle.play.proofs.output.put_timestamp.Statement.{statement}
-use Rattle.play.proofs.output.put_timestamp.Tie as tie
+use Rattle.text.specs.Timestamp.{stamp}
+use Rattle.text.proofs.timestamp.put_timestamp.Statement.{statement}
+use Rattle.text.proofs.timestamp.put_timestamp.Tie as tie
 
 returns : tie.Need-returns
 unfolding stamp
