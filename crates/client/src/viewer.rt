@@ -15,9 +15,9 @@ ghost use Rattle.protocol.specs.Viewer.{viewerStep, viewerCall};
 ghost use Rattle.client.specs.Stepping.{Calls};
 ghost use Rattle.client.specs.Viewing.{ViewerMade, ofViewer};
 
-// A viewing client's record: a client's, but nobody hands it to `begin_write`.
+// A viewing client's record: a client's, but nobody can hand it to `begin_write`.
 pub struct Viewer {
-    pub client: Client,
+    client: Client,
 }
 
 // A viewing client that is set up; a record of no client where it is refused.

@@ -1,4 +1,4 @@
-// Calls of a client, or of a viewing client: its record is a client's too.
+// Calls of a client.
 use crate::answers::Answer;
 use crate::answers::COUNTED;
 use crate::answers::ENDED;
@@ -14,10 +14,8 @@ use crate::log::handed;
 use crate::tasks::Call;
 use crate::tasks::Held;
 use crate::tasks::Task;
-use crate::tasks::Whom;
 use crate::tasks::behind_lent;
 use crate::tasks::lent;
-use crate::viewers;
 use base::party::ClientId;
 use base::party::RegisterId;
 use base::party::Setup;
@@ -27,47 +25,35 @@ use protocol::client::Client;
 use protocol::client::ClientAnswer;
 
 // What a call leaves.
-pub struct ClientCalled {
-    pub client: Client,
-    pub answer: Answer,
+struct ClientCalled {
+    client: Client,
+    answer: Answer,
 }
 
 pub fn nobody() -> Client {
     client::fresh(0, ClientId(0), 0).client
 }
 
-// A refused set-up leaves what was set up before.
-pub fn made(setup: Setup, client: Client, before: Client) -> ClientCalled {
-    match setup {
-        Setup::Good => ClientCalled {
-            client: client,
-            answer: plain(Outcome::Said(READY)),
-        },
-        Setup::Refused(number) => ClientCalled {
-            client: before,
-            answer: plain(Outcome::Refused(number)),
-        },
+// The record as it was, and an outcome with no card.
+fn kept(client: Client, outcome: Outcome) -> ClientCalled {
+    ClientCalled {
+        client: client,
+        answer: plain(outcome),
     }
 }
 
-fn set_up(before: Client, whom: Whom, f: u8, id: u8, nonce: u64) -> ClientCalled {
-    if let Whom::Viewer = whom {
-        return viewers::set_up(before, f, id, nonce);
-    }
+// A refused set-up leaves what was set up before.
+fn set_up(before: Client, f: u8, id: u8, nonce: u64) -> ClientCalled {
     let new = client::fresh(f, ClientId(id), nonce);
     let setup = new.setup;
     let client = new.client;
-    made(setup, client, before)
-}
-
-fn copy(client: Client, said: u8) -> ClientCalled {
-    ClientCalled {
-        client: client,
-        answer: plain(Outcome::Said(said)),
+    match setup {
+        Setup::Good => kept(client, Outcome::Said(READY)),
+        Setup::Refused(number) => kept(before, Outcome::Refused(number)),
     }
 }
 
-fn outcome(answer: ClientAnswer) -> Outcome {
+pub fn outcome(answer: ClientAnswer) -> Outcome {
     match answer {
         ClientAnswer::Send(length) => Outcome::Sent(length),
         ClientAnswer::Counted => Outcome::Said(COUNTED),
@@ -77,7 +63,7 @@ fn outcome(answer: ClientAnswer) -> Outcome {
     }
 }
 
-pub fn called(stepped: Stepped) -> ClientCalled {
+fn called(stepped: Stepped) -> ClientCalled {
     let answer = stepped.answer;
     let card = stepped.card;
     let client = stepped.client;
@@ -95,44 +81,31 @@ fn begin_write(client: Client, register: u8, card: &[u8], out: &mut [u8]) -> Cli
     called(client::begin_write(client, RegisterId(register), card, out))
 }
 
-fn begin_read(client: Client, whom: Whom, register: u8, out: &mut [u8]) -> ClientCalled {
-    if let Whom::Viewer = whom {
-        return viewers::begin_view(client, register, out);
-    }
+fn begin_read(client: Client, register: u8, out: &mut [u8]) -> ClientCalled {
     called(client::begin_read(client, RegisterId(register), out))
 }
 
-fn step(
-    client: Client,
-    whom: Whom,
-    message: &[u8],
-    verdicts: &[u8],
-    out: &mut [u8],
-) -> ClientCalled {
-    if let Whom::Viewer = whom {
-        return viewers::step(client, message, verdicts, out);
-    }
+fn step(client: Client, message: &[u8], verdicts: &[u8], out: &mut [u8]) -> ClientCalled {
     called(client::step(client, message, verdicts, out))
 }
 
 fn call(
     client: Client,
-    whom: Whom,
     call: Call,
     message: &Message,
     verdicts: &Verdicts,
     out: &mut [u8],
 ) -> ClientCalled {
     match call {
-        Call::SetUp(f, id, nonce) => set_up(client, whom, f, id, nonce),
+        Call::SetUp(f, id, nonce) => set_up(client, f, id, nonce),
         Call::Write(register, n) => begin_write(client, register, front(message, n), out),
-        Call::Read(register) => begin_read(client, whom, register, out),
-        Call::HandOver(n, m) => step(client, whom, front(message, n), front(verdicts, m), out),
-        Call::Copy(said) => copy(client, said),
+        Call::Read(register) => begin_read(client, register, out),
+        Call::HandOver(n, m) => step(client, front(message, n), front(verdicts, m), out),
+        Call::Copy(said) => kept(client, Outcome::Said(said)),
     }
 }
 
-// What a line about a client or a viewing client does: answers the record that it leaves.
+// What a line about a client does: answers the record that it leaves.
 pub fn turn(
     before: Client,
     task: Task,
@@ -153,8 +126,7 @@ pub fn turn(
         &mut message,
         &mut verdicts,
     );
-    let whom = task.whom;
-    let called = call(before, whom, asked, &message, &verdicts, &mut out[0..room]);
+    let called = call(before, asked, &message, &verdicts, &mut out[0..room]);
     let client = called.client;
     let answer = called.answer;
     finish(answer, task, line, &out, held, store, sent);

@@ -23,6 +23,7 @@ use base::slices::front;
 use libc::STDIN_FILENO;
 use tasks::CLIENT_PLACES;
 use tasks::REPLICA_PLACES;
+use tasks::VIEWER_PLACES;
 use tasks::Whom;
 use tasks::place;
 
@@ -32,6 +33,7 @@ const SCRIPT: usize = 1_048_576;
 fn play_lines(script: &[u8]) {
     let mut replicas = [replicas::nobody(); REPLICA_PLACES];
     let mut clients = [clients::nobody(); CLIENT_PLACES];
+    let mut viewers = [viewers::nobody(); VIEWER_PLACES];
     let mut held = tasks::nothing_held();
     let mut store = log::empty();
     let mut sent = 0;
@@ -56,10 +58,9 @@ fn play_lines(script: &[u8]) {
                 );
                 replicas[left] = replica;
             }
-            // A viewing client's record stands among the clients', who have other numbers.
-            _ => {
-                let taken = place(task.taken, 193);
-                let left = place(task.left, 193);
+            Whom::Client => {
+                let taken = place(task.taken, 129);
+                let left = place(task.left, 129);
                 let client = clients::turn(
                     clients[taken],
                     task,
@@ -69,6 +70,19 @@ fn play_lines(script: &[u8]) {
                     &mut sent,
                 );
                 clients[left] = client;
+            }
+            Whom::Viewer => {
+                let taken = place(task.taken, 65);
+                let left = place(task.left, 65);
+                let viewer = viewers::turn(
+                    viewers[taken],
+                    task,
+                    line,
+                    &mut held,
+                    &mut store,
+                    &mut sent,
+                );
+                viewers[left] = viewer;
             }
         }
     }

@@ -46,18 +46,20 @@ pub struct Task {
     pub left: usize,
 }
 
-// A party's record stands at its number, and the one kept aside behind all of these. At 0 is nobody, for lines about none.
-// Replicas have the numbers 1 to 16: a record of sixteen registers is too large for more places than that.
+// A party's record stands at its number, a viewing client's at its number less 64, and the one kept aside behind all of these. At 0
+// is nobody, for lines about none. There are places for the numbers that a party can have: records are too large for more.
 pub const REPLICA_PLACES: usize = 34;
 
-pub const CLIENT_PLACES: usize = 194;
+pub const CLIENT_PLACES: usize = 130;
 
-// Which places hold a record: the replicas', then the clients', then the same places for the viewing clients.
-pub type Held = [bool; 422];
+pub const VIEWER_PLACES: usize = 66;
+
+// Which places hold a record: the replicas', then the clients', then the viewing clients'.
+pub type Held = [bool; 230];
 
 const FIRST_CLIENT: usize = 34;
 
-const FIRST_VIEWER: usize = 228;
+const FIRST_VIEWER: usize = 164;
 
 // The bytes of output that a call is lent if its line does not say.
 const OUTPUT: u64 = 1_600;
@@ -90,7 +92,7 @@ const RESTORE: usize = 11;
 const NO_COMMAND: usize = 12;
 
 pub fn nothing_held() -> Held {
-    [false; 422]
+    [false; 230]
 }
 
 // A place, 0 for one behind the last.
@@ -103,31 +105,45 @@ pub fn place(at: usize, last: usize) -> usize
     0
 }
 
-// The largest number of such a party.
+// How many numbers such a party can have.
 fn last(whom: Whom) -> usize
-    ensures { λ r. ⌜ r ≤ 96 ⌝ }
+    ensures { λ r. ⌜ r ≤ 64 ⌝ }
 {
     match whom {
         Whom::Replica => 16,
-        _ => 96,
+        Whom::Client => 64,
+        Whom::Viewer => 32,
+    }
+}
+
+// How far down of its number such a party's place is.
+fn before_first(whom: Whom) -> usize {
+    match whom {
+        Whom::Viewer => 64,
+        _ => 0,
     }
 }
 
 // Where a party's record stands, by the word that is its number.
 fn seat(whom: Whom, id: &[u8]) -> usize
-    ensures { λ r. ⌜ r ≤ 96 ⌝ }
+    ensures { λ r. ⌜ r ≤ 64 ⌝ }
 {
-    place(decimal_or_zero(id) as usize, last(whom))
+    let n = decimal_or_zero(id) as usize;
+    let below = before_first(whom);
+    if n < below {
+        return 0;
+    }
+    place(n - below, last(whom))
 }
 
 // Where it is noted whether a place holds a record.
 fn note(whom: Whom, at: usize) -> usize
-    ensures { λ r. ⌜ r ≤ 421 ⌝ }
+    ensures { λ r. ⌜ r ≤ 229 ⌝ }
 {
     match whom {
         Whom::Replica => place(at, 33),
-        Whom::Client => FIRST_CLIENT + place(at, 193),
-        Whom::Viewer => FIRST_VIEWER + place(at, 193),
+        Whom::Client => FIRST_CLIENT + place(at, 129),
+        Whom::Viewer => FIRST_VIEWER + place(at, 65),
     }
 }
 

@@ -7,10 +7,10 @@ use Rattle.scripts.proofs.play_lines.Statement.{statement}
 use Rattle.scripts.proofs.play_lines.Tie as tie
 
 abbrev Inv-loop : tie.InvT-loop
-Inv-loop script replicas₀ clients₀ held₀ store₀ sent₀ from₀ replicas clients held store sent from = Unit {0}
+Inv-loop script replicas₀ clients₀ viewers₀ held₀ store₀ sent₀ from₀ replicas clients viewers held store sent from = Unit {0}
 
 abbrev μ-loop : tie.MeasureT-loop
-μ-loop script replicas₀ clients₀ held₀ store₀ sent₀ from₀ replicas clients held store sent from = length script - from
+μ-loop script replicas₀ clients₀ viewers₀ held₀ store₀ sent₀ from₀ replicas clients viewers held store sent from = length script - from
 
 pub play-lines-spec : {M : Type 1} → statement M
 play-lines-spec =
@@ -18,6 +18,7 @@ play-lines-spec =
     (tie.spec
     Inv-loop
     μ-loop
+    (λ c κs. search needs)
     (λ c κs. search needs)
     (λ c κs. search needs)
     (λ c κs. search needs)
@@ -39,6 +40,17 @@ play-lines-spec =
     (λ c. search needs)
     (λ c. omega (arith, c .before .before .before .before .before .before .before .before .before .before .before .before .line-end .ensures .behind, c .before .before .before .before .before .before .before .before .before .before .before .before .before .loop-test .taken))
     (λ c. search needs)
+    (λ c. search needs)
+    (λ c κs. search needs)
+    (λ c κs. search needs)
+    (λ c. search needs)
+    (λ c. search needs)
+    (λ c κs. search needs)
+    (λ c. search needs)
+    (λ c. search needs)
+    (λ c. omega (arith, c .before .before .before .before .before .before .before .before .before .before .before .before .line-end .ensures .behind, c .before .before .before .before .before .before .before .before .before .before .before .before .before .loop-test .taken))
+    (λ c. search needs)
+    (λ c. search needs)
     (λ c κs. search needs)
     (λ c κs. search needs)
     (λ c. search needs)
@@ -46,6 +58,6 @@ play-lines-spec =
     (λ c κs. search needs)
     (λ c. search needs)
     (λ c. search needs)
-    (λ c. omega (arith, c .before .before .before .before .before .before .before .before .before .before .before .line-end .ensures .behind, c .before .before .before .before .before .before .before .before .before .before .before .before .loop-test .taken))
+    (λ c. omega (arith, c .before .before .before .before .before .before .before .before .before .before .before .before .line-end .ensures .behind, c .before .before .before .before .before .before .before .before .before .before .before .before .before .loop-test .taken))
     (λ c. search needs)
     (λ c. search needs))
