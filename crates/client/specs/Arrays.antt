@@ -11,6 +11,7 @@ use Rattle.base.specs.declared.party.ReplicaId.{ReplicaId}
 use Rattle.base.specs.declared.replica_set.ReplicaSet.{ReplicaSet}
 use Rattle.wire.specs.Proof.{Entry, signerSet, entriesBytes}
 use Rattle.protocol.specs.Client.{signatureAt}
+use Rattle.protocol.specs.Parts.{entriesRoom}
 
 -- An entry more, at the place behind so many: signer and signature.
 abbrev pub entryOf : ReplicaId → List ℕ → List ℕ
@@ -28,4 +29,4 @@ pub record Added (counted : ReplicaSet) (id : ReplicaId) (signatures : List ℕ)
 pub record Keeps (entries : List Entry) (count : ℕ) (set : ReplicaSet) (array : List ℕ) : Type 0 where
   pub many : count ≡ length entries
   pub who : set ≡ signerSet entries
-  pub holds : array ≡ filled 715 (entriesBytes entries)
+  pub holds : array ≡ filled entriesRoom (entriesBytes entries)

@@ -12,6 +12,7 @@ use Rattle.base.specs.declared.timestamp.Timestamp.{Timestamp}
 use Rattle.wire.specs.declared.writer.Encoded.{Encoded}
 use Rattle.wire.specs.declared.writer.Encoded.the-variants.{Length as Wrote, Refused as Unwritten}
 use Rattle.protocol.specs.Client.{Turn, ClientCall, clientAnswers}
+use Rattle.protocol.specs.Parts.{cardRoom}
 use Rattle.protocol.specs.declared.client.Client.{Client}
 use Rattle.protocol.specs.declared.client.ClientAnswer.{ClientAnswer}
 use Rattle.protocol.specs.declared.client.ClientAnswer.the-variants.{Send, Done, Refused}
@@ -24,10 +25,10 @@ callOf stepped output =
 
 -- An answer with no card beside it.
 abbrev pub plain : ClientAnswer → Client → Stepped
-plain answer client = record { answer = answer; «card_length» = 0; card = replicate 17 0; client = client }
+plain answer client = record { answer = answer; «card_length» = 0; card = replicate cardRoom 0; client = client }
 
 abbrev pub doneWith : Timestamp → List ℕ → ReplicaSet → Client → Stepped
-doneWith timestamp card signers client = record { answer = Done timestamp signers; «card_length» = length card; card = filled 17 card; client = client }
+doneWith timestamp card signers client = record { answer = Done timestamp signers; «card_length» = length card; card = filled cardRoom card; client = client }
 
 abbrev pub sentAs : Encoded → Client → Stepped
 sentAs (Wrote n) client = plain (Send n) client

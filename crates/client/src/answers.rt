@@ -14,6 +14,7 @@ ghost use mathlib.Core.Path.{_≡_};
 ghost use Prim.Native.Nat.{min};
 ghost use Rattle.wire.specs.Sha256.{sha256};
 ghost use Rattle.protocol.specs.Client.{currentCard, withPhase};
+ghost use Rattle.protocol.specs.Parts.{cardRoom};
 ghost use Rattle.client.specs.Leaving.{plain, doneWith, sentAs};
 
 // An answer with no card beside it.
@@ -54,7 +55,7 @@ pub(super) fn sent(encoded: Encoded, client: Client) -> Stepped
 
 // A record of any value has at most 17 bytes of a card.
 fn kept(card_length: u8) -> u8
-    ensures { λ r. ⌜ r ≡ min «card_length» 17 ⌝ }
+    ensures { λ r. ⌜ r ≡ min «card_length» cardRoom ⌝ }
 {
     if card_length < LONGEST_CARD {
         card_length

@@ -19,7 +19,7 @@ ghost use Rattle.base.specs.ReplicaSet.{empty};
 ghost use Rattle.base.specs.Timestamp.{start};
 ghost use Rattle.wire.specs.Message.{longest, READ-STAMP, READ};
 ghost use Rattle.protocol.specs.Client.{mayBegin, turn, send, beginning};
-ghost use Rattle.protocol.specs.Parts.{startCard};
+ghost use Rattle.protocol.specs.Parts.{cardRoom, startCard};
 ghost use Rattle.client.specs.Beginning.{barredBy};
 ghost use Rattle.client.specs.Leaving.{Takes};
 
@@ -55,7 +55,7 @@ pub(super) fn ask_stamps(
     card: &[u8],
     out: &mut [u8],
 ) -> Stepped
-    requires { ⌜ (longest ≤ length (now out)) × (length (now card) ≤ 17) × (mayBegin client ≡ true) ⌝ }
+    requires { ⌜ (longest ≤ length (now out)) × (length (now card) ≤ cardRoom) × (mayBegin client ≡ true) ⌝ }
     ensures { λ r. ⌜ Takes (now (out .entry))
         (turn (send (READ-STAMP (client .id) (client .«last_nonce» + 1)))
         (beginning register (client .«last_nonce» + 1) (Phase.Stamps (client .«last_nonce» + 1) start empty) (now (card .entry)) client))

@@ -23,6 +23,7 @@ ghost use lib.ListN.{length};
 ghost use Rattle.wire.specs.Message.{longest, WRITE};
 ghost use Rattle.wire.specs.Parts.{preparedPart, preparedSigners, WholeIfThere};
 ghost use Rattle.protocol.specs.Client.{clientAnswers, currentCard, bestProof, withPhase, turn, send, afterCard, countCard, onCard, afterWriteBack};
+ghost use Rattle.protocol.specs.Parts.{cardRoom};
 ghost use Rattle.client.specs.Roles.{afterCards};
 ghost use Rattle.client.specs.Leaving.{callOf, Takes, TakesAny};
 
@@ -101,7 +102,7 @@ pub(super) fn on_card<'a>(
     role: Role,
     out: &mut [u8],
 ) -> Stepped
-    requires { ⌜ (longest ≤ length (now out)) × WholeIfThere (now proof) × (signers ≡ preparedSigners (preparedPart (now proof))) × (length (now card) ≤ 17) ⌝ }
+    requires { ⌜ (longest ≤ length (now out)) × WholeIfThere (now proof) × (signers ≡ preparedSigners (preparedPart (now proof))) × (length (now card) ≤ cardRoom) ⌝ }
     ensures { λ r. ⌜ callOf r (now (out .exit)) ≡ clientAnswers client (now (out .entry)) (onCard (afterCards role) client sender nonce (now (card .entry)) (preparedPart (now (proof .entry))) addressed phase) ⌝ }
 {
     let Phase::Cards(asked, best, counted, showed) = phase else {

@@ -21,6 +21,7 @@ ghost use Rattle.base.specs.Party.{registerPlace};
 ghost use Rattle.wire.specs.Parts.{Whole};
 ghost use Rattle.wire.specs.Proof.{preparedFrom, signerSet};
 ghost use Rattle.protocol.specs.Client.{withPhase, beginning, withProof, withCard, withDigest, withSignatures, withSigners, withLastWritten, writtenAt, built};
+ghost use Rattle.protocol.specs.Parts.{cardRoom, signaturesRoom};
 ghost use Rattle.client.specs.Arrays.{Keeps};
 
 // The record anew: a field that is an enum is not stored to.
@@ -60,7 +61,7 @@ pub(super) fn beginning(
     phase: Phase,
     card: &[u8],
 ) -> Client
-    requires { ⌜ length (now card) ≤ 17 ⌝ }
+    requires { ⌜ length (now card) ≤ cardRoom ⌝ }
     ensures { λ r. ⌜ r ≡ beginning register nonce phase (now (card .entry)) client ⌝ }
 {
     let id = client.id;
@@ -97,7 +98,7 @@ pub(super) fn with_proof(mut client: Client, proof: &[u8], signers: ReplicaSet) 
 }
 
 pub(super) fn with_card(mut client: Client, card: &[u8]) -> Client
-    requires { ⌜ length (now card) ≤ 17 ⌝ }
+    requires { ⌜ length (now card) ≤ cardRoom ⌝ }
     ensures { λ r. ⌜ r ≡ withCard (now (card .entry)) client ⌝ }
 {
     let kept = card_array(card);
@@ -126,7 +127,7 @@ pub(super) fn with_signatures(mut client: Client, signatures: [u8; SIGNATURES_RO
 
 // The proof is built, and its signers are kept in place of the signatures.
 pub(super) fn with_signers(mut client: Client, signers: ReplicaSet) -> Client
-    ensures { λ r. ⌜ r ≡ withSigners signers (withSignatures (replicate 1024 0) client) ⌝ }
+    ensures { λ r. ⌜ r ≡ withSigners signers (withSignatures (replicate signaturesRoom 0) client) ⌝ }
 {
     client.signatures = [0; SIGNATURES_ROOM];
     client.signers = signers;

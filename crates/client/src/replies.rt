@@ -18,7 +18,7 @@ ghost use lib.ListN.{length};
 ghost use Rattle.base.specs.Same.{same};
 ghost use Rattle.base.specs.Timestamp.{number};
 ghost use Rattle.protocol.specs.Client.{isBetter, bestOf, keepBetter, keepBetterCard, showedBy, isNew};
-ghost use Rattle.protocol.specs.Parts.{cardStands, startCard};
+ghost use Rattle.protocol.specs.Parts.{cardRoom, cardStands, startCard};
 ghost use Rattle.wire.specs.Parts.{preparedPart, preparedSigners, WholeIfThere};
 
 // Whether no reply of this replica was taken yet.
@@ -88,7 +88,7 @@ pub(super) fn keep_better_card<'a>(
     proof: &'a [u8],
     signers: ReplicaSet,
 ) -> Client
-    requires { ⌜ WholeIfThere (now proof) × (signers ≡ preparedSigners (preparedPart (now proof))) × (length (now card) ≤ 17) ⌝ }
+    requires { ⌜ WholeIfThere (now proof) × (signers ≡ preparedSigners (preparedPart (now proof))) × (length (now card) ≤ cardRoom) ⌝ }
     ensures { λ r. ⌜ r ≡ keepBetterCard best (now (card .entry)) (preparedPart (now (proof .entry))) client ⌝ }
 {
     if !is_better(best, proof) {

@@ -13,6 +13,7 @@ ghost use Prim.Native.Nat.{_≤_};
 ghost use lib.ListN.{length, take};
 ghost use Rattle.base.specs.ReplicaSet.{with};
 ghost use Rattle.protocol.specs.Client.{withSignature, gathered};
+ghost use Rattle.protocol.specs.Parts.{entriesRoom, signaturesRoom};
 ghost use Rattle.client.specs.Arrays.{taken, Added, Keeps};
 
 // Entries in an array, how many they are, and who signed them.
@@ -55,7 +56,7 @@ fn add_entry(
     id: ReplicaId,
     signatures: &[u8],
 ) -> u8
-    requires { ⌜ (1 ≤ id .0) × (id .0 ≤ 16) × (length (now entries) ≡ 715) × (length (now signatures) ≡ 1024) ⌝ }
+    requires { ⌜ (1 ≤ id .0) × (id .0 ≤ 16) × (length (now entries) ≡ entriesRoom) × (length (now signatures) ≡ signaturesRoom) ⌝ }
     ensures { λ r. ⌜ Added counted id (now (signatures .entry)) count (now (entries .entry)) r (now (entries .exit)) ⌝ }
 {
     if !is_taken(counted, id, count) {

@@ -25,7 +25,7 @@ use Rattle.wire.specs.Proof.{Entry, PreparedProof, WrittenProof, signerSet, ent
 use Rattle.wire.specs.Sha256.{sha256}
 use Rattle.wire.specs.Writing.{unsigned, inFront}
 use Rattle.wire.specs.declared.message.Party.the-variants.{Client as AtClient}
-use Rattle.protocol.specs.Parts.{startCard, cardKept, entriesKept, ifIssued, cardStands}
+use Rattle.protocol.specs.Parts.{cardRoom, entriesRoom, signaturesRoom, startCard, cardKept, entriesKept, ifIssued, cardStands}
 use Rattle.protocol.specs.Replica.{withOutput}
 use Rattle.protocol.specs.declared.client.Client.{Client}
 use Rattle.protocol.specs.declared.client.ClientAnswer.{ClientAnswer}
@@ -80,7 +80,7 @@ withSignature signatures id signature = take (64 * (id .0 - 1)) signatures ++ (s
 
 -- No proof of any register is kept yet.
 abbrev pub noneWritten : List Written
-noneWritten = replicate 16 (record { timestamp = start; «entry_count» = 0; entries = replicate 715 0 })
+noneWritten = replicate 16 (record { timestamp = start; «entry_count» = 0; entries = replicate entriesRoom 0 })
 
 -- A client with no operation, which used the nonces up to this one.
 abbrev pub idleClient : ℕ → ClientId → ℕ → Client
@@ -92,12 +92,12 @@ idleClient f id lastNonce =
       «last_nonce» = lastNonce;
       phase = Idle;
       «card_length» = 0;
-      card = replicate 17 0;
+      card = replicate cardRoom 0;
       digest = replicate 32 0;
       signers = empty;
       «entry_count» = 0;
-      entries = replicate 715 0;
-      signatures = replicate 1024 0;
+      entries = replicate entriesRoom 0;
+      signatures = replicate signaturesRoom 0;
       written = noneWritten;
     }
 
@@ -150,25 +150,25 @@ beginning register nonce phase card client =
       «last_nonce» = nonce;
       phase = phase;
       «card_length» = length card;
-      card = filled 17 card;
+      card = filled cardRoom card;
       digest = replicate 32 0;
       signers = empty;
       «entry_count» = 0;
-      entries = replicate 715 0;
-      signatures = replicate 1024 0;
+      entries = replicate entriesRoom 0;
+      signatures = replicate signaturesRoom 0;
       written = client .written;
     }
 
 -- A better reply's proof is kept; document 02, #102: and the set "with the best reply".
 abbrev pub withProof : PreparedProof → Client → Client
 withProof proof c =
-    remade (c .phase) (c .«card_length») (c .card) (proof .digest) (signerSet (proof .entries)) (length (proof .entries)) (filled 715 (entriesBytes (proof .entries))) (c .signatures) (c .written) c
+    remade (c .phase) (c .«card_length») (c .card) (proof .digest) (signerSet (proof .entries)) (length (proof .entries)) (filled entriesRoom (entriesBytes (proof .entries))) (c .signatures) (c .written) c
 
 abbrev pub withCard : List ℕ → Client → Client
-withCard card c = remade (c .phase) (length card) (filled 17 card) (c .digest) (c .signers) (c .«entry_count») (c .entries) (c .signatures) (c .written) c
+withCard card c = remade (c .phase) (length card) (filled cardRoom card) (c .digest) (c .signers) (c .«entry_count») (c .entries) (c .signatures) (c .written) c
 
 abbrev pub withDigest : List ℕ → Client → Client
-withDigest digest c = remade (c .phase) (c .«card_length») (c .card) digest empty 0 (replicate 715 0) (c .signatures) (c .written) c
+withDigest digest c = remade (c .phase) (c .«card_length») (c .card) digest empty 0 (replicate entriesRoom 0) (c .signatures) (c .written) c
 
 abbrev pub withSignatures : List ℕ → Client → Client
 withSignatures signatures c = remade (c .phase) (c .«card_length») (c .card) (c .digest) (c .signers) (c .«entry_count») (c .entries) signatures (c .written) c
@@ -180,7 +180,7 @@ withSigners signers c = remade (c .phase) (c .«card_length») (c .card) (c .dig
 -- A new written proof of the operation's register; those of the others stay.
 abbrev pub withLastWritten : Timestamp → List Entry → Client → Client
 withLastWritten timestamp entries c =
-    let last : Written = record { timestamp = timestamp; «entry_count» = length entries; entries = filled 715 (entriesBytes entries) } in
+    let last : Written = record { timestamp = timestamp; «entry_count» = length entries; entries = filled entriesRoom (entriesBytes entries) } in
     remade (c .phase) (c .«card_length») (c .card) (c .digest) (c .signers) (c .«entry_count») (c .entries) (c .signatures) (set (c .written) (registerPlace (c .register)) last) c
 
 -- ---- Answers
@@ -292,7 +292,7 @@ afterPrepared timestamp counted client =
     cond (enough client counted)
     (let entries = built client counted (client .signatures) in
     turn (send (WRITE (client .id) (currentCard client) (record { timestamp = number timestamp; digest = client .digest; entries = entries })))
-    (withPhase (Writtens timestamp empty) (withSigners (signerSet entries) (withSignatures (replicate 1024 0) client))))
+    (withPhase (Writtens timestamp empty) (withSigners (signerSet entries) (withSignatures (replicate signaturesRoom 0) client))))
     (turn waits (withPhase (Prepareds timestamp counted) client))
 
 unfoldable pub onPrepared : Client → ReplicaId → ℕ → List ℕ → List ℕ → Phase → Outcome Turn
@@ -394,7 +394,7 @@ pub record Given : Type 0 where
 
 -- The card stands beside Done, zeros behind it; zeros beside the other answers.
 abbrev pub giving : ClientAnswer → List ℕ → List ℕ → Given
-giving answer card output = record { answer = answer; «card_length» = length card; card = filled 17 card; output = output }
+giving answer card output = record { answer = answer; «card_length» = length card; card = filled cardRoom card; output = output }
 
 -- What an answer is in a call whose output held `old`: "In every answer the lent output holds the message in front and its old bytes behind
 -- (only old bytes where nothing is sent)"; "A refusal is its number alone; record and lent bytes keep their old contents." A message is for

@@ -20,7 +20,7 @@ use Rattle.wire.specs.Message.{Message, READ-STAMP, PREPARE, WRITE, READ, STAMP
 use Rattle.wire.specs.Proof.{PreparedProof, WrittenProof, signerSet, entriesBytes}
 use Rattle.wire.specs.Writing.{unsigned, roomy, inFront}
 use Rattle.wire.specs.declared.message.Party.the-variants.{Replica as AtReplica}
-use Rattle.protocol.specs.Parts.{cardKept, entriesKept, ifIssued, cardStands}
+use Rattle.protocol.specs.Parts.{cardRoom, entriesRoom, cardKept, entriesKept, ifIssued, cardStands}
 use Rattle.protocol.specs.declared.replica.Held.{Held}
 use Rattle.protocol.specs.declared.replica.Register.{Register}
 use Rattle.protocol.specs.declared.replica.Replica.{Replica}
@@ -61,11 +61,11 @@ freshRegister =
           record {
             timestamp = start;
             «card_length» = 2;
-            card = replicate 17 0;
+            card = replicate cardRoom 0;
             digest = replicate 32 0;
             signers = empty;
             «entry_count» = 0;
-            entries = replicate 715 0;
+            entries = replicate entriesRoom 0;
           };
     }
 
@@ -117,11 +117,11 @@ holding card proof =
     record {
       timestamp = ofNumber (proof .timestamp);
       «card_length» = length card;
-      card = filled 17 card;
+      card = filled cardRoom card;
       digest = proof .digest;
       signers = signerSet (proof .entries);
       «entry_count» = length (proof .entries);
-      entries = filled 715 (entriesBytes (proof .entries));
+      entries = filled entriesRoom (entriesBytes (proof .entries));
     }
 
 -- WRITE: "if the proof's stamp is larger than the held one, hold its card, stamp and proof"

@@ -22,6 +22,7 @@ ghost use lib.ListN.{length, take, drop};
 ghost use Rattle.base.specs.Same.{same};
 ghost use Rattle.base.specs.Timestamp.{number};
 ghost use Rattle.protocol.specs.Replica.{holding};
+ghost use Rattle.protocol.specs.Parts.{cardRoom};
 ghost use Rattle.wire.specs.Parts.{Whole};
 ghost use Rattle.wire.specs.Proof.{preparedFrom, signerSet};
 ghost use Rattle.replica.specs.Prepares.{isSlot, takesSlot};
@@ -141,7 +142,7 @@ pub(super) fn put_slot(slots: Slots, prepared: Prepared) -> Slots
 
 // A card and its prepared proof, as they are held, with those who signed it.
 pub(super) fn holding(card: &[u8], proof: &[u8], signers: ReplicaSet) -> Held
-    requires { ⌜ Whole (now proof) × (signers ≡ signerSet (preparedFrom (now proof) .entries)) × (length (now card) ≤ 17) ⌝ }
+    requires { ⌜ Whole (now proof) × (signers ≡ signerSet (preparedFrom (now proof) .entries)) × (length (now card) ≤ cardRoom) ⌝ }
     ensures { λ r. ⌜ r ≡ holding (now (card .entry)) (preparedFrom (now (proof .entry))) ⌝ }
 {
     Held {
