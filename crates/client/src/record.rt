@@ -85,7 +85,7 @@ pub(super) fn beginning(
 
 // The prepared proof of the bytes, with its signers, in place of the one that was kept.
 pub(super) fn with_proof(mut client: Client, proof: &[u8], signers: ReplicaSet) -> Client
-    requires { ⌜ Whole (now proof) × (signers ≡ signerSet (preparedFrom (now proof) .entries)) ⌝ }
+    requires { ⌜ Whole 32 (now proof) × (signers ≡ signerSet (preparedFrom (now proof) .entries)) ⌝ }
     ensures { λ r. ⌜ r ≡ withProof (preparedFrom (now (proof .entry))) client ⌝ }
 {
     let digest = digest_array(parts::digest(proof));

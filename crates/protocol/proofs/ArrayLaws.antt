@@ -13,9 +13,9 @@ use Rattle.base.specs.BigEndian.{Bytes}
 use Rattle.base.specs.Bytes.{filled}
 use Rattle.base.proofs.BigEndian.{bytes-append, bytes-take, bytes-drop}
 use Rattle.base.proofs.Filling.{zeros, filled-length, filled-zeros}
-use Rattle.wire.specs.Message.{EachFits, EntriesFit, IfThere, preparedSize}
+use Rattle.wire.specs.Message.{EachFits, EntriesFit, IfThere, proofSize}
 use Rattle.wire.specs.Proof.{Entry, PreparedProof, entriesBytes, readEntries}
-use Rattle.wire.proofs.ProofBytes.{length-read}
+use Rattle.wire.proofs.ProofBytes.{length-entries, read-entries, length-read, fits-read}
 use Rattle.protocol.specs.Parts.{cardKept, entriesKept, ifIssued}
 use Rattle.protocol.proofs.Fit.{Array}
 use Rattle.wire.specs.Parts.{preparedTimestamp}
@@ -64,26 +64,12 @@ card-in-short array kept = rw length-take (omega arith)
 
 -- ---- Entries
 
--- Entries read from bytes that are long enough fit.
-pub entries-read-fit : (n : ℕ) (bytes : List ℕ) → 65 * n ≤ length bytes → Bytes bytes → EachFits (readEntries n bytes)
-unfolding readEntries
-entries-read-fit zero bytes l h = tt
-entries-read-fit (suc n) bytes l h = (
-  (h 0, (simp (length-take, length-drop) (omega arith), bytes-take 64 (drop 1 bytes) (bytes-drop 1 bytes h))),
-  entries-read-fit n (drop 65 bytes) (rw length-drop (omega arith)) (bytes-drop 65 bytes h),
-)
-
 module _ (array : List ℕ) (kept : ℕ) where
   pub entries-in-length : length (entriesKept array kept) ≤ 11
   entries-in-length = rw length-read (omega arith)
 
   pub entries-in-fit : Array 715 array → EntriesFit (entriesKept array kept)
-  entries-in-fit h = (rw length-read (omega arith), entries-read-fit (min kept 11) array (omega arith) (h .1))
-
-pub entries-bytes-length : (entries : List Entry) → EachFits entries → length (entriesBytes entries) ≡ 65 * length entries
-unfolding entriesBytes
-entries-bytes-length [] h = refl
-entries-bytes-length (entry ∷ entries) h = rw (length-append, entries-bytes-length entries (h .1)) (omega arith)
+  entries-in-fit h = (rw length-read (omega arith), fits-read (min kept 11) array (omega arith) (h .1))
 
 pub entries-bytes : (entries : List Entry) → EachFits entries → Bytes (entriesBytes entries)
 unfolding entriesBytes
@@ -92,18 +78,10 @@ entries-bytes (entry ∷ entries) h =
     bytes-cons (entry .signer .0) (entry .signature ++ entriesBytes entries) (h .0 .0)
     (bytes-append (entry .signature) (entriesBytes entries) (h .0 .1 .1) (entries-bytes entries (h .1)))
 
--- Entries written, then read with anything behind them.
-pub entries-read-back : (entries : List Entry) (behind : List ℕ) → EachFits entries → readEntries (length entries) (entriesBytes entries ++ behind) ≡ entries
-unfolding entriesBytes readEntries
-entries-read-back [] behind h = refl
-entries-read-back (entry ∷ entries) behind h =
-    let wide = h .0 .1 .0 in
-    rw (append-assoc, take-at (entry .signature) (entriesBytes entries ++ behind) 64 wide, drop-at (entry .signature) (entriesBytes entries ++ behind) 64 wide, entries-read-back entries behind (h .1))
-
 pub entries-kept-in : (width : ℕ) (entries : List Entry) → EachFits entries → 65 * length entries ≤ width → readEntries (length entries) (filled width (entriesBytes entries)) ≡ entries
 entries-kept-in width entries h l =
-    ap (readEntries (length entries)) (filled-zeros width (entriesBytes entries) (rw (entries-bytes-length entries h) l))
-    ∙ entries-read-back entries (zeros (width - length (entriesBytes entries))) h
+    ap (readEntries (length entries)) (filled-zeros width (entriesBytes entries) (rw (length-entries entries h) l))
+    ∙ read-entries entries (zeros (width - length (entriesBytes entries))) h
 
 pub entries-kept : (entries : List Entry) → EachFits entries → length entries ≤ 11 → entriesKept (filled 715 (entriesBytes entries)) (length entries) ≡ entries
 entries-kept entries h l =
@@ -177,9 +155,9 @@ module _ (timestamp : ℕ) (proof : PreparedProof) where
       go true k = sym (eqb-true timestamp 0 k)
       go false k = e
 
-  pub issued-size : preparedSize (ifIssued timestamp proof) ≤ 38 + 65 * length (proof .entries)
+  pub issued-size : proofSize (ifIssued timestamp proof) ≤ 38 + 65 * length (proof .entries)
   issued-size = go (eqb timestamp 0)
     where
-      go : (b : Bool) → preparedSize (cond b none (some proof)) ≤ 38 + 65 * length (proof .entries)
+      go : (b : Bool) → proofSize (cond b none (some proof)) ≤ 38 + 65 * length (proof .entries)
       go true = omega arith
       go false = omega arith

@@ -18,7 +18,7 @@ use Rattle.base.specs.declared.replica_set.ReplicaSet.{ReplicaSet}
 use Rattle.base.specs.declared.timestamp.Timestamp.{Timestamp}
 use Rattle.base.proofs.Apart.{apart}
 use Rattle.base.proofs.BigEndian.{length-toBytes, bytes-toBytes, bytes-append, bytes-take, bytes-drop}
-use Rattle.wire.specs.Message.{IsDigest, IsSignature, EachFits, PreparedFits, IfThere}
+use Rattle.wire.specs.Message.{IsDigest, IsSignature, EachFits, ProofFits, IfThere}
 use Rattle.wire.specs.Proof.{Entry, PreparedProof}
 use Rattle.wire.specs.Sha256.{hashValue, hashBytes, padded, sha256}
 use Rattle.wire.specs.Parts.{preparedTimestamp}
@@ -91,7 +91,7 @@ built-few n counted signatures = rw length-take (omega arith)
 pub number-fits : (t : Timestamp) → TimestampFits t → number t < 2 ^ 40
 number-fits t h = omega arith
 
-pub best-fits : (best : Timestamp) (proof : Option PreparedProof) → TimestampFits best → IfThere PreparedFits proof → TimestampFits (bestOf best proof)
+pub best-fits : (best : Timestamp) (proof : Option PreparedProof) → TimestampFits best → IfThere ProofFits proof → TimestampFits (bestOf best proof)
 best-fits best none h p = go (isBetter best none) refl
   where
     go : (b : Bool) → isBetter best none ≡ b → TimestampFits (bestOf best none)

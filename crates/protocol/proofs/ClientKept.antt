@@ -16,7 +16,7 @@ use Rattle.base.specs.Timestamp.{number}
 use Rattle.base.specs.declared.party.RegisterId.{RegisterId}
 use Rattle.base.specs.declared.replica_set.ReplicaSet.{ReplicaSet}
 use Rattle.base.specs.declared.timestamp.Timestamp.{Timestamp}
-use Rattle.wire.specs.Message.{IsDigest, EachFits, PreparedFits, IfThere}
+use Rattle.wire.specs.Message.{IsDigest, EachFits, ProofFits, IfThere}
 use Rattle.wire.specs.Proof.{Entry, PreparedProof, entriesBytes}
 use Rattle.protocol.specs.Client.{currentCard, noWritten, writtenAt, lastWritten, beginning, withPhase, withProof, withCard, withDigest, withSignatures, withSigners, withLastWritten, keepBetter, keepBetterCard}
 use Rattle.protocol.specs.declared.client.Client.{Client}
@@ -90,7 +90,7 @@ module _ (before : Client) where
     pub phase-kept : (phase : Phase) → Kept before (withPhase phase client)
     phase-kept phase = changed (withPhase phase client) refl refl refl refl card-fits digest-fits entries-fit signatures-fit written-long written-fit same-written
 
-    pub proof-kept : (proof : PreparedProof) → PreparedFits proof → Kept before (withProof proof client)
+    pub proof-kept : (proof : PreparedProof) → ProofFits proof → Kept before (withProof proof client)
     proof-kept proof h = changed (withProof proof client) refl refl refl refl card-fits (h .1) (entries-filled (proof .entries) (h .2 .1)) signatures-fit written-long written-fit same-written
 
     pub card-changed : (card : List ℕ) → Bytes card → Kept before (withCard card client)
@@ -139,7 +139,7 @@ module _ (before : Client) where
     never-better = le-ltb (number best) 0 (omega arith)
 
     -- A better reply's proof is kept, the card stays.
-    pub better-kept : (proof : Option PreparedProof) → IfThere PreparedFits proof → Best best proof (currentCard before) (keepBetter best proof before)
+    pub better-kept : (proof : Option PreparedProof) → IfThere ProofFits proof → Best best proof (currentCard before) (keepBetter best proof before)
     better-kept none h = rw never-better (record { kept = itself-kept fits; card-is = refl; signers-are = rw never-better; last-is = refl })
     better-kept (some proof) h = go (ltb (number best) (proof .timestamp)) refl
       where
@@ -148,7 +148,7 @@ module _ (before : Client) where
         go false e = record { kept = itself-kept fits; card-is = refl; signers-are = rw e; last-is = refl }
 
     -- A better reply's proof and card are kept.
-    pub better-card-kept : (card : List ℕ) (proof : Option PreparedProof) → length card ≤ 17 → Bytes card → IfThere PreparedFits proof
+    pub better-card-kept : (card : List ℕ) (proof : Option PreparedProof) → length card ≤ 17 → Bytes card → IfThere ProofFits proof
         → Best best proof (betterCard best proof card before) (keepBetterCard best card proof before)
     better-card-kept card none short bytes h = rw never-better (record { kept = itself-kept fits; card-is = refl; signers-are = rw never-better; last-is = refl })
     better-card-kept card (some proof) short bytes h = go (ltb (number best) (proof .timestamp)) refl

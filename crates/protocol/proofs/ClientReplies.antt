@@ -21,10 +21,10 @@ use Rattle.base.proofs.Booleans.{and-true-both}
 use Rattle.base.proofs.Range.{bounds}
 use Rattle.base.proofs.Registers.{place-below}
 use Rattle.base.proofs.Same.{same-equal}
-use Rattle.wire.specs.Message.{Message, PREPARE, WRITE, STAMP, PREPARED, WRITTEN, CARD, IsSignature, PreparedFits, WrittenFits, IfThere, Fits, size, writtenSize}
+use Rattle.wire.specs.Message.{Message, PREPARE, WRITE, STAMP, PREPARED, WRITTEN, CARD, IsSignature, ProofFits, IfThere, Fits, size, proofSize}
 use Rattle.wire.specs.Proof.{PreparedProof, signerSet}
 use Rattle.wire.specs.Sha256.{sha256}
-use Rattle.protocol.specs.Client.{done, Turn, currentCard, bestProof, writtenAt, writtenKept, lastWritten, built, withSignature, withSignatures, withSigners, withPhase, withDigest, withLastWritten, enough, isNew, bestOf, showedBy, toPrepare, afterStamp, onStamp, afterPrepared, onPrepared, afterWritten, afterWriteBack, onWritten, AfterCards, afterCard, countCard, onCard}
+use Rattle.protocol.specs.Client.{done, Turn, currentCard, bestProof, writtenAt, writtenRecord, writtenKept, lastWritten, built, withSignature, withSignatures, withSigners, withPhase, withDigest, withLastWritten, enough, isNew, bestOf, showedBy, toPrepare, afterStamp, onStamp, afterPrepared, onPrepared, afterWritten, afterWriteBack, onWritten, AfterCards, afterCard, countCard, onCard}
 use Rattle.protocol.specs.Viewer.{afterView}
 use Rattle.protocol.specs.Parts.{startCard, entriesKept, ifIssued, cardStands}
 use Rattle.protocol.specs.declared.client.Client.{Client}
@@ -32,7 +32,7 @@ use Rattle.protocol.specs.declared.client.Phase.{Phase}
 use Rattle.protocol.specs.declared.client.Phase.the-variants.{Idle, Stamps, Prepareds, Writtens, Cards, WriteBack}
 use Rattle.protocol.specs.declared.client.Written.{Written}
 use Rattle.protocol.proofs.Accepts.{Accepts, by-value, by-refusal, by-guard, by-cases}
-use Rattle.protocol.proofs.ArrayLaws.{zeros-fit, card-in-bytes, card-in-short, entries-in-length, entries-in-fit, issued-there, issued-timestamp, issued-size}
+use Rattle.protocol.proofs.ArrayLaws.{bytes-none, zeros-fit, card-in-bytes, card-in-short, entries-in-length, entries-in-fit, issued-there, issued-timestamp, issued-size}
 use Rattle.protocol.proofs.Built.{built as built-shape}
 use Rattle.wire.proofs.card.Digests.{standing-under-short}
 use Rattle.protocol.proofs.ClientArrays.{digest-fits, signature-put, built-fit, built-few, number-fits, best-fits, successor-fits}
@@ -43,27 +43,27 @@ use Rattle.wire.proofs.Passed.{Passed}
 
 -- ---- Messages that a client sends
 
-written-kept-fits : (written : Written) → WrittenKeptFits written → IfThere WrittenFits (writtenKept written)
+written-kept-fits : (written : Written) → WrittenKeptFits written → IfThere ProofFits (writtenKept written)
 written-kept-fits written fits =
-    issued-there (number (written .timestamp)) _ WrittenFits
-    (number-fits (written .timestamp) (fits .timestamp-fits), entries-in-fit (written .entries) (written .«entry_count») (fits .entries-fit))
+    issued-there (number (written .timestamp)) (writtenRecord written) ProofFits
+    (number-fits (written .timestamp) (fits .timestamp-fits), (refl, bytes-none), entries-in-fit (written .entries) (written .«entry_count») (fits .entries-fit))
 
-written-kept-short : (written : Written) → writtenSize (writtenKept written) ≤ 721
+written-kept-short : (written : Written) → proofSize (writtenKept written) ≤ 721
 written-kept-short written = go (eqb (number (written .timestamp)) 0)
   where
-    go : (b : Bool) → writtenSize (cond b none (some (record { timestamp = number (written .timestamp); entries = entriesKept (written .entries) (written .«entry_count») }))) ≤ 721
+    go : (b : Bool) → proofSize (cond b none (some (writtenRecord written))) ≤ 721
     go true = omega arith
     go false = omega (arith, entries-in-length (written .entries) (written .«entry_count»))
 
 module _ (client : Client) (fits : ClientFits client) where
-  last-fits : IfThere WrittenFits (lastWritten client)
+  last-fits : IfThere ProofFits (lastWritten client)
   last-fits = written-kept-fits (writtenAt _ client) (fits .written-fit _ (place-below _))
 
-  last-short : writtenSize (lastWritten client) ≤ 721
+  last-short : proofSize (lastWritten client) ≤ 721
   last-short = written-kept-short (writtenAt _ client)
 
   module _ (best : Timestamp) (best-fit : TimestampFits best) where
-    proof-fits : PreparedFits (bestProof client best)
+    proof-fits : ProofFits (bestProof client best)
     proof-fits = (number-fits best best-fit, fits .digest-fits, entries-in-fit (client .entries) (client .«entry_count») (fits .entries-fit))
 
     prepare-legal : (next : Timestamp) → TimestampFits next
@@ -72,11 +72,11 @@ module _ (client : Client) (fits : ClientFits client) where
     prepare-legal next next-fit register small =
         record {
           register-fits = small;
-          fits = (fits .id-fits, number-fits next next-fit, digest-fits (currentCard client), issued-there (number best) (bestProof client best) PreparedFits proof-fits, last-fits);
+          fits = (fits .id-fits, number-fits next next-fit, digest-fits (currentCard client), issued-there (number best) (bestProof client best) ProofFits proof-fits, last-fits);
           short = omega (arith, issued-size (number best) (bestProof client best), entries-in-length (client .entries) (client .«entry_count»), last-short);
         }
 
-  write-legal : (proof : PreparedProof) → PreparedFits proof → length (proof .entries) ≤ 11 → LegalMessage (WRITE (client .id) (currentCard client) proof)
+  write-legal : (proof : PreparedProof) → ProofFits proof → length (proof .entries) ≤ 11 → LegalMessage (WRITE (client .id) (currentCard client) proof)
   unfolding Fits size
   write-legal proof h few register small =
       let short = card-in-short (client .card) (client .«card_length») in
@@ -248,7 +248,7 @@ module _ (before : Client) (verdicts : List ℕ) (fits : ClientFits before) (sen
       let rest = and-true-both (eqb (addressed .0) (before .id .0)) (isNew counted sender) (first .1) in
       (eqb-true nonce asked (first .0), same-client addressed (before .id) (rest .0), (in-range, not-true (has counted sender) (rest .1)))
 
-  pub stamp-facts : (nonce : ℕ) (proof : Option PreparedProof) (addressed : ClientId) → Passed (before .f) (STAMP sender nonce proof addressed) verdicts → IfThere PreparedFits proof
+  pub stamp-facts : (nonce : ℕ) (proof : Option PreparedProof) (addressed : ClientId) → Passed (before .f) (STAMP sender nonce proof addressed) verdicts → IfThere ProofFits proof
       → (phase : Phase) → before .phase ≡ phase → PhaseFits phase
       → Accepts (ClientFacts before verdicts (STAMP sender nonce proof addressed)) (onStamp before sender nonce proof addressed phase)
   unfolding onStamp
@@ -263,7 +263,7 @@ module _ (before : Client) (verdicts : List ℕ) (fits : ClientFits before) (sen
   stamp-facts nonce proof addressed passed proof-fit (WriteBack timestamp counted) at h = by-refusal
 
   pub card-facts : {next : AfterCards} → Follows before next → (nonce : ℕ) (card : List ℕ) (proof : Option PreparedProof) (addressed : ClientId) → Passed (before .f) (CARD sender nonce card proof addressed) verdicts
-      → Bytes card → IfThere PreparedFits proof → cardStands card proof ≡ true → (phase : Phase) → before .phase ≡ phase → PhaseFits phase
+      → Bytes card → IfThere ProofFits proof → cardStands card proof ≡ true → (phase : Phase) → before .phase ≡ phase → PhaseFits phase
       → Accepts (ClientFacts before verdicts (CARD sender nonce card proof addressed)) (onCard next before sender nonce card proof addressed phase)
   unfolding onCard
   card-facts follows nonce card proof addressed passed bytes proof-fit stands (Cards asked best counted showed) at best-fit =

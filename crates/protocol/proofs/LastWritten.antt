@@ -2,7 +2,7 @@
 -- Assumes nothing.
 use mathlib.Core.Path.{_≡_, refl, ap, _∙_}
 use mathlib.Core.Bool.{true}
-use mathlib.Core.List.{List}
+use mathlib.Core.List.{List, []}
 use mathlib.Core.Option.{some}
 use Prim.Native.Nat.{ℕ, _≤_}
 use native.Mathlib.Omega.{arith}
@@ -33,12 +33,12 @@ module _ (client : Client) (timestamp : Timestamp) (entries : List Entry) where
   abbrev after : Client
   after = withLastWritten timestamp entries client
 
-  new-kept : 1 ≤ number timestamp → EachFits entries → length entries ≤ 11 → writtenKept new ≡ some (record { timestamp = number timestamp; entries = entries })
+  new-kept : 1 ≤ number timestamp → EachFits entries → length entries ≤ 11 → writtenKept new ≡ some (record { timestamp = number timestamp; digest = []; entries = entries })
   new-kept issued fit few = rw (ne-eqb (number timestamp) 0 (omega arith), entries-kept entries fit few) refl
 
   -- The proof that a write ends with is the last written one of its register,
   pub own-written : length (client .written) ≡ 16 → 1 ≤ number timestamp → EachFits entries → length entries ≤ 11
-      → lastWritten after ≡ some (record { timestamp = number timestamp; entries = entries })
+      → lastWritten after ≡ some (record { timestamp = number timestamp; digest = []; entries = entries })
   own-written long issued fit few =
       ap writtenKept (getD-set-same (client .written) place new noWritten (omega (arith, long, place-below (client .register)))) ∙ new-kept issued fit few
 

@@ -22,7 +22,7 @@ use Rattle.base.proofs.Apart.{apart}
 use Rattle.base.proofs.Booleans.{and-true-both}
 use Rattle.base.proofs.Range.{bounds}
 use Rattle.base.proofs.Same.{same-equal}
-use Rattle.wire.specs.Message.{Message, kindOf, READ-STAMP, PREPARE, WRITE, READ, STAMP, PREPARED, WRITTEN, CARD, IfThere, IsDigest, PreparedFits, WrittenFits, CardFits, Fits, preparedSize, size}
+use Rattle.wire.specs.Message.{Message, kindOf, READ-STAMP, PREPARE, WRITE, READ, STAMP, PREPARED, WRITTEN, CARD, IfThere, IsDigest, ProofFits, CardFits, Fits, proofSize, size}
 use Rattle.wire.specs.Acceptance.{senderOf, maySend}
 use Rattle.wire.specs.Checks.{writtenOf, shaped}
 use Rattle.wire.specs.Proof.{PreparedProof, WrittenProof, signers}
@@ -94,13 +94,13 @@ unfolding heldRecord
 held-shown held = issued-timestamp (heldTimestamp held) (heldRecord held) refl
 
 module _ (held : Held) (fits : HeldFits held) where
-  held-fits : IfThere PreparedFits (heldProof held)
+  held-fits : IfThere ProofFits (heldProof held)
   unfolding heldRecord
   held-fits =
-      issued-there (heldTimestamp held) (heldRecord held) PreparedFits
+      issued-there (heldTimestamp held) (heldRecord held) ProofFits
       (omega arith, fits .digest-fits, entries-in-fit (held .entries) (held .«entry_count») (fits .entries-fit))
 
-  held-size : preparedSize (heldProof held) ≤ 753
+  held-size : proofSize (heldProof held) ≤ 753
   unfolding heldRecord
   held-size = omega (arith, issued-size (heldTimestamp held) (heldRecord held), entries-in-length (held .entries) (held .«entry_count»))
 
@@ -259,10 +259,10 @@ module _ (last : Option WrittenProof) (slots : Slots) where
       go none = omega arith
       go (some proof) = omega arith
 
-  raised-fits : SlotsFit slots → IfThere WrittenFits last → raised last slots < 2 ^ 40
+  raised-fits : SlotsFit slots → IfThere ProofFits last → raised last slots < 2 ^ 40
   raised-fits fits h = go last h
     where
-      go : (last : Option WrittenProof) → IfThere WrittenFits last → raised last slots < 2 ^ 40
+      go : (last : Option WrittenProof) → IfThere ProofFits last → raised last slots < 2 ^ 40
       go none h = let old = fits .written-fits in omega arith
       go (some proof) h = let old = fits .written-fits in omega arith
 

@@ -52,10 +52,12 @@ noWritten = record { timestamp = start; «entry_count» = 0; entries = [] }
 abbrev pub writtenAt : ℕ → Client → Written
 writtenAt at client = getD (client .written) at noWritten
 
--- A written proof that is kept, if there is one.
+-- A written proof that is kept; none at 0.0.
+abbrev pub writtenRecord : Written → WrittenProof
+writtenRecord written = record { timestamp = number (written .timestamp); digest = []; entries = entriesKept (written .entries) (written .«entry_count») }
+
 abbrev pub writtenKept : Written → Option WrittenProof
-writtenKept written =
-    ifIssued (number (written .timestamp)) (record { timestamp = number (written .timestamp); entries = entriesKept (written .entries) (written .«entry_count») })
+writtenKept written = ifIssued (number (written .timestamp)) (writtenRecord written)
 
 -- "the desk's last written proof, if any"; document 02, #103: a desk "keeps its last written proof for each set". That of the operation's
 -- register.

@@ -23,7 +23,7 @@ use Rattle.wire.specs.Acceptance.{acceptance}
 use Rattle.wire.specs.Checks.{ifThere, issued}
 use Rattle.wire.specs.Decode.{registerIn}
 use Rattle.wire.specs.Message.{Message, longest}
-use Rattle.wire.specs.Parts.{partAt, cardAt, preparedPart, writtenPart, preparedTimestamp, writtenTimestamp, timestampPart}
+use Rattle.wire.specs.Parts.{partAt, cardAt, proofPart, preparedPart, timestampIfThere, preparedTimestamp, timestampPart}
 use Rattle.wire.specs.Proof.{PreparedProof, WrittenProof, preparedFrom}
 use Rattle.wire.specs.declared.message.Fields.{Fields}
 use Rattle.wire.specs.declared.message.Party.the-variants.{Replica as AtReplica}
@@ -49,7 +49,7 @@ not-zero timestamp i e =
 
 -- PREPARE by its proofs is PREPARE by their timestamps.
 plain : (replica : Replica) (client : ClientId) (timestamp : ℕ) (digest : List ℕ) (proof : Option PreparedProof) (last : Option WrittenProof) → writtenIssued last ≡ true
-    → onPrepare replica client timestamp digest proof last ≡ prepareWith replica client timestamp digest (preparedTimestamp proof) (writtenTimestamp last)
+    → onPrepare replica client timestamp digest proof last ≡ prepareWith replica client timestamp digest (preparedTimestamp proof) (timestampIfThere last)
 unfolding prepareWith afterPrepare preparedWith
 plain replica client timestamp digest proof none i =
     let same : max (number (replica .register .slots .written)) 0 ≡ number (replica .register .slots .written) = omega arith in
@@ -92,9 +92,9 @@ module _ (replica : Replica) (bytes verdicts : List ℕ) where
         let h = handed-prepare (replica .f) bytes verdicts fields e k in
         let proof = partAt bytes (fields .prepared) in
         let first : number (timestampPart proof) ≡ preparedTimestamp (preparedPart proof) = ap number (shown proof (proof-whole AtReplica (replica .f) bytes verdicts fields e)) ∙ number-ofNumber _ in
-        let second : number (timestampPart (partAt bytes (fields .written))) ≡ writtenTimestamp (writtenPart (partAt bytes (fields .written))) = ap number (last-shown AtReplica (replica .f) bytes verdicts fields e) ∙ number-ofNumber _ in
+        let second : number (timestampPart (partAt bytes (fields .written))) ≡ timestampIfThere (proofPart 0 (partAt bytes (fields .written))) = ap number (last-shown AtReplica (replica .f) bytes verdicts fields e) ∙ number-ofNumber _ in
         rw (first, second)
-        (follows _ h ∙ plain replica (record { 0 = fields .sender }) (number (fields .timestamp)) (partAt bytes (fields .digest)) (preparedPart proof) (writtenPart (partAt bytes (fields .written))) (h .passed .written-issued))
+        (follows _ h ∙ plain replica (record { 0 = fields .sender }) (number (fields .timestamp)) (partAt bytes (fields .digest)) (preparedPart proof) (proofPart 0 (partAt bytes (fields .written))) (h .passed .written-issued))
 
     -- The same by what the code takes out of the message.
     pub prepare-as : fields .kind ≡ 2 → (digest : List ℕ) (first second : Timestamp) → digest ≡ partAt bytes (fields .digest)

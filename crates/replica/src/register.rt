@@ -142,7 +142,7 @@ pub(super) fn put_slot(slots: Slots, prepared: Prepared) -> Slots
 
 // A card and its prepared proof, as they are held, with those who signed it.
 pub(super) fn holding(card: &[u8], proof: &[u8], signers: ReplicaSet) -> Held
-    requires { ⌜ Whole (now proof) × (signers ≡ signerSet (preparedFrom (now proof) .entries)) × (length (now card) ≤ cardRoom) ⌝ }
+    requires { ⌜ Whole 32 (now proof) × (signers ≡ signerSet (preparedFrom (now proof) .entries)) × (length (now card) ≤ cardRoom) ⌝ }
     ensures { λ r. ⌜ r ≡ holding (now (card .entry)) (preparedFrom (now (proof .entry))) ⌝ }
 {
     Held {

@@ -45,7 +45,7 @@ fn write(
     signers: ReplicaSet,
     out: &mut [u8],
 ) -> Stepped
-    requires { ⌜ Whole (now proof) × (signers ≡ signerSet (preparedFrom (now proof) .entries)) × (longest ≤ length (now out)) ⌝ }
+    requires { ⌜ Whole 32 (now proof) × (signers ≡ signerSet (preparedFrom (now proof) .entries)) × (longest ≤ length (now out)) ⌝ }
     ensures { λ r. ⌜ Leaves replica (replicaAnswers register replica (now (out .entry)) (onWrite replica (now (card .entry)) (preparedFrom (now (proof .entry))))) r (now (out .exit)) ⌝ }
 {
     if !stands_under(card, parts::digest(proof)) {

@@ -27,10 +27,10 @@ use Rattle.base.proofs.Quorum.{Common, quorums-meet}
 use Rattle.base.proofs.Range.{bounds}
 use Rattle.wire.specs.Checks.{all, oneEach, entriesOf, shaped, genuine, issued, proofOutcome}
 use Rattle.wire.specs.Decode.{forRegister}
-use Rattle.wire.specs.Message.{Message, PREPARED, CARD, numberField, fields, joined, body, Legal, Fits, PreparedFits}
+use Rattle.wire.specs.Message.{Message, PREPARED, CARD, numberField, fields, joined, body, Legal, Fits, ProofFits}
 use Rattle.wire.specs.Proof.{Entry, PreparedProof, signers, signerSet}
 use Rattle.wire.specs.Signatures.{Signature, signedBy, preparedSignatures, signaturesOf}
-use Rattle.wire.proofs.ProofBytes.{prepared-rewritten}
+use Rattle.wire.proofs.ProofBytes.{proof-rewritten}
 use Rattle.wire.proofs.SignerSets.{shaped-signers, shaped-count}
 use Rattle.protocol.specs.Client.{send}
 use Rattle.protocol.specs.Replica.{slotCount, slotDigest}
@@ -156,7 +156,7 @@ module _ (R : Run) (x : RegisterId) where
       entry-sent R t x (λ id. PREPARED id (proof .timestamp) (proof .digest)) (proof .entries) verdicts long ones true-ones id (member-listed (signers (proof .entries)) id k) c
 
   -- and then a proof of the right shape is backed.
-  backed-by : (t : ℕ) (proof : PreparedProof) → x .0 < 256 → PreparedFits proof → shaped (R .f) (proof .entries) ≡ true → SignersSent t proof
+  backed-by : (t : ℕ) (proof : PreparedProof) → x .0 < 256 → ProofFits proof → shaped (R .f) (proof .entries) ≡ true → SignersSent t proof
       → Backed t (proof .timestamp) (proof .digest) (signerSet (proof .entries))
   backed-by t proof small fits shape sent =
       shaped-backed t (proof .timestamp) (proof .digest) (proof .entries) shape (λ id k c.
@@ -195,7 +195,7 @@ module _ (R : Run) (x : RegisterId) where
   genuine-backed small proof g =
       let nine = guard-accepted 9 (shaped (R .f) (proof .entries)) (guard 10 (genuine (g .verdicts)) (guard 11 (issued (proof .timestamp)) (accepted (signerSet (proof .entries))))) (signerSet (proof .entries)) (g .passes) in
       let ten = guard-accepted 10 (genuine (g .verdicts)) (guard 11 (issued (proof .timestamp)) (accepted (signerSet (proof .entries)))) (signerSet (proof .entries)) (nine .1) in
-      let fits = prepared-rewritten (g .bytes) proof (g .are-bytes) (g .reads) .1 in
+      let fits = proof-rewritten (g .bytes) proof (g .are-bytes) (g .reads) .1 in
       backed-by (length (R .events)) proof small fits (nine .0) (genuine-sent proof g (judged-each proof g) (ten .0))
 
   -- ---- What the bound on faulty replicas alone gives

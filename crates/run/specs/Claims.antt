@@ -17,7 +17,7 @@ use Rattle.base.specs.declared.replica_set.ReplicaSet.{ReplicaSet}
 use Rattle.base.specs.declared.timestamp.Timestamp.{Timestamp}
 use Rattle.protocol.specs.Client.{done, ended}
 use Rattle.wire.specs.Checks.{proofOutcome}
-use Rattle.wire.specs.Proof.{PreparedProof, signerSet, readPrepared}
+use Rattle.wire.specs.Proof.{PreparedProof, signerSet, readProof}
 use Rattle.wire.specs.Signatures.{preparedSignatures}
 use Rattle.run.specs.Premises.{TrueVerdicts, Accepted}
 use Rattle.wire.specs.Acceptance.{client}
@@ -51,7 +51,7 @@ module _ (R : Run) (x : RegisterId) where
     pub bytes : List ℕ
     pub verdicts : List ℕ
     pub are-bytes : Bytes bytes
-    pub reads : readPrepared bytes ≡ accepted proof
+    pub reads : readProof 32 bytes ≡ accepted proof
     pub one-each : length verdicts ≡ length (proof .entries)
     pub passes : proofOutcome (R .f) (proof .entries) verdicts (proof .timestamp) ≡ accepted (signerSet (proof .entries))
     pub true-verdicts : TrueVerdicts R (length (R .events)) (preparedSignatures x proof) verdicts

@@ -22,12 +22,12 @@ use Rattle.wire.specs.Acceptance.{senderOf, numbered, inItsRange, maySen
 use Rattle.wire.specs.Accepting.{opened, entryCount, countIn, signatureCount, proofBetween, Ready}
 use Rattle.wire.specs.Checks.{preparedOf, writtenOf, timestampOf, ifThere, entriesIfThere, entriesOf, oneEach, ownGenuine, issued, all, proven, proofOutcome}
 use Rattle.wire.specs.Decode.{messageIn, registerIn, kindIn, reading, spanOf, fieldsIn, framed, timestampIn, readingOutcome}
-use Rattle.wire.specs.Judging.{entriesIn, proofCheckOutcome, smallest, preparedOutcome, writtenOutcome}
+use Rattle.wire.specs.Judging.{entriesIn, proofCheckOutcome, smallest, outcomeIfThere}
 use Rattle.wire.specs.Layout.{rules, mapIn, place, field}
 use Rattle.wire.specs.Message.{Message, kindOf}
 use Rattle.wire.specs.Parts.{preparedSigners}
 use Rattle.wire.specs.Places.{Room}
-use Rattle.wire.specs.Proof.{PreparedProof, WrittenProof, preparedFrom, writtenFrom, readEntries}
+use Rattle.wire.specs.Proof.{proofFrom, readEntries}
 use Rattle.wire.specs.declared.checks.ProofCheck.{ProofCheck}
 use Rattle.wire.specs.declared.message.Fields.{Fields}
 use Rattle.wire.specs.declared.message.Party.{Party}
@@ -36,9 +36,9 @@ use Rattle.wire.specs.declared.message.Reading.the-variants.{Message as 
 use Rattle.wire.specs.declared.message.Span.{Span}
 use Rattle.wire.proofs.FieldParts.{room}
 use Rattle.wire.proofs.Framed.{Framed, framed-passes, framed-accepted, place-absent, length-field}
-use Rattle.wire.proofs.Parsed.{preparedAt, writtenAt, messageOf, prepared-whole, written-whole, parsed, message-reads, message-refused}
+use Rattle.wire.proofs.Parsed.{ProofBit, prepared-bit, written-bit, bit-low, proofAt, messageOf, proof-ends, parsed, message-reads, message-refused}
 use Rattle.wire.proofs.ProofBytes.{length-read}
-use Rattle.wire.proofs.Proven.{proven-smallest, prepared-missing, written-missing}
+use Rattle.wire.proofs.Proven.{proven-smallest, proof-missing}
 use Rattle.wire.proofs.Windows.{front-some}
 use Rattle.wire.proofs.Rows.{Taken, read-stamp, prepare, write, read, stamp, prepared, written, card}
 
@@ -50,16 +50,13 @@ timestampAt bytes = cond (bit (mapIn bytes) 3) (some (timestampIn bytes)) none
 pub record Seen (party : Party) (bytes : List ℕ) (message : Message) : Type 0 where
   pub sender : senderOf message ≡ numbered party (fromBytes (field bytes 1))
   pub kind : kindOf message ≡ kindIn bytes
-  pub prepared : preparedOf message ≡ preparedAt bytes
-  pub written : writtenOf message ≡ writtenAt bytes
+  pub prepared : preparedOf message ≡ proofAt 32 6 bytes
+  pub written : writtenOf message ≡ proofAt 0 7 bytes
   pub timestamp : timestampOf message ≡ timestampAt bytes
 
 module _ (bytes : List ℕ) where
-  no-prepared : bit (mapIn bytes) 6 ≡ false → none ≡ preparedAt bytes
-  no-prepared e = rw e
-
-  no-written : bit (mapIn bytes) 7 ≡ false → none ≡ writtenAt bytes
-  no-written e = rw e
+  no-proof : (d b : ℕ) → bit (mapIn bytes) b ≡ false → none ≡ proofAt d b bytes
+  no-proof d b e = rw e
 
   no-timestamp : bit (mapIn bytes) 3 ≡ false → none ≡ timestampAt bytes
   no-timestamp e = rw e
@@ -78,14 +75,14 @@ module _ (bytes : List ℕ) where
   kind-taken (card e) = refl
 
   seen-taken : {kind : ℕ} {party : Party} (t : Taken (mapIn bytes) kind party) → kindOf (messageOf t bytes) ≡ kindIn bytes → Seen party bytes (messageOf t bytes)
-  seen-taken (read-stamp e) k = record { sender = refl; kind = k; prepared = no-prepared (cc); written = no-written (cc); timestamp = no-timestamp (cc) }
+  seen-taken (read-stamp e) k = record { sender = refl; kind = k; prepared = no-proof 32 6 (cc); written = no-proof 0 7 (cc); timestamp = no-timestamp (cc) }
   seen-taken (prepare e) k = record { sender = refl; kind = k; prepared = refl; written = refl; timestamp = with-timestamp (cc) }
-  seen-taken (write e) k = record { sender = refl; kind = k; prepared = let set : bit (mapIn bytes) 6 ≡ true = cc in rw set; written = no-written (cc); timestamp = no-timestamp (cc) }
-  seen-taken (read e) k = record { sender = refl; kind = k; prepared = no-prepared (cc); written = no-written (cc); timestamp = no-timestamp (cc) }
-  seen-taken (stamp e) k = record { sender = refl; kind = k; prepared = refl; written = no-written (cc); timestamp = no-timestamp (cc) }
-  seen-taken (prepared e) k = record { sender = refl; kind = k; prepared = no-prepared (cc); written = no-written (cc); timestamp = with-timestamp (cc) }
-  seen-taken (written e) k = record { sender = refl; kind = k; prepared = no-prepared (cc); written = no-written (cc); timestamp = with-timestamp (cc) }
-  seen-taken (card e) k = record { sender = refl; kind = k; prepared = refl; written = no-written (cc); timestamp = no-timestamp (cc) }
+  seen-taken (write e) k = record { sender = refl; kind = k; prepared = let set : bit (mapIn bytes) 6 ≡ true = cc in rw set; written = no-proof 0 7 (cc); timestamp = no-timestamp (cc) }
+  seen-taken (read e) k = record { sender = refl; kind = k; prepared = no-proof 32 6 (cc); written = no-proof 0 7 (cc); timestamp = no-timestamp (cc) }
+  seen-taken (stamp e) k = record { sender = refl; kind = k; prepared = refl; written = no-proof 0 7 (cc); timestamp = no-timestamp (cc) }
+  seen-taken (prepared e) k = record { sender = refl; kind = k; prepared = no-proof 32 6 (cc); written = no-proof 0 7 (cc); timestamp = with-timestamp (cc) }
+  seen-taken (written e) k = record { sender = refl; kind = k; prepared = no-proof 32 6 (cc); written = no-proof 0 7 (cc); timestamp = with-timestamp (cc) }
+  seen-taken (card e) k = record { sender = refl; kind = k; prepared = refl; written = no-proof 0 7 (cc); timestamp = no-timestamp (cc) }
 
 pub seen : (party : Party) (bytes : List ℕ) (message : Message) → messageIn party bytes ≡ accepted message → Seen party bytes message
 unfolding fieldsIn
@@ -138,92 +135,59 @@ pub all-signatures : (bytes : List ℕ) (fields : Fields) → Placed bytes field
 unfolding signatureCount fieldsIn
 all-signatures bytes fields p = rw (p .prepared, p .written)
 
--- Entries behind a head whose last byte is their number.
-module _ (h : ℕ) (part : List ℕ) (whole : suc h + 65 * getD part h 0 ≡ length part) where
-  count-behind : length (drop (suc h) part) / 65 ≡ getD part h 0
+-- Entries behind their number.
+module _ (d : ℕ) (part : List ℕ) (ends : 6 + d + 65 * getD part (5 + d) 0 ≡ length part) where
+  count-behind : length (drop (6 + d) part) / 65 ≡ getD part (5 + d) 0
   count-behind = rw length-drop (omega arith)
 
-  entries-behind : entriesIn (drop (suc h) part) ≡ readEntries (getD part h 0) (drop (suc h) part)
+  entries-behind : entriesIn (drop (6 + d) part) ≡ readEntries (getD part (5 + d) 0) (drop (6 + d) part)
   entries-behind = rw count-behind
 
 none-left : (verdicts : List ℕ) → length verdicts ≡ 0 → verdicts ≡ []
 none-left [] e = refl
 none-left (v ∷ verdicts) e = absurd (omega arith)
 
-module _ (bytes : List ℕ) (f : Framed bytes) where
+module _ (bytes : List ℕ) (f : Framed bytes) {d b : ℕ} (bit-is : ProofBit d b) where
   -- The entries of a proof are as many as fit between its places.
-  prepared-count : length (entriesIfThere (λ (proof : PreparedProof). proof .entries) (preparedAt bytes)) ≡ entryCount (spanOf bytes 6) 38
-  prepared-count = go (bit (mapIn bytes) 6) refl
+  proof-count : length (entriesIfThere (proofAt d b bytes)) ≡ entryCount (spanOf bytes b) (6 + d)
+  proof-count = go (bit (mapIn bytes) b) refl
     where
-      go : (t : Bool) → bit (mapIn bytes) 6 ≡ t
-          → length (entriesIfThere (λ (proof : PreparedProof). proof .entries) (cond t (some (preparedFrom (field bytes 6))) none)) ≡ entryCount (spanOf bytes 6) 38
+      go : (t : Bool) → bit (mapIn bytes) b ≡ t → length (entriesIfThere (cond t (some (proofFrom d (field bytes b))) none)) ≡ entryCount (spanOf bytes b) (6 + d)
       go true e =
-          let part = field bytes 6 in
-          let whole = prepared-whole bytes f e in
-          let size = length-field bytes f 6 (omega arith) in
-          rw (length-read (getD part 37 0) (drop 38 part)) (omega arith)
-      go false e = let same = place-absent bytes 6 e in omega arith
-
-  written-count : length (entriesIfThere (λ (proof : WrittenProof). proof .entries) (writtenAt bytes)) ≡ entryCount (spanOf bytes 7) 6
-  written-count = go (bit (mapIn bytes) 7) refl
-    where
-      go : (t : Bool) → bit (mapIn bytes) 7 ≡ t
-          → length (entriesIfThere (λ (proof : WrittenProof). proof .entries) (cond t (some (writtenFrom (field bytes 7))) none)) ≡ entryCount (spanOf bytes 7) 6
-      go true e =
-          let part = field bytes 7 in
-          let whole = written-whole bytes f e in
-          let size = length-field bytes f 7 (omega arith) in
-          rw (length-read (getD part 5 0) (drop 6 part)) (omega arith)
-      go false e = let same = place-absent bytes 7 e in omega arith
+          let part = field bytes b in
+          let ends = proof-ends bytes f bit-is e in
+          let size = length-field bytes f b (bit-low bit-is) in
+          rw (length-read (getD part (5 + d) 0) (drop (6 + d) part)) (omega arith)
+      go false e = let same = place-absent bytes b e in omega arith
 
   -- A proof with its verdicts, by its places.
-  prepared-between : (n : ℕ) (verdicts : List ℕ) → length verdicts ≡ entryCount (spanOf bytes 6) 38
-      → proofBetween n bytes (place bytes 6) 38 (place bytes 7) verdicts ≡ preparedOutcome n verdicts (preparedAt bytes)
+  proof-between : (n : ℕ) (verdicts : List ℕ) → length verdicts ≡ entryCount (spanOf bytes b) (6 + d)
+      → proofBetween n bytes (place bytes b) (6 + d) (place bytes (suc b)) verdicts ≡ outcomeIfThere n verdicts (proofAt d b bytes)
   unfolding proofBetween
-  prepared-between n verdicts size = go (bit (mapIn bytes) 6) refl
+  proof-between n verdicts size = go (bit (mapIn bytes) b) refl
     where
-      go : (t : Bool) → bit (mapIn bytes) 6 ≡ t
-          → cond (eqb (place bytes 6) (place bytes 7)) (accepted empty) (proofOutcome n (entriesIn (drop 38 (between bytes (place bytes 6) (place bytes 7)))) verdicts (fromBytes (take 5 (between bytes (place bytes 6) (place bytes 7)))))
-          ≡ preparedOutcome n verdicts (cond t (some (preparedFrom (field bytes 6))) none)
+      go : (t : Bool) → bit (mapIn bytes) b ≡ t
+          → cond (eqb (place bytes b) (place bytes (suc b))) (accepted empty) (proofOutcome n (entriesIn (drop (6 + d) (between bytes (place bytes b) (place bytes (suc b))))) verdicts (fromBytes (take 5 (between bytes (place bytes b) (place bytes (suc b))))))
+          ≡ outcomeIfThere n verdicts (cond t (some (proofFrom d (field bytes b))) none)
       go true e =
-          let part = field bytes 6 in
-          let whole = prepared-whole bytes f e in
-          let long = length-field bytes f 6 (omega arith) in
-          let apart : place bytes 6 ≡ place bytes 7 → ⊥ = λ s. omega arith in
-          let same : field bytes 6 ≡ between bytes (place bytes 6) (place bytes 7) = unfold field in refl in
-          rw (ne-eqb (place bytes 6) (place bytes 7) apart, ← same, entries-behind 37 part whole)
+          let part = field bytes b in
+          let ends = proof-ends bytes f bit-is e in
+          let long = length-field bytes f b (bit-low bit-is) in
+          let apart : place bytes b ≡ place bytes (suc b) → ⊥ = λ s. omega arith in
+          let same : field bytes b ≡ between bytes (place bytes b) (place bytes (suc b)) = unfold field in refl in
+          rw (ne-eqb (place bytes b) (place bytes (suc b)) apart, ← same, entries-behind d part ends)
       go false e =
-          let same = place-absent bytes 6 e in
+          let same = place-absent bytes b e in
           let nothing : verdicts ≡ [] = none-left verdicts (omega arith) in
-          rw (eq-eqb (place bytes 6) (place bytes 7) (omega arith), nothing) (sym (prepared-missing n))
-
-  written-between : (n : ℕ) (verdicts : List ℕ) → length verdicts ≡ entryCount (spanOf bytes 7) 6
-      → proofBetween n bytes (place bytes 7) 6 (place bytes 8) verdicts ≡ writtenOutcome n verdicts (writtenAt bytes)
-  unfolding proofBetween
-  written-between n verdicts size = go (bit (mapIn bytes) 7) refl
-    where
-      go : (t : Bool) → bit (mapIn bytes) 7 ≡ t
-          → cond (eqb (place bytes 7) (place bytes 8)) (accepted empty) (proofOutcome n (entriesIn (drop 6 (between bytes (place bytes 7) (place bytes 8)))) verdicts (fromBytes (take 5 (between bytes (place bytes 7) (place bytes 8)))))
-          ≡ writtenOutcome n verdicts (cond t (some (writtenFrom (field bytes 7))) none)
-      go true e =
-          let part = field bytes 7 in
-          let whole = written-whole bytes f e in
-          let long = length-field bytes f 7 (omega arith) in
-          let apart : place bytes 7 ≡ place bytes 8 → ⊥ = λ s. omega arith in
-          let same : field bytes 7 ≡ between bytes (place bytes 7) (place bytes 8) = unfold field in refl in
-          rw (ne-eqb (place bytes 7) (place bytes 8) apart, ← same, entries-behind 5 part whole)
-      go false e =
-          let same = place-absent bytes 7 e in
-          let nothing : verdicts ≡ [] = none-left verdicts (omega arith) in
-          rw (eq-eqb (place bytes 7) (place bytes 8) (omega arith), nothing) (sym (written-missing n))
+          rw (eq-eqb (place bytes b) (place bytes (suc b)) (omega arith), nothing) (sym (proof-missing n d))
 
 -- A message has as many signatures as its places say: its own and those of its entries.
 pub entries-counted : (party : Party) (bytes : List ℕ) (message : Message) → messageIn party bytes ≡ accepted message → Framed bytes → 1 + length (entriesOf message) ≡ signatureCount bytes
 unfolding entriesOf signatureCount fieldsIn
 entries-counted party bytes message e f =
     let s = seen party bytes message e in
-    let first = prepared-count bytes f in
-    let second = written-count bytes f in
+    let first = proof-count bytes f prepared-bit in
+    let second = proof-count bytes f written-bit in
     rw (s .prepared, s .written, length-append) (omega arith)
 
 -- Test 7 by the places of the proofs.
@@ -247,7 +211,7 @@ pub judged : (f : ℕ) (party : Party) (bytes : List ℕ) (message : Message) (f
     ≡ proven f message (first ++ second) (accepted (preparedSigners (preparedOf message)))
 judged f party bytes message first second e whole first-size second-size =
     let s = seen party bytes message e in
-    rw (prepared-between bytes whole f first first-size, written-between bytes whole f second second-size, own-timestamp bytes, ← s .prepared, ← s .written, ← s .timestamp)
+    rw (proof-between bytes whole prepared-bit f first first-size, proof-between bytes whole written-bit f second second-size, own-timestamp bytes, ← s .prepared, ← s .written, ← s .timestamp)
     (proven-smallest f message first second)
 
 -- Tests 2 to 8 by the bytes.

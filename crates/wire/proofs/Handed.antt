@@ -4,7 +4,7 @@ use mathlib.Core.Bool.{Bool, true, false, cond}
 use mathlib.Core.List.{List, [], _∷_}
 use mathlib.Core.Logic.{_⊎_}
 use mathlib.Core.Option.{none, some}
-use Prim.Native.Nat.{ℕ, _-_, _*_, _≤_, _<_}
+use Prim.Native.Nat.{ℕ, _+_, _-_, _*_, _≤_, _<_}
 use native.Mathlib.Omega.{arith}
 use borrow.Author.Tests.{eqb-true, le-ltb}
 use lib.Dec.{eqb}
@@ -20,51 +20,50 @@ use Rattle.base.specs.declared.replica_set.ReplicaSet.{ReplicaSet}
 use Rattle.base.proofs.Booleans.{and-true-both}
 use Rattle.base.proofs.Timestamps.{number-ofNumber}
 use Rattle.wire.specs.Acceptance.{senderOf, inItsRange, maySend, admitted, acceptance}
-use Rattle.wire.specs.Checks.{ifThere, shaped}
+use Rattle.wire.specs.Checks.{shaped, shapedIfThere}
 use Rattle.wire.specs.Decode.{messageIn, forRegister, registerIn, reading, fieldsIn}
 use Rattle.wire.specs.Layout.{rules, mapIn, place, field, signature}
 use Rattle.wire.specs.Message.{Message, kindOf, READ-STAMP, PREPARE, WRITE, READ, STAMP, PREPARED, WRITTEN, CARD}
-use Rattle.wire.specs.Parts.{partAt, cardAt, preparedPart, writtenPart, preparedTimestamp, preparedSigners, writtenTimestamp, timestampPart, digestPart, countPart, entriesPart, Whole, WholeIfThere}
-use Rattle.wire.specs.Proof.{PreparedProof, signers, signerSet, entriesBytes, preparedFrom, writtenFrom}
+use Rattle.wire.specs.Parts.{partAt, cardAt, proofPart, preparedPart, timestampIfThere, preparedTimestamp, preparedSigners, timestampPart, digestPart, countPart, entriesPart, Whole, WholeIfThere}
+use Rattle.wire.specs.Proof.{signers, signerSet, entriesBytes, proofFrom, preparedFrom}
 use Rattle.wire.specs.declared.message.Fields.{Fields}
 use Rattle.wire.specs.declared.message.Party.{Party}
 use Rattle.wire.specs.declared.message.Party.the-variants.{Replica, Client}
 use Rattle.wire.proofs.Accepting.{seen}
 use Rattle.wire.proofs.Admitted.{admitted-passed, acceptance-accepted}
 use Rattle.wire.proofs.Framed.{field-absent, place-present}
-use Rattle.wire.proofs.Parsed.{Parsed, parsed, preparedAt, writtenAt, prepared-whole, written-whole, taken-kind, decode-splits, replica-kind, client-kind, reads-1, reads-2, reads-3, reads-4, reads-5, reads-6, reads-7, reads-8}
+use Rattle.wire.proofs.Parsed.{ProofBit, prepared-bit, written-bit, Parsed, parsed, proofAt, proof-ends, taken-kind, decode-splits, replica-kind, client-kind, reads-1, reads-2, reads-3, reads-4, reads-5, reads-6, reads-7, reads-8}
 use Rattle.wire.proofs.Passed.{Passed}
-use Rattle.wire.proofs.ProofBytes.{length-read, entries-read}
+use Rattle.wire.proofs.ProofBytes.{length-read, entries-read, extent-is}
 use Rattle.wire.proofs.Rows.{Taken, prepare, write, prepared}
 
 -- ---- A proof by its parts
 
--- A prepared proof's bytes that are whole, by the parts that the code answers.
-pub record ByParts (proof : List ℕ) : Type 0 where
-  pub timestamp : preparedFrom proof .timestamp ≡ number (timestampPart proof)
-  pub digest : preparedFrom proof .digest ≡ digestPart proof
-  pub count : length (preparedFrom proof .entries) ≡ countPart proof
-  pub entries : entriesBytes (preparedFrom proof .entries) ≡ entriesPart proof
-  pub digest-length : length (digestPart proof) ≡ 32
-  pub entries-length : length (entriesPart proof) ≡ 65 * countPart proof
+-- A proof's bytes that are whole, by the parts that the code answers.
+pub record ByParts (d : ℕ) (proof : List ℕ) : Type 0 where
+  pub timestamp : proofFrom d proof .timestamp ≡ number (timestampPart proof)
+  pub digest : proofFrom d proof .digest ≡ digestPart d proof
+  pub count : length (proofFrom d proof .entries) ≡ countPart d proof
+  pub entries : entriesBytes (proofFrom d proof .entries) ≡ entriesPart d proof
+  pub digest-length : length (digestPart d proof) ≡ d
+  pub entries-length : length (entriesPart d proof) ≡ 65 * countPart d proof
 
 -- The timestamp in front of enough bytes.
 pub front-timestamp : (proof : List ℕ) → 5 ≤ length proof → timestampPart proof ≡ ofNumber (fromBytes (take 5 proof))
 unfolding timestampPart
 front-timestamp proof long = rw (le-ltb (length proof) 5 long)
 
-pub by-parts : (proof : List ℕ) → Whole proof → ByParts proof
+pub by-parts : {d : ℕ} (proof : List ℕ) → Whole d proof → ByParts d proof
 unfolding digestPart countPart entriesPart
-by-parts proof whole =
-    let ends = whole .ends in
-    let long : 38 ≤ length proof = omega arith in
-    let behind : length (drop 38 proof) ≡ 65 * getD proof 37 0 = rw length-drop (omega arith) in
-    let enough = le-ltb (length proof) 37 (omega arith) in
+by-parts {d} proof whole =
+    let ends = sym (extent-is d proof) ∙ whole .ends in
+    let behind : length (drop (6 + d) proof) ≡ 65 * getD proof (5 + d) 0 = rw length-drop (omega arith) in
+    let enough = le-ltb (length proof) (5 + d) (omega arith) in
     record {
       timestamp = sym (ap number (front-timestamp proof (omega arith)) ∙ number-ofNumber (fromBytes (take 5 proof)));
       digest = rw enough;
-      count = length-read (getD proof 37 0) (drop 38 proof);
-      entries = entries-read (getD proof 37 0) (drop 38 proof) behind;
+      count = length-read (getD proof (5 + d) 0) (drop (6 + d) proof);
+      entries = entries-read (getD proof (5 + d) 0) (drop (6 + d) proof) behind;
       digest-length = rw enough (simp (length-take, length-drop) (omega arith));
       entries-length = behind;
     }
@@ -80,32 +79,28 @@ missing-part [] e = refl
 missing-part (byte ∷ proof) e = absurd (omega arith)
 
 pub record There (proof : List ℕ) : Type 0 where
-  pub whole : Whole proof
+  pub whole : Whole 32 proof
   pub is : preparedPart proof ≡ some (preparedFrom proof)
 
 pub there : (proof : List ℕ) → WholeIfThere proof → (length proof ≡ 0 → ⊥) → There proof
 there [] whole h = absurd (h refl)
 there (byte ∷ proof) whole h = record { whole = whole; is = refl }
 
-whole-if : (proof : List ℕ) → Whole proof → WholeIfThere proof
+whole-if : (proof : List ℕ) → Whole 32 proof → WholeIfThere proof
 whole-if [] whole = tt
 whole-if (byte ∷ proof) whole = whole
 
-some-prepared : (proof : List ℕ) → 0 < length proof → preparedPart proof ≡ some (preparedFrom proof)
-some-prepared [] h = absurd (omega arith)
-some-prepared (byte ∷ proof) h = refl
-
-some-written : (proof : List ℕ) → 0 < length proof → writtenPart proof ≡ some (writtenFrom proof)
-some-written [] h = absurd (omega arith)
-some-written (byte ∷ proof) h = refl
+some-part : (d : ℕ) (proof : List ℕ) → 0 < length proof → proofPart d proof ≡ some (proofFrom d proof)
+some-part d [] h = absurd (omega arith)
+some-part d (byte ∷ proof) h = refl
 
 -- A quorum has at most 11 replicas.
-few-entries : (f : ℕ) (proof : List ℕ) → shaped f (preparedFrom proof .entries) ≡ true → countPart proof ≤ 11
+few-entries : (f d : ℕ) (proof : List ℕ) → shaped f (proofFrom d proof .entries) ≡ true → countPart d proof ≤ 11
 unfolding shaped countPart
-few-entries f proof h =
-    let entries = preparedFrom proof .entries in
+few-entries f d proof h =
+    let entries = proofFrom d proof .entries in
     let both = and-true-both (eqb (length entries) (quorumSize f)) (rising 0 (replicaCount f) (signers entries)) h in
-    omega (arith, eqb-true (length entries) (quorumSize f) (both .0), length-read (getD proof 37 0) (drop 38 proof))
+    omega (arith, eqb-true (length entries) (quorumSize f) (both .0), length-read (getD proof (5 + d) 0) (drop (6 + d) proof))
 
 -- ---- A message by its parts
 
@@ -119,19 +114,18 @@ module _ (party : Party) (bytes : List ℕ) (fields : Fields) (found : Parsed pa
   unfolding fieldsIn field
   written-is = rw (found .same)
 
-  pub prepared-shown : preparedPart (partAt bytes (fields .prepared)) ≡ preparedAt bytes
-  prepared-shown = rw prepared-is (go (bit (mapIn bytes) 6) refl)
+  part-shown : {d b : ℕ} → ProofBit d b → proofPart d (field bytes b) ≡ proofAt d b bytes
+  part-shown {d} {b} bit-is = go (bit (mapIn bytes) b) refl
     where
-      go : (b : Bool) → bit (mapIn bytes) 6 ≡ b → preparedPart (field bytes 6) ≡ cond b (some (preparedFrom (field bytes 6))) none
-      go true set = some-prepared (field bytes 6) (let whole = prepared-whole bytes (found .framed) set in omega arith)
-      go false clear = rw (field-absent bytes 6 clear)
+      go : (t : Bool) → bit (mapIn bytes) b ≡ t → proofPart d (field bytes b) ≡ cond t (some (proofFrom d (field bytes b))) none
+      go true set = some-part d (field bytes b) (let ends = proof-ends bytes (found .framed) bit-is set in omega arith)
+      go false clear = rw (field-absent bytes b clear)
 
-  pub written-shown : writtenPart (partAt bytes (fields .written)) ≡ writtenAt bytes
-  written-shown = rw written-is (go (bit (mapIn bytes) 7) refl)
-    where
-      go : (b : Bool) → bit (mapIn bytes) 7 ≡ b → writtenPart (field bytes 7) ≡ cond b (some (writtenFrom (field bytes 7))) none
-      go true set = some-written (field bytes 7) (let whole = written-whole bytes (found .framed) set in omega arith)
-      go false clear = rw (field-absent bytes 7 clear)
+  pub prepared-shown : preparedPart (partAt bytes (fields .prepared)) ≡ proofAt 32 6 bytes
+  prepared-shown = rw prepared-is (part-shown prepared-bit)
+
+  pub written-shown : proofPart 0 (partAt bytes (fields .written)) ≡ proofAt 0 7 bytes
+  written-shown = rw written-is (part-shown written-bit)
 
 -- The message that 2 to 11 let through.
 pub record Handed (party : Party) (f : ℕ) (bytes verdicts : List ℕ) (message : Message) : Type 0 where
@@ -195,14 +189,14 @@ module _ (party : Party) (f : ℕ) (bytes verdicts : List ℕ) (fields : Fields)
       rw digest-is (simp (length-take, length-drop) (omega arith))
 
   -- The written proof's timestamp, which is all that a replica takes of it.
-  pub last-shown : timestampPart (partAt bytes (fields .written)) ≡ ofNumber (writtenTimestamp (writtenPart (partAt bytes (fields .written))))
+  pub last-shown : timestampPart (partAt bytes (fields .written)) ≡ ofNumber (timestampIfThere (proofPart 0 (partAt bytes (fields .written))))
   unfolding timestampPart
   last-shown = rw (written-is party bytes fields found) (go (bit (mapIn bytes) 7) refl)
     where
-      go : (b : Bool) → bit (mapIn bytes) 7 ≡ b → timestampPart (field bytes 7) ≡ ofNumber (writtenTimestamp (writtenPart (field bytes 7)))
+      go : (b : Bool) → bit (mapIn bytes) 7 ≡ b → timestampPart (field bytes 7) ≡ ofNumber (timestampIfThere (proofPart 0 (field bytes 7)))
       go true set =
-          let whole = written-whole bytes (found .framed) set in
-          rw (some-written (field bytes 7) (omega arith)) (front-timestamp (field bytes 7) (omega arith))
+          let ends = proof-ends bytes (found .framed) written-bit set in
+          rw (some-part 0 (field bytes 7) (omega arith)) (front-timestamp (field bytes 7) (omega arith))
       go false clear = rw (field-absent bytes 7 clear)
 
   -- A prepared proof that is there is whole, and has at most 11 entries.
@@ -212,8 +206,8 @@ module _ (party : Party) (f : ℕ) (bytes verdicts : List ℕ) (fields : Fields)
       let s = seen party bytes _ (found .decodes) in
       rw (prepared-is party bytes fields found) (go (bit (mapIn bytes) 6) refl (rw (s .prepared) at (h .passed .prepared-shaped)))
     where
-      go : (b : Bool) → bit (mapIn bytes) 6 ≡ b → ifThere (λ (proof : PreparedProof). shaped f (proof .entries)) (cond b (some (preparedFrom (field bytes 6))) none) ≡ true → WholeIfThere (field bytes 6)
-      go true set h = whole-if (field bytes 6) (record { ends = prepared-whole bytes (found .framed) set; few = few-entries f (field bytes 6) h })
+      go : (b : Bool) → bit (mapIn bytes) 6 ≡ b → shapedIfThere f (cond b (some (preparedFrom (field bytes 6))) none) ≡ true → WholeIfThere (field bytes 6)
+      go true set h = whole-if (field bytes 6) (record { ends = proof-ends bytes (found .framed) prepared-bit set; few = few-entries f 32 (field bytes 6) h })
       go false clear h = rw (field-absent bytes 6 clear) tt
 
 -- The requests, kind by kind, with the parts that the code takes out of them.
@@ -222,7 +216,7 @@ module _ (f : ℕ) (bytes verdicts : List ℕ) (fields : Fields) {signers : Repl
   handed-read-stamp k = handed Replica f bytes verdicts fields e _ (reads-1 bytes fields (reads Replica f bytes verdicts fields e) k)
 
   pub handed-prepare : fields .kind ≡ 2
-      → Handed Replica f bytes verdicts (PREPARE (record { 0 = fields .sender }) (number (fields .timestamp)) (partAt bytes (fields .digest)) (preparedPart (partAt bytes (fields .prepared))) (writtenPart (partAt bytes (fields .written))))
+      → Handed Replica f bytes verdicts (PREPARE (record { 0 = fields .sender }) (number (fields .timestamp)) (partAt bytes (fields .digest)) (preparedPart (partAt bytes (fields .prepared))) (proofPart 0 (partAt bytes (fields .written))))
   handed-prepare k =
       rw (digest-is Replica f bytes verdicts fields e, prepared-shown Replica bytes fields (found Replica f bytes verdicts fields e), written-shown Replica bytes fields (found Replica f bytes verdicts fields e))
       (handed Replica f bytes verdicts fields e _ (reads-2 bytes fields (reads Replica f bytes verdicts fields e) k))
@@ -248,17 +242,17 @@ module _ (f : ℕ) (bytes verdicts : List ℕ) (fields : Fields) {signers : Repl
   pub prepare-digest : fields .kind ≡ 2 → length (partAt bytes (fields .digest)) ≡ 32
   prepare-digest k = digest-there Replica f bytes verdicts fields e (prepare-set (taken-kind Replica bytes fields (reads Replica f bytes verdicts fields e) 2 k))
 
-  pub write-proof : fields .kind ≡ 3 → Whole (partAt bytes (fields .prepared))
+  pub write-proof : fields .kind ≡ 3 → Whole 32 (partAt bytes (fields .prepared))
   write-proof k =
       let set = write-set (taken-kind Replica bytes fields (reads Replica f bytes verdicts fields e) 3 k) in
-      let whole = prepared-whole bytes (found Replica f bytes verdicts fields e .framed) set in
+      let whole = proof-ends bytes (found Replica f bytes verdicts fields e .framed) prepared-bit set in
       let same = prepared-is Replica bytes fields (found Replica f bytes verdicts fields e) in
       there (partAt bytes (fields .prepared)) (proof-whole Replica f bytes verdicts fields e) (λ none. let size = ap length same in omega arith) .whole
 
   pub write-signers : fields .kind ≡ 3 → signers ≡ signerSet (preparedFrom (partAt bytes (fields .prepared)) .entries)
   write-signers k =
       let ends = write-proof k .ends in
-      signers-are Replica f bytes verdicts fields e ∙ ap preparedSigners (some-prepared (partAt bytes (fields .prepared)) (omega arith))
+      signers-are Replica f bytes verdicts fields e ∙ ap preparedSigners (some-part 32 (partAt bytes (fields .prepared)) (omega arith))
 
 -- The replies, kind by kind.
 module _ (f : ℕ) (bytes verdicts : List ℕ) (fields : Fields) {signers : ReplicaSet} (e : acceptance Client f bytes verdicts ≡ accepted (fields, signers)) where

@@ -8,17 +8,7 @@ use lib.Seq.{take-add, length-take-le}
 use Rattle.wire.specs.Proof.{entriesBytes, countedEntries, readEntries}
 use Rattle.wire.specs.Putting.{sizedCard}
 use Rattle.wire.specs.Writing.{keptCard, keptEntries}
-use Rattle.wire.proofs.ProofBytes.{length-read}
-
--- Entries that were read have the bytes that they were read from.
-bytes-read : (n : ℕ) (bytes : List ℕ) → 65 * n ≤ length bytes → entriesBytes (readEntries n bytes) ≡ take (65 * n) bytes
-unfolding entriesBytes readEntries
-bytes-read zero bytes h = refl
-bytes-read (suc n) [] h = absurd (omega arith)
-bytes-read (suc n) (b ∷ bytes) h =
-    let long : 65 * n ≤ length (drop 64 bytes) = rw length-drop (omega arith) in
-    let more : 65 * suc n ≡ suc (64 + 65 * n) = omega arith in
-    rw (more, bytes-read n (drop 64 bytes) long, take-add 64 (65 * n) bytes)
+use Rattle.wire.proofs.ProofBytes.{length-read, bytes-read}
 
 -- As the code stores them: a number, and so many bytes.
 pub card-kept : (n size : ℕ) (card : List ℕ) → length card ≡ 17 → n ≡ min size 17 → n ∷ take n card ≡ sizedCard (keptCard size card)

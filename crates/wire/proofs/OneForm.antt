@@ -16,14 +16,14 @@ use Rattle.base.specs.Outcome.{accepted}
 use Rattle.base.specs.declared.party.RegisterId.{RegisterId}
 use Rattle.wire.specs.Decode.{forRegister, decode, kindIn, cardIn, registerIn}
 use Rattle.wire.specs.Layout.{Rule, fixed, extent, rules, mapIn, place, field, signature}
-use Rattle.wire.specs.Message.{Message, preparedField, writtenField, fields, joined, body, encode, IsDigest, IsSignature, PreparedFits, WrittenFits, IfThere, CardFits, Fits, Legal, size}
-use Rattle.wire.specs.Proof.{preparedFrom, writtenFrom}
+use Rattle.wire.specs.Message.{Message, proofField, fields, joined, body, encode, IsDigest, IsSignature, ProofFits, IfThere, CardFits, Fits, Legal, size}
+use Rattle.wire.specs.Proof.{proofBytes, proofFrom}
 use Rattle.wire.specs.declared.message.Party.{Party}
 use Rattle.wire.proofs.Framed.{Framed, Headed, place-next, field-absent, field-whole, bytes-field, map-small, first-bits}
-use Rattle.wire.proofs.Parsed.{preparedAt, writtenAt, prepared-whole, written-whole, messageOf, Tested, message-tested, decode-splits, decode-tested}
+use Rattle.wire.proofs.Parsed.{ProofBit, prepared-bit, written-bit, proofAt, proof-ends, messageOf, Tested, message-tested, decode-splits, decode-tested}
 use Rattle.base.proofs.BigEndian.{bytes-take, bytes-drop}
 use Rattle.wire.proofs.Widths.{rewritten, below}
-use Rattle.wire.proofs.ProofBytes.{prepared-back, prepared-fits, written-back, written-fits}
+use Rattle.wire.proofs.ProofBytes.{proof-back, proof-fits}
 use Rattle.wire.proofs.Rows.{Taken, read-stamp, prepare, write, read, stamp, prepared, written, card, has-register, bits}
 use Rattle.wire.proofs.Size.{encode-size}
 
@@ -171,47 +171,40 @@ module _ (bytes : List ℕ) (f : Framed bytes) (small : Bytes bytes) where
       (simp length-drop (omega arith), bytes-drop 1 (field bytes 5) (bytes-field bytes 5 small))
 
   -- The proofs.
-  prepared-part : preparedField (preparedAt bytes) ≡ present (bit (mapIn bytes) 6) (field bytes 6)
-  prepared-part = go (bit (mapIn bytes) 6) refl
-    where
-      go : (t : Bool) → bit (mapIn bytes) 6 ≡ t → preparedField (cond t (some (preparedFrom (field bytes 6))) none) ≡ present t (field bytes 6)
-      go true set = rw (prepared-back (field bytes 6) (prepared-whole bytes f set) (bytes-field bytes 6 small))
-      go false set = refl
+  module _ {d b : ℕ} (bit-is : ProofBit d b) where
+    there-back : bit (mapIn bytes) b ≡ true → proofBytes (proofFrom d (field bytes b)) ≡ field bytes b
+    there-back set = proof-back d (field bytes b) (proof-ends bytes f bit-is set) (bytes-field bytes b small)
 
-  written-part : writtenField (writtenAt bytes) ≡ present (bit (mapIn bytes) 7) (field bytes 7)
-  written-part = go (bit (mapIn bytes) 7) refl
-    where
-      go : (t : Bool) → bit (mapIn bytes) 7 ≡ t → writtenField (cond t (some (writtenFrom (field bytes 7))) none) ≡ present t (field bytes 7)
-      go true set = rw (written-back (field bytes 7) (written-whole bytes f set) (bytes-field bytes 7 small))
-      go false set = refl
+    there-fits : bit (mapIn bytes) b ≡ true → ProofFits (proofFrom d (field bytes b))
+    there-fits set = proof-fits d (field bytes b) (proof-ends bytes f bit-is set) (bytes-field bytes b small)
 
-  prepared-part-fits : IfThere PreparedFits (preparedAt bytes)
-  prepared-part-fits = go (bit (mapIn bytes) 6) refl
-    where
-      go : (t : Bool) → bit (mapIn bytes) 6 ≡ t → IfThere PreparedFits (cond t (some (preparedFrom (field bytes 6))) none)
-      go true set = prepared-fits (field bytes 6) (prepared-whole bytes f set) (bytes-field bytes 6 small)
-      go false set = tt
+    proof-part : proofField (proofAt d b bytes) ≡ present (bit (mapIn bytes) b) (field bytes b)
+    proof-part = go (bit (mapIn bytes) b) refl
+      where
+        go : (t : Bool) → bit (mapIn bytes) b ≡ t → proofField (cond t (some (proofFrom d (field bytes b))) none) ≡ present t (field bytes b)
+        go true set = rw (there-back set)
+        go false set = refl
 
-  written-part-fits : IfThere WrittenFits (writtenAt bytes)
-  written-part-fits = go (bit (mapIn bytes) 7) refl
-    where
-      go : (t : Bool) → bit (mapIn bytes) 7 ≡ t → IfThere WrittenFits (cond t (some (writtenFrom (field bytes 7))) none)
-      go true set = written-fits (field bytes 7) (written-whole bytes f set) (bytes-field bytes 7 small)
-      go false set = tt
+    part-fits : IfThere ProofFits (proofAt d b bytes)
+    part-fits = go (bit (mapIn bytes) b) refl
+      where
+        go : (t : Bool) → bit (mapIn bytes) b ≡ t → IfThere ProofFits (cond t (some (proofFrom d (field bytes b))) none)
+        go true set = there-fits set
+        go false set = tt
 
   -- What is found fits.
   message-fits : (kind : ℕ) (party : Party) (t : Taken (mapIn bytes) kind party) → Fits (messageOf t bytes)
   unfolding Fits
   message-fits kind party (read-stamp e) = (sender-fits, nonce-fits (cc))
   message-fits kind party (prepare e) =
-      (sender-fits, timestamp-fits (cc), digest-fits (cc), prepared-part-fits, written-part-fits)
-  message-fits kind party (write e) = (sender-fits, card-fits (cc), prepared-fits (field bytes 6) (prepared-whole bytes f (cc)) (bytes-field bytes 6 small))
+      (sender-fits, timestamp-fits (cc), digest-fits (cc), part-fits prepared-bit, part-fits written-bit)
+  message-fits kind party (write e) = (sender-fits, card-fits (cc), there-fits prepared-bit (cc))
   message-fits kind party (read e) = (sender-fits, nonce-fits (cc))
-  message-fits kind party (stamp e) = (sender-fits, nonce-fits (cc), prepared-part-fits, addressed-fits (cc))
+  message-fits kind party (stamp e) = (sender-fits, nonce-fits (cc), part-fits prepared-bit, addressed-fits (cc))
   message-fits kind party (prepared e) =
       (sender-fits, timestamp-fits (cc), digest-fits (cc))
   message-fits kind party (written e) = (sender-fits, timestamp-fits (cc))
-  message-fits kind party (card e) = (sender-fits, nonce-fits (cc), card-fits (cc), prepared-part-fits, addressed-fits (cc))
+  message-fits kind party (card e) = (sender-fits, nonce-fits (cc), card-fits (cc), part-fits prepared-bit, addressed-fits (cc))
 
   -- The fields of what is found are those of the bytes.
   kind-back : (kind : ℕ) → kindIn bytes ≡ kind → toBytes 1 kind ≡ field bytes 0
@@ -226,19 +219,19 @@ module _ (bytes : List ℕ) (f : Framed bytes) (small : Bytes bytes) where
   message-fields kind party k (read-stamp e) =
       rw (kind-back kind k, sender-back, nonce-back (cc), register-back (cc)) (by-bits _ e)
   message-fields kind party k (prepare e) =
-      rw (kind-back kind k, sender-back, timestamp-back (cc), prepared-part, written-part, register-back (cc)) (by-bits _ e)
+      rw (kind-back kind k, sender-back, timestamp-back (cc), proof-part prepared-bit, proof-part written-bit, register-back (cc)) (by-bits _ e)
   message-fields kind party k (write e) =
-      rw (kind-back kind k, sender-back, card-back (cc), prepared-back (field bytes 6) (prepared-whole bytes f (cc)) (bytes-field bytes 6 small), register-back (cc)) (by-bits _ e)
+      rw (kind-back kind k, sender-back, card-back (cc), there-back prepared-bit (cc), register-back (cc)) (by-bits _ e)
   message-fields kind party k (read e) =
       rw (kind-back kind k, sender-back, nonce-back (cc), register-back (cc)) (by-bits _ e)
   message-fields kind party k (stamp e) =
-      rw (kind-back kind k, sender-back, nonce-back (cc), prepared-part, addressed-back (cc), register-back (cc)) (by-bits _ e)
+      rw (kind-back kind k, sender-back, nonce-back (cc), proof-part prepared-bit, addressed-back (cc), register-back (cc)) (by-bits _ e)
   message-fields kind party k (prepared e) =
       rw (kind-back kind k, sender-back, timestamp-back (cc), register-back (cc)) (by-bits _ e)
   message-fields kind party k (written e) =
       rw (kind-back kind k, sender-back, timestamp-back (cc), register-back (cc)) (by-bits _ e)
   message-fields kind party k (card e) =
-      rw (kind-back kind k, sender-back, nonce-back (cc), card-back (cc), prepared-part, addressed-back (cc), register-back (cc)) (by-bits _ e)
+      rw (kind-back kind k, sender-back, nonce-back (cc), card-back (cc), proof-part prepared-bit, addressed-back (cc), register-back (cc)) (by-bits _ e)
 
 module _ (party : Party) (bytes : List ℕ) (x : RegisterId) (m : Message) (e : decode party bytes ≡ accepted (forRegister x m)) where
   decode-passed : Tested party bytes

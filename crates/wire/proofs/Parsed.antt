@@ -4,10 +4,10 @@ use mathlib.Core.Bool.{Bool, true, false, cond}
 use mathlib.Core.Logic.{_⊎_, inl, inr}
 use mathlib.Core.List.{List, [], _∷_}
 use mathlib.Core.Option.{Option, none, some}
-use Prim.Native.Nat.{ℕ, _+_, _≤_}
+use Prim.Native.Nat.{ℕ, _+_, _*_, _≤_}
 use native.Mathlib.Omega.{arith}
 use lib.Dec.{eqb}
-use lib.ListN.{length}
+use lib.ListN.{length, getD}
 use Rattle.base.specs.BitMap.{bit}
 use Rattle.base.specs.Outcome.{Outcome, accepted, refused, guard, _>>=_}
 use Rattle.base.specs.Range.{within}
@@ -15,72 +15,68 @@ use Rattle.base.specs.Timestamp.{number}
 use Rattle.base.specs.declared.party.RegisterId.{RegisterId}
 use Rattle.base.proofs.Timestamps.{number-ofNumber}
 use Rattle.base.proofs.Outcome.{guard-alike}
-use Rattle.wire.specs.Decode.{Kind, kinds, suits, ofKind, goodMap, framed, tested, messageIn, forRegister, decode, registerIn, reading, fieldsIn, kindIn, clientIn, replicaIn, nonceIn, timestampIn, digestIn, cardIn, addressedIn, optional, preparedIn, writtenIn}
-use Rattle.wire.specs.Layout.{extent, preparedRule, writtenRule, rules, mapIn, place, field}
+use Rattle.wire.specs.Decode.{Kind, kinds, suits, ofKind, goodMap, framed, tested, messageIn, forRegister, decode, registerIn, reading, fieldsIn, kindIn, clientIn, replicaIn, nonceIn, timestampIn, digestIn, cardIn, addressedIn, optional, proofIn}
+use Rattle.wire.specs.Layout.{rules, mapIn, place, field}
 use Rattle.wire.specs.Message.{Message, READ-STAMP, PREPARE, WRITE, READ, STAMP, PREPARED, WRITTEN, CARD, longest}
-use Rattle.wire.specs.Proof.{PreparedProof, WrittenProof, preparedFrom, writtenFrom, readPrepared, readWritten}
+use Rattle.wire.specs.Proof.{Proof, proofFrom, readProof}
 use Rattle.wire.specs.declared.message.Fields.{Fields}
 use Rattle.wire.specs.declared.message.Party.{Party}
 use Rattle.wire.specs.declared.message.Party.the-variants.{Replica, Client}
 use Rattle.wire.proofs.Framed.{Framed, framed-passes, framed-accepted, field-whole, place-rises, place-within, place-one, place-two}
-use Rattle.wire.proofs.ProofBytes.{accepts-prepared, accepts-written}
+use Rattle.wire.proofs.ProofBytes.{accepts-proof}
 use Rattle.wire.proofs.Rows.{Taken, read-stamp, prepare, write, read, stamp, prepared, written, card, Passed, row, accepted-passed}
 
--- The proofs of bytes that passed 2 to 4, if their bits are set.
-abbrev pub preparedAt : List ℕ → Option PreparedProof
-preparedAt bytes = cond (bit (mapIn bytes) 6) (some (preparedFrom (field bytes 6))) none
+-- The bit of a proof with a digest of so many bytes.
+pub data ProofBit : ℕ → ℕ → Type 0 where
+  prepared-bit : ProofBit 32 6
+  written-bit : ProofBit 0 7
 
-abbrev pub writtenAt : List ℕ → Option WrittenProof
-writtenAt bytes = cond (bit (mapIn bytes) 7) (some (writtenFrom (field bytes 7))) none
+pub bit-low : {d b : ℕ} → ProofBit d b → b ≤ 9
+bit-low prepared-bit = omega arith
+bit-low written-bit = omega arith
+
+-- The proof of a bit, of bytes that passed 2 to 4, if the bit is set.
+abbrev pub proofAt : (d b : ℕ) → List ℕ → Option (Proof d)
+proofAt d b bytes = cond (bit (mapIn bytes) b) (some (proofFrom d (field bytes b))) none
 
 module _ (bytes : List ℕ) (f : Framed bytes) where
   -- Fields that are there, so these proofs always read.
-  pub prepared-whole : bit (mapIn bytes) 6 ≡ true → extent preparedRule (field bytes 6) ≡ length (field bytes 6)
+  pub proof-ends : {d b : ℕ} → ProofBit d b → bit (mapIn bytes) b ≡ true → 6 + d + 65 * getD (field bytes b) (5 + d) 0 ≡ length (field bytes b)
   unfolding rules
-  prepared-whole set = field-whole bytes f 6 (omega arith) set (omega arith)
+  proof-ends prepared-bit set = field-whole bytes f 6 (omega arith) set (omega arith)
+  proof-ends written-bit set = field-whole bytes f 7 (omega arith) set (omega arith)
 
-  pub written-whole : bit (mapIn bytes) 7 ≡ true → extent writtenRule (field bytes 7) ≡ length (field bytes 7)
-  unfolding rules
-  written-whole set = field-whole bytes f 7 (omega arith) set (omega arith)
+  pub proof-reads : {d b : ℕ} → ProofBit d b → bit (mapIn bytes) b ≡ true → readProof d (field bytes b) ≡ accepted (proofFrom d (field bytes b))
+  proof-reads {d} {b} bit-is set = accepts-proof d (field bytes b) (proof-ends bit-is set)
 
-  pub prepared-reads : bit (mapIn bytes) 6 ≡ true → readPrepared (field bytes 6) ≡ accepted (preparedFrom (field bytes 6))
-  prepared-reads set = accepts-prepared (field bytes 6) (prepared-whole set)
-
-  pub prepared-in : preparedIn bytes ≡ accepted (preparedAt bytes)
-  prepared-in = go (bit (mapIn bytes) 6) refl
+  pub proof-in : {d b : ℕ} → ProofBit d b → proofIn d b bytes ≡ accepted (proofAt d b bytes)
+  proof-in {d} {b} bit-is = go (bit (mapIn bytes) b) refl
     where
-      go : (t : Bool) → bit (mapIn bytes) 6 ≡ t → optional t (readPrepared (field bytes 6)) ≡ accepted (cond t (some (preparedFrom (field bytes 6))) none)
-      go true set = rw (prepared-reads set)
-      go false set = refl
-
-  pub written-in : writtenIn bytes ≡ accepted (writtenAt bytes)
-  written-in = go (bit (mapIn bytes) 7) refl
-    where
-      go : (t : Bool) → bit (mapIn bytes) 7 ≡ t → optional t (readWritten (field bytes 7)) ≡ accepted (cond t (some (writtenFrom (field bytes 7))) none)
-      go true set = rw (accepts-written (field bytes 7) (written-whole set))
+      go : (t : Bool) → bit (mapIn bytes) b ≡ t → optional t (readProof d (field bytes b)) ≡ accepted (cond t (some (proofFrom d (field bytes b))) none)
+      go true set = rw (proof-reads bit-is set)
       go false set = refl
 
 -- The message of bytes that the table lets through.
 abbrev pub messageOf : {map kind : ℕ} {party : Party} → Taken map kind party → List ℕ → Message
 messageOf (read-stamp e) bytes = READ-STAMP (clientIn bytes) (nonceIn bytes)
-messageOf (prepare e) bytes = PREPARE (clientIn bytes) (timestampIn bytes) (digestIn bytes) (preparedAt bytes) (writtenAt bytes)
-messageOf (write e) bytes = WRITE (clientIn bytes) (cardIn bytes) (preparedFrom (field bytes 6))
+messageOf (prepare e) bytes = PREPARE (clientIn bytes) (timestampIn bytes) (digestIn bytes) (proofAt 32 6 bytes) (proofAt 0 7 bytes)
+messageOf (write e) bytes = WRITE (clientIn bytes) (cardIn bytes) (proofFrom 32 (field bytes 6))
 messageOf (read e) bytes = READ (clientIn bytes) (nonceIn bytes)
-messageOf (stamp e) bytes = STAMP (replicaIn bytes) (nonceIn bytes) (preparedAt bytes) (addressedIn bytes)
+messageOf (stamp e) bytes = STAMP (replicaIn bytes) (nonceIn bytes) (proofAt 32 6 bytes) (addressedIn bytes)
 messageOf (prepared e) bytes = PREPARED (replicaIn bytes) (timestampIn bytes) (digestIn bytes)
 messageOf (written e) bytes = WRITTEN (replicaIn bytes) (timestampIn bytes)
-messageOf (card e) bytes = CARD (replicaIn bytes) (nonceIn bytes) (cardIn bytes) (preparedAt bytes) (addressedIn bytes)
+messageOf (card e) bytes = CARD (replicaIn bytes) (nonceIn bytes) (cardIn bytes) (proofAt 32 6 bytes) (addressedIn bytes)
 
 row-message : (bytes : List ℕ) (kind : ℕ) (party : Party) → Framed bytes → (t : Taken (mapIn bytes) kind party) → row kind .message bytes ≡ accepted (messageOf t bytes)
 unfolding row kinds
 row-message bytes kind party f (read-stamp e) = refl
-row-message bytes kind party f (prepare e) = rw (prepared-in bytes f, written-in bytes f)
-row-message bytes kind party f (write e) = rw (prepared-reads bytes f (cc))
+row-message bytes kind party f (prepare e) = rw (proof-in bytes f prepared-bit, proof-in bytes f written-bit)
+row-message bytes kind party f (write e) = rw (proof-reads bytes f prepared-bit (cc))
 row-message bytes kind party f (read e) = refl
-row-message bytes kind party f (stamp e) = rw (prepared-in bytes f)
+row-message bytes kind party f (stamp e) = rw (proof-in bytes f prepared-bit)
 row-message bytes kind party f (prepared e) = refl
 row-message bytes kind party f (written e) = refl
-row-message bytes kind party f (card e) = rw (prepared-in bytes f)
+row-message bytes kind party f (card e) = rw (proof-in bytes f prepared-bit)
 
 -- The tests 2 to 5 passed.
 pub record Tested (party : Party) (bytes : List ℕ) : Type 1 where
@@ -161,21 +157,21 @@ pub reads-1 : (bytes : List ℕ) (fs : Fields) → reading Replica bytes ≡ acc
 unfolding row kinds fieldsIn
 reads-1 bytes fs e k = let p = parsed Replica bytes fs e in rw (kind-row Replica bytes fs e 1 k, p .same)
 
-pub reads-2 : (bytes : List ℕ) (fs : Fields) → reading Replica bytes ≡ accepted fs → fs .kind ≡ 2 → messageIn Replica bytes ≡ accepted (PREPARE (record { 0 = fs .sender }) (number (fs .timestamp)) (digestIn bytes) (preparedAt bytes) (writtenAt bytes))
+pub reads-2 : (bytes : List ℕ) (fs : Fields) → reading Replica bytes ≡ accepted fs → fs .kind ≡ 2 → messageIn Replica bytes ≡ accepted (PREPARE (record { 0 = fs .sender }) (number (fs .timestamp)) (digestIn bytes) (proofAt 32 6 bytes) (proofAt 0 7 bytes))
 unfolding row kinds fieldsIn
-reads-2 bytes fs e k = let p = parsed Replica bytes fs e in rw (kind-row Replica bytes fs e 2 k, p .same, prepared-in bytes p.framed, written-in bytes p.framed, number-ofNumber (timestampIn bytes))
+reads-2 bytes fs e k = let p = parsed Replica bytes fs e in rw (kind-row Replica bytes fs e 2 k, p .same, proof-in bytes p.framed prepared-bit, proof-in bytes p.framed written-bit, number-ofNumber (timestampIn bytes))
 
-pub reads-3 : (bytes : List ℕ) (fs : Fields) → reading Replica bytes ≡ accepted fs → fs .kind ≡ 3 → messageIn Replica bytes ≡ accepted (WRITE (record { 0 = fs .sender }) (cardIn bytes) (preparedFrom (field bytes 6)))
+pub reads-3 : (bytes : List ℕ) (fs : Fields) → reading Replica bytes ≡ accepted fs → fs .kind ≡ 3 → messageIn Replica bytes ≡ accepted (WRITE (record { 0 = fs .sender }) (cardIn bytes) (proofFrom 32 (field bytes 6)))
 unfolding row kinds fieldsIn
-reads-3 bytes fs e k = let p = parsed Replica bytes fs e in rw (kind-row Replica bytes fs e 3 k, p .same, prepared-reads bytes p.framed (write-set (taken-kind Replica bytes fs e 3 k)))
+reads-3 bytes fs e k = let p = parsed Replica bytes fs e in rw (kind-row Replica bytes fs e 3 k, p .same, proof-reads bytes p.framed prepared-bit (write-set (taken-kind Replica bytes fs e 3 k)))
 
 pub reads-4 : (bytes : List ℕ) (fs : Fields) → reading Replica bytes ≡ accepted fs → fs .kind ≡ 4 → messageIn Replica bytes ≡ accepted (READ (record { 0 = fs .sender }) (fs .nonce))
 unfolding row kinds fieldsIn
 reads-4 bytes fs e k = let p = parsed Replica bytes fs e in rw (kind-row Replica bytes fs e 4 k, p .same)
 
-pub reads-5 : (bytes : List ℕ) (fs : Fields) → reading Client bytes ≡ accepted fs → fs .kind ≡ 5 → messageIn Client bytes ≡ accepted (STAMP (record { 0 = fs .sender }) (fs .nonce) (preparedAt bytes) (fs .addressed))
+pub reads-5 : (bytes : List ℕ) (fs : Fields) → reading Client bytes ≡ accepted fs → fs .kind ≡ 5 → messageIn Client bytes ≡ accepted (STAMP (record { 0 = fs .sender }) (fs .nonce) (proofAt 32 6 bytes) (fs .addressed))
 unfolding row kinds fieldsIn
-reads-5 bytes fs e k = let p = parsed Client bytes fs e in rw (kind-row Client bytes fs e 5 k, p .same, prepared-in bytes p.framed)
+reads-5 bytes fs e k = let p = parsed Client bytes fs e in rw (kind-row Client bytes fs e 5 k, p .same, proof-in bytes p.framed prepared-bit)
 
 pub reads-6 : (bytes : List ℕ) (fs : Fields) → reading Client bytes ≡ accepted fs → fs .kind ≡ 6 → messageIn Client bytes ≡ accepted (PREPARED (record { 0 = fs .sender }) (number (fs .timestamp)) (digestIn bytes))
 unfolding row kinds fieldsIn
@@ -185,9 +181,9 @@ pub reads-7 : (bytes : List ℕ) (fs : Fields) → reading Client bytes ≡ acce
 unfolding row kinds fieldsIn
 reads-7 bytes fs e k = let p = parsed Client bytes fs e in rw (kind-row Client bytes fs e 7 k, p .same, number-ofNumber (timestampIn bytes))
 
-pub reads-8 : (bytes : List ℕ) (fs : Fields) → reading Client bytes ≡ accepted fs → fs .kind ≡ 8 → messageIn Client bytes ≡ accepted (CARD (record { 0 = fs .sender }) (fs .nonce) (cardIn bytes) (preparedAt bytes) (fs .addressed))
+pub reads-8 : (bytes : List ℕ) (fs : Fields) → reading Client bytes ≡ accepted fs → fs .kind ≡ 8 → messageIn Client bytes ≡ accepted (CARD (record { 0 = fs .sender }) (fs .nonce) (cardIn bytes) (proofAt 32 6 bytes) (fs .addressed))
 unfolding row kinds fieldsIn
-reads-8 bytes fs e k = let p = parsed Client bytes fs e in rw (kind-row Client bytes fs e 8 k, p .same, prepared-in bytes p.framed)
+reads-8 bytes fs e k = let p = parsed Client bytes fs e in rw (kind-row Client bytes fs e 8 k, p .same, proof-in bytes p.framed prepared-bit)
 
 -- "holders 1 to 4, desks 5 to 8"
 pub replica-kind : {map kind : ℕ} → Taken map kind Replica → (kind ≡ 1) ⊎ ((kind ≡ 2) ⊎ ((kind ≡ 3) ⊎ (kind ≡ 4)))

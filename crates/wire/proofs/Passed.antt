@@ -7,19 +7,18 @@ use lib.ListN.{drop}
 use Rattle.base.specs.Outcome.{Outcome, accepted, guard}
 use Rattle.base.proofs.Booleans.{and-true-both}
 use Rattle.base.proofs.Outcome.{guard-accepted}
-use Rattle.wire.specs.Checks.{preparedOf, writtenOf, timestampOf, ifThere, oneEach, ownGenuine, shaped, genuine, issued, proven, checked}
+use Rattle.wire.specs.Checks.{preparedOf, writtenOf, timestampOf, ifThere, oneEach, ownGenuine, shapedIfThere, genuine, issued, issuedIfThere, proven, checked}
 use Rattle.wire.specs.Message.{Message}
-use Rattle.wire.specs.Proof.{PreparedProof, WrittenProof}
 
 pub record Passed (f : ℕ) (message : Message) (verdicts : List ℕ) : Type 0 where
   pub one-each : oneEach message verdicts ≡ true
   pub own : ownGenuine verdicts ≡ true
   pub entries-genuine : genuine (drop 1 verdicts) ≡ true
-  pub prepared-shaped : ifThere (λ (proof : PreparedProof). shaped f (proof .entries)) (preparedOf message) ≡ true
-  pub written-shaped : ifThere (λ (proof : WrittenProof). shaped f (proof .entries)) (writtenOf message) ≡ true
+  pub prepared-shaped : shapedIfThere f (preparedOf message) ≡ true
+  pub written-shaped : shapedIfThere f (writtenOf message) ≡ true
   pub field-issued : ifThere issued (timestampOf message) ≡ true
-  pub prepared-issued : ifThere (λ (proof : PreparedProof). issued (proof .timestamp)) (preparedOf message) ≡ true
-  pub written-issued : ifThere (λ (proof : WrittenProof). issued (proof .timestamp)) (writtenOf message) ≡ true
+  pub prepared-issued : issuedIfThere (preparedOf message) ≡ true
+  pub written-issued : issuedIfThere (writtenOf message) ≡ true
 
 pub checked-passed : {A : Type 0} (f : ℕ) (message : Message) (verdicts : List ℕ) (next : Outcome A) (a : A)
     → checked f message verdicts next ≡ accepted a → Passed f message verdicts × (next ≡ accepted a)
@@ -47,19 +46,19 @@ checked-passed f message verdicts next a e =
     )
   where
     prepared-shaped : Bool
-    prepared-shaped = ifThere (λ (proof : PreparedProof). shaped f (proof .entries)) (preparedOf message)
+    prepared-shaped = shapedIfThere f (preparedOf message)
 
     written-shaped : Bool
-    written-shaped = ifThere (λ (proof : WrittenProof). shaped f (proof .entries)) (writtenOf message)
+    written-shaped = shapedIfThere f (writtenOf message)
 
     field-issued : Bool
     field-issued = ifThere issued (timestampOf message)
 
     prepared-issued : Bool
-    prepared-issued = ifThere (λ (proof : PreparedProof). issued (proof .timestamp)) (preparedOf message)
+    prepared-issued = issuedIfThere (preparedOf message)
 
     written-issued : Bool
-    written-issued = ifThere (λ (proof : WrittenProof). issued (proof .timestamp)) (writtenOf message)
+    written-issued = issuedIfThere (writtenOf message)
 
 -- The other way: a message that satisfies all that is left to what follows.
 pub passed-checked : {A : Type 0} (f : ℕ) (message : Message) (verdicts : List ℕ) (next : Outcome A) → Passed f message verdicts → checked f message verdicts next ≡ next

@@ -1,19 +1,19 @@
--- Prepared and written proofs alone: what is written is read back, and what is read is written back. Assumes nothing.
+-- Proofs alone, with a digest of d bytes: what is written is read back, and what is read is written back. Assumes nothing.
 use mathlib.Core.Path.{_≡_, refl, sym, ap, subst, _∙_}
 use mathlib.Core.List.{List, [], _∷_, _++_, append-assoc, append-nil}
-use Prim.Native.Nat.{ℕ, zero, suc, _+_, _*_}
+use Prim.Native.Nat.{ℕ, zero, suc, _+_, _-_, _*_, _≤_}
 use native.Mathlib.Omega.{arith}
 use borrow.Author.Tests.{eq-eqb, eqb-true}
 use lib.Dec.{eqb}
-use lib.ListN.{length, getD, take, drop, length-append, take-append-drop, length-drop}
-use lib.Seq.{take-at, drop-at, drop-drop, split-at, take-add, getD-at, length-take-le}
+use lib.ListN.{length, getD, take, drop, length-append, length-drop}
+use lib.Seq.{take-at, drop-at, drop-drop, split-at, take-add, take-all, getD-at, length-take-le}
 use Rattle.base.specs.BigEndian.{fromBytes, toBytes, Bytes}
-use Rattle.base.specs.Outcome.{accepted, guard}
+use Rattle.base.specs.Outcome.{accepted}
 use Rattle.base.proofs.BigEndian.{length-toBytes, fromBytes-toBytes}
 use Rattle.base.proofs.Outcome.{guard-passes, guard-accepted}
-use Rattle.wire.specs.Layout.{Rule, extent, preparedRule, writtenRule}
-use Rattle.wire.specs.Message.{EachFits, EntriesFit, PreparedFits, WrittenFits}
-use Rattle.wire.specs.Proof.{Entry, PreparedProof, WrittenProof, entriesBytes, countedEntries, preparedBytes, writtenBytes, readEntries, preparedFrom, writtenFrom, readPrepared, readWritten}
+use Rattle.wire.specs.Layout.{extent, proofRule}
+use Rattle.wire.specs.Message.{EachFits, ProofFits}
+use Rattle.wire.specs.Proof.{Entry, Proof, entriesBytes, countedEntries, proofBytes, readEntries, proofFrom, readProof}
 use Rattle.base.proofs.BigEndian.{bytes-take, bytes-drop}
 use Rattle.wire.proofs.Widths.{rewritten, below}
 
@@ -26,14 +26,13 @@ length-entries (e ∷ es) fits =
     let size = fits .0 .1 .0 in
     rw length-append (omega arith)
 
-read-entries : (es : List Entry) → EachFits es → readEntries (length es) (entriesBytes es) ≡ es
+-- Then read, with anything behind them.
+pub read-entries : (es : List Entry) (rest : List ℕ) → EachFits es → readEntries (length es) (entriesBytes es ++ rest) ≡ es
 unfolding entriesBytes readEntries
-read-entries [] fits = refl
-read-entries (e ∷ es) fits =
+read-entries [] rest fits = refl
+read-entries (e ∷ es) rest fits =
     let size = fits .0 .1 .0 in
-    let sign : take 64 (e .signature ++ entriesBytes es) ≡ e .signature = take-at (e .signature) (entriesBytes es) 64 size in
-    let more : drop 64 (e .signature ++ entriesBytes es) ≡ entriesBytes es = drop-at (e .signature) (entriesBytes es) 64 size in
-    rw (sign, more, read-entries es (fits .1))
+    rw (append-assoc, take-at (e .signature) (entriesBytes es ++ rest) 64 size, drop-at (e .signature) (entriesBytes es ++ rest) 64 size, read-entries es rest (fits .1))
 
 -- Entries read.
 pub length-read : (n : ℕ) (bytes : List ℕ) → length (readEntries n bytes) ≡ n
@@ -41,168 +40,112 @@ unfolding readEntries
 length-read zero bytes = refl
 length-read (suc n) bytes = ap suc (length-read n (drop 65 bytes))
 
-pub entries-read : (n : ℕ) (bytes : List ℕ) → length bytes ≡ 65 * n → entriesBytes (readEntries n bytes) ≡ bytes
+-- They have the bytes that they were read from.
+pub bytes-read : (n : ℕ) (bytes : List ℕ) → 65 * n ≤ length bytes → entriesBytes (readEntries n bytes) ≡ take (65 * n) bytes
 unfolding entriesBytes readEntries
-entries-read zero [] size = refl
-entries-read zero (x ∷ bytes) size = absurd (omega arith)
-entries-read (suc n) [] size = absurd (omega arith)
-entries-read (suc n) (x ∷ bytes) size =
-    rw (entries-read n (drop 64 bytes) (simp length-drop (omega arith)), take-append-drop)
+bytes-read zero bytes h = refl
+bytes-read (suc n) [] h = absurd (omega arith)
+bytes-read (suc n) (b ∷ bytes) h =
+    let long : 65 * n ≤ length (drop 64 bytes) = rw length-drop (omega arith) in
+    let more : 65 * suc n ≡ suc (64 + 65 * n) = omega arith in
+    rw (more, bytes-read n (drop 64 bytes) long, take-add 64 (65 * n) bytes)
 
-fits-read : (n : ℕ) (bytes : List ℕ) → length bytes ≡ 65 * n → Bytes bytes → EachFits (readEntries n bytes)
+pub entries-read : (n : ℕ) (bytes : List ℕ) → length bytes ≡ 65 * n → entriesBytes (readEntries n bytes) ≡ bytes
+entries-read n bytes size = bytes-read n bytes (omega arith) ∙ take-all (65 * n) bytes (omega arith)
+
+pub fits-read : (n : ℕ) (bytes : List ℕ) → 65 * n ≤ length bytes → Bytes bytes → EachFits (readEntries n bytes)
 unfolding readEntries
-fits-read zero bytes size small = tt
-fits-read (suc n) bytes size small = (
+fits-read zero bytes long small = tt
+fits-read (suc n) bytes long small = (
   (small 0, (length-take-le 64 (drop 1 bytes) (simp length-drop (omega arith)), bytes-take 64 (drop 1 bytes) (bytes-drop 1 bytes small))),
   fits-read n (drop 65 bytes) (simp length-drop (omega arith)) (bytes-drop 65 bytes small),
 )
 
--- Counted entries behind so many other bytes: how far they reach, and the entries read back.
-module _ (h : ℕ) (front : List ℕ) (es : List Entry) (size : length front ≡ h) (fits : EachFits es) where
-  pub length-counted : length (front ++ countedEntries es) ≡ suc h + 65 * length es
-  length-counted = let entries = length-entries es fits in rw length-append (omega arith)
+-- A proof is as long as its number of entries says.
+pub extent-is : (d : ℕ) (bytes : List ℕ) → extent (proofRule d) bytes ≡ 6 + d + 65 * getD bytes (5 + d) 0
+extent-is d bytes = let before : 6 + d - 1 ≡ 5 + d = omega arith in rw before
 
-  count-at : (rest : List ℕ) → getD (front ++ countedEntries es ++ rest) h 0 ≡ length es
-  count-at rest = rw append-assoc (getD-at front (length es) (entriesBytes es ++ rest) 0 h size)
+-- A proof: timestamp and digest in front of its entries.
+frontOf : {d : ℕ} → Proof d → List ℕ
+frontOf p = toBytes 5 (p .timestamp) ++ p .digest
 
-  reach : (rest : List ℕ) → suc h + 65 * getD (front ++ countedEntries es ++ rest) h 0 ≡ length (front ++ countedEntries es)
-  reach rest = rw (count-at rest) (sym length-counted)
+front-is : {d : ℕ} (p : Proof d) → proofBytes p ≡ frontOf p ++ countedEntries (p .entries)
+unfolding proofBytes frontOf
+front-is p = sym (append-assoc (toBytes 5 (p .timestamp)) (p .digest) (countedEntries (p .entries)))
 
-  entries-back : readEntries (getD (front ++ countedEntries es) h 0) (drop (suc h) (front ++ countedEntries es)) ≡ es
-  entries-back =
-      let next : suc h ≡ h + 1 = omega arith in
-      let behind : drop (suc h) (front ++ countedEntries es) ≡ entriesBytes es =
-      ap (λ (k : ℕ). drop k (front ++ countedEntries es)) next ∙ sym (drop-drop 1 h (front ++ countedEntries es)) ∙ ap (drop 1) (drop-at front (countedEntries es) h size) in
-      rw (getD-at front (length es) (entriesBytes es) 0 h size, behind) (read-entries es fits)
+-- Bytes of the length that a proof says.
+module _ (d : ℕ) (bytes : List ℕ) (ends : 6 + d + 65 * getD bytes (5 + d) 0 ≡ length bytes) where
+  pub accepts-proof : readProof d bytes ≡ accepted (proofFrom d bytes)
+  unfolding readProof
+  accepts-proof = guard-passes 4 (eqb (extent (proofRule d) bytes) (length bytes)) (accepted (proofFrom d bytes)) (eq-eqb (extent (proofRule d) bytes) (length bytes) (extent-is d bytes ∙ ends))
 
--- Bytes that reach as far as counted entries behind so many other bytes: they are those bytes and those entries.
-module _ (h : ℕ) (bytes : List ℕ) (whole : suc h + 65 * getD bytes h 0 ≡ length bytes) where
-  behind-size : length (drop (suc h) bytes) ≡ 65 * getD bytes h 0
+  behind-size : length (drop (6 + d) bytes) ≡ 65 * getD bytes (5 + d) 0
   behind-size = rw length-drop (omega arith)
 
-  counted-back : take h bytes ++ countedEntries (readEntries (getD bytes h 0) (drop (suc h) bytes)) ≡ bytes
-  counted-back =
-      rw (length-read (getD bytes h 0) (drop (suc h) bytes), entries-read (getD bytes h 0) (drop (suc h) bytes) behind-size)
-      (sym (split-at bytes h 0 (omega arith)))
+  pub proof-back : Bytes bytes → proofBytes (proofFrom d bytes) ≡ bytes
+  unfolding proofBytes
+  proof-back small =
+      let next : suc (5 + d) ≡ 6 + d = omega arith in
+      let split : bytes ≡ take (5 + d) bytes ++ getD bytes (5 + d) 0 ∷ drop (6 + d) bytes = split-at bytes (5 + d) 0 (omega arith) ∙ rw next in
+      rw (
+        rewritten 5 (take 5 bytes) (length-take-le 5 bytes (omega arith)) (bytes-take 5 bytes small),
+        length-read (getD bytes (5 + d) 0) (drop (6 + d) bytes),
+        entries-read (getD bytes (5 + d) 0) (drop (6 + d) bytes) behind-size,
+      )
+      (sym (append-assoc (take 5 bytes) (take d (drop 5 bytes)) (getD bytes (5 + d) 0 ∷ drop (6 + d) bytes)) ∙ rw (← take-add 5 d bytes) (sym split))
 
-  entries-fit : Bytes bytes → EntriesFit (readEntries (getD bytes h 0) (drop (suc h) bytes))
-  entries-fit small =
-      let count = small h in
-      (rw length-read count, fits-read (getD bytes h 0) (drop (suc h) bytes) behind-size (bytes-drop (suc h) bytes small))
+  pub proof-fits : Bytes bytes → ProofFits (proofFrom d bytes)
+  proof-fits small =
+      let count = small (5 + d) in (
+        below 5 (take 5 bytes) (length-take-le 5 bytes (omega arith)) (bytes-take 5 bytes small),
+        (length-take-le d (drop 5 bytes) (simp length-drop (omega arith)), bytes-take d (drop 5 bytes) (bytes-drop 5 bytes small)),
+        (rw length-read count, fits-read (getD bytes (5 + d) 0) (drop (6 + d) bytes) (rw behind-size (omega arith)) (bytes-drop (6 + d) bytes small)),
+      )
 
--- The test that a proof alone ends exactly at the end.
-module _ {A : Type 0} (rule : Rule) (bytes : List ℕ) (a : A) where
-  whole-passes : extent rule bytes ≡ length bytes → guard 4 (eqb (extent rule bytes) (length bytes)) (accepted a) ≡ accepted a
-  whole-passes whole = guard-passes 4 (eqb (extent rule bytes) (length bytes)) (accepted a) (eq-eqb (extent rule bytes) (length bytes) whole)
+module _ {d : ℕ} (p : Proof d) (fits : ProofFits p) where
+  front-size : length (frontOf p) ≡ 5 + d
+  unfolding frontOf
+  front-size = let digest = fits .1 .0 in rw (length-append, length-toBytes) (omega arith)
 
-  whole-accepted : (b : A) → guard 4 (eqb (extent rule bytes) (length bytes)) (accepted a) ≡ accepted b → (extent rule bytes ≡ length bytes) × (a ≡ b)
-  whole-accepted b e =
-      let passed = guard-accepted 4 (eqb (extent rule bytes) (length bytes)) (accepted a) b e in
-      (eqb-true (extent rule bytes) (length bytes) (passed .0), cc (passed .1))
+  pub length-proof : length (proofBytes p) ≡ 6 + d + 65 * length (p .entries)
+  length-proof = let front = front-size in let entries = length-entries (p .entries) (fits .2 .1) in rw (front-is p, length-append) (omega arith)
 
--- A prepared proof: timestamp and digest in front of its entries.
-preparedFront : PreparedProof → List ℕ
-preparedFront p = toBytes 5 (p .timestamp) ++ p .digest
+  count-at : (rest : List ℕ) → getD (proofBytes p ++ rest) (5 + d) 0 ≡ length (p .entries)
+  count-at rest = rw (front-is p, append-assoc) (getD-at (frontOf p) (length (p .entries)) (entriesBytes (p .entries) ++ rest) 0 (5 + d) front-size)
 
-prepared-front : (p : PreparedProof) → preparedBytes p ≡ preparedFront p ++ countedEntries (p .entries)
-unfolding preparedBytes preparedFront
-prepared-front p = sym (append-assoc (toBytes 5 (p .timestamp)) (p .digest) (countedEntries (p .entries)))
+  -- A proof that is written says its own length.
+  pub proof-obeys : (rest : List ℕ) → extent (proofRule d) (proofBytes p ++ rest) ≡ length (proofBytes p)
+  proof-obeys rest = extent-is d (proofBytes p ++ rest) ∙ rw (count-at rest) (sym length-proof)
 
-module _ (p : PreparedProof) (fits : PreparedFits p) where
-  prepared-front-size : length (preparedFront p) ≡ 37
-  unfolding preparedFront
-  prepared-front-size = let digest = fits .1 .0 in rw (length-append, length-toBytes) (omega arith)
-
-  pub length-prepared : length (preparedBytes p) ≡ 38 + 65 * length (p .entries)
-  length-prepared = rw (prepared-front p) (length-counted 37 (preparedFront p) (p .entries) prepared-front-size (fits .2 .1))
-
-  -- A written prepared proof says its own length.
-  pub prepared-obeys : (rest : List ℕ) → extent preparedRule (preparedBytes p ++ rest) ≡ length (preparedBytes p)
-  prepared-obeys rest = rw (prepared-front p) (reach 37 (preparedFront p) (p .entries) prepared-front-size (fits .2 .1) rest)
-
-  prepared-from : preparedFrom (preparedBytes p) ≡ p
-  prepared-from = λ i. record { timestamp = timestamp i; digest = digest i; entries = entries i }
+  from-bytes : proofFrom d (proofBytes p) ≡ p
+  from-bytes = λ i. record { timestamp = timestamp i; digest = digest i; entries = entries i }
     where
-      timestamp : fromBytes (take 5 (preparedBytes p)) ≡ p .timestamp
-      timestamp = unfold preparedBytes in rw (take-at (toBytes 5 (p .timestamp)) (p .digest ++ countedEntries (p .entries)) 5 (length-toBytes 5 (p .timestamp))) (fromBytes-toBytes 5 (p .timestamp) (fits .0))
+      timestamp : fromBytes (take 5 (proofBytes p)) ≡ p .timestamp
+      timestamp = unfold proofBytes in rw (take-at (toBytes 5 (p .timestamp)) (p .digest ++ countedEntries (p .entries)) 5 (length-toBytes 5 (p .timestamp))) (fromBytes-toBytes 5 (p .timestamp) (fits .0))
 
-      digest : take 32 (drop 5 (preparedBytes p)) ≡ p .digest
-      digest = unfold preparedBytes in rw (drop-at (toBytes 5 (p .timestamp)) (p .digest ++ countedEntries (p .entries)) 5 (length-toBytes 5 (p .timestamp))) (take-at (p .digest) (countedEntries (p .entries)) 32 (fits .1 .0))
+      digest : take d (drop 5 (proofBytes p)) ≡ p .digest
+      digest = unfold proofBytes in rw (drop-at (toBytes 5 (p .timestamp)) (p .digest ++ countedEntries (p .entries)) 5 (length-toBytes 5 (p .timestamp))) (take-at (p .digest) (countedEntries (p .entries)) d (fits .1 .0))
 
-      entries : readEntries (getD (preparedBytes p) 37 0) (drop 38 (preparedBytes p)) ≡ p .entries
-      entries = rw (prepared-front p) (entries-back 37 (preparedFront p) (p .entries) prepared-front-size (fits .2 .1))
+      behind : drop (6 + d) (proofBytes p) ≡ entriesBytes (p .entries) ++ []
+      behind =
+          let next : 6 + d ≡ 5 + d + 1 = omega arith in
+          rw (front-is p, next, ← drop-drop 1 (5 + d) (frontOf p ++ countedEntries (p .entries)), drop-at (frontOf p) (countedEntries (p .entries)) (5 + d) front-size, append-nil)
 
-  pub read-prepared : readPrepared (preparedBytes p) ≡ accepted p
-  unfolding readPrepared
-  read-prepared =
-      let whole : extent preparedRule (preparedBytes p) ≡ length (preparedBytes p) = rw append-nil at (prepared-obeys []) in
-      whole-passes preparedRule (preparedBytes p) (preparedFrom (preparedBytes p)) whole ∙ ap accepted prepared-from
+      entries : readEntries (getD (proofBytes p) (5 + d) 0) (drop (6 + d) (proofBytes p)) ≡ p .entries
+      entries = rw (rw append-nil at (count-at []), behind) (read-entries (p .entries) [] (fits .2 .1))
 
--- A written proof: its timestamp in front of its entries.
-module _ (p : WrittenProof) (fits : WrittenFits p) where
-  pub length-written : length (writtenBytes p) ≡ 6 + 65 * length (p .entries)
-  unfolding writtenBytes
-  length-written = length-counted 5 (toBytes 5 (p .timestamp)) (p .entries) (length-toBytes 5 (p .timestamp)) (fits .1 .1)
-
-  pub written-obeys : (rest : List ℕ) → extent writtenRule (writtenBytes p ++ rest) ≡ length (writtenBytes p)
-  unfolding writtenBytes
-  written-obeys rest = reach 5 (toBytes 5 (p .timestamp)) (p .entries) (length-toBytes 5 (p .timestamp)) (fits .1 .1) rest
-
-  written-from : writtenFrom (writtenBytes p) ≡ p
-  unfolding writtenBytes
-  written-from = λ i. record { timestamp = timestamp i; entries = entries i }
-    where
-      timestamp : fromBytes (take 5 (writtenBytes p)) ≡ p .timestamp
-      timestamp = unfold writtenBytes in rw (take-at (toBytes 5 (p .timestamp)) (countedEntries (p .entries)) 5 (length-toBytes 5 (p .timestamp))) (fromBytes-toBytes 5 (p .timestamp) (fits .0))
-
-      entries : readEntries (getD (writtenBytes p) 5 0) (drop 6 (writtenBytes p)) ≡ p .entries
-      entries = unfold writtenBytes in entries-back 5 (toBytes 5 (p .timestamp)) (p .entries) (length-toBytes 5 (p .timestamp)) (fits .1 .1)
-
-  pub read-written : readWritten (writtenBytes p) ≡ accepted p
-  unfolding readWritten
-  read-written =
-      let whole : extent writtenRule (writtenBytes p) ≡ length (writtenBytes p) = rw append-nil at (written-obeys []) in
-      whole-passes writtenRule (writtenBytes p) (writtenFrom (writtenBytes p)) whole ∙ ap accepted written-from
-
--- Bytes of the length that a prepared proof says.
-module _ (bytes : List ℕ) (whole : extent preparedRule bytes ≡ length bytes) where
-  pub accepts-prepared : readPrepared bytes ≡ accepted (preparedFrom bytes)
-  unfolding readPrepared
-  accepts-prepared = whole-passes preparedRule bytes (preparedFrom bytes) whole
-
-  pub prepared-back : Bytes bytes → preparedBytes (preparedFrom bytes) ≡ bytes
-  unfolding preparedBytes
-  prepared-back small =
-      rw (rewritten 5 (take 5 bytes) (length-take-le 5 bytes (omega arith)) (bytes-take 5 bytes small))
-      (sym (append-assoc (take 5 bytes) (take 32 (drop 5 bytes)) (countedEntries (preparedFrom bytes .entries))) ∙ rw (← take-add 5 32 bytes) (counted-back 37 bytes whole))
-
-  pub prepared-fits : Bytes bytes → PreparedFits (preparedFrom bytes)
-  prepared-fits small = (
-    below 5 (take 5 bytes) (length-take-le 5 bytes (omega arith)) (bytes-take 5 bytes small),
-    (length-take-le 32 (drop 5 bytes) (simp length-drop (omega arith)), bytes-take 32 (drop 5 bytes) (bytes-drop 5 bytes small)),
-    entries-fit 37 bytes whole small,
-  )
-
--- Bytes of the length that a written proof says.
-module _ (bytes : List ℕ) (whole : extent writtenRule bytes ≡ length bytes) where
-  pub accepts-written : readWritten bytes ≡ accepted (writtenFrom bytes)
-  unfolding readWritten
-  accepts-written = whole-passes writtenRule bytes (writtenFrom bytes) whole
-
-  pub written-back : Bytes bytes → writtenBytes (writtenFrom bytes) ≡ bytes
-  unfolding writtenBytes
-  written-back small = rw (rewritten 5 (take 5 bytes) (length-take-le 5 bytes (omega arith)) (bytes-take 5 bytes small)) (counted-back 5 bytes whole)
-
-  pub written-fits : Bytes bytes → WrittenFits (writtenFrom bytes)
-  written-fits small = (below 5 (take 5 bytes) (length-take-le 5 bytes (omega arith)) (bytes-take 5 bytes small), entries-fit 5 bytes whole small)
+  pub read-proof : readProof d (proofBytes p) ≡ accepted p
+  read-proof = accepts-proof d (proofBytes p) (rw (rw append-nil at (count-at [])) (sym length-proof)) ∙ ap accepted from-bytes
 
 -- What a reading accepts has that length and is that proof.
-pub prepared-accepted : (bytes : List ℕ) (p : PreparedProof) → readPrepared bytes ≡ accepted p → (extent preparedRule bytes ≡ length bytes) × (preparedFrom bytes ≡ p)
-unfolding readPrepared
-prepared-accepted bytes p e = whole-accepted preparedRule bytes (preparedFrom bytes) p e
+pub proof-accepted : {d : ℕ} (bytes : List ℕ) (p : Proof d) → readProof d bytes ≡ accepted p → (6 + d + 65 * getD bytes (5 + d) 0 ≡ length bytes) × (proofFrom d bytes ≡ p)
+unfolding readProof
+proof-accepted {d} bytes p e =
+    let passed = guard-accepted 4 (eqb (extent (proofRule d) bytes) (length bytes)) (accepted (proofFrom d bytes)) p e in
+    (sym (extent-is d bytes) ∙ eqb-true (extent (proofRule d) bytes) (length bytes) (passed .0), cc (passed .1))
 
 -- Reading then writing a proof returns the bytes, and what was read fits.
-pub prepared-rewritten : (bytes : List ℕ) (p : PreparedProof) → Bytes bytes → readPrepared bytes ≡ accepted p → (preparedBytes p ≡ bytes) × PreparedFits p
-prepared-rewritten bytes p small e =
-    let found = prepared-accepted bytes p e in
-    subst (λ (q : PreparedProof). (preparedBytes q ≡ bytes) × PreparedFits q) (found .1) (prepared-back bytes (found .0) small, prepared-fits bytes (found .0) small)
+pub proof-rewritten : {d : ℕ} (bytes : List ℕ) (p : Proof d) → Bytes bytes → readProof d bytes ≡ accepted p → (proofBytes p ≡ bytes) × ProofFits p
+proof-rewritten {d} bytes p small e =
+    let found = proof-accepted bytes p e in
+    subst (λ (q : Proof d). (proofBytes q ≡ bytes) × ProofFits q) (found .1) (proof-back d bytes (found .0) small, proof-fits d bytes (found .0) small)

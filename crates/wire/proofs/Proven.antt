@@ -11,11 +11,11 @@ use Rattle.base.specs.Outcome.{Outcome, accepted, refused, guard, _>>=_}
 use Rattle.base.specs.ReplicaSet.{empty}
 use Rattle.base.specs.declared.replica_set.ReplicaSet.{ReplicaSet}
 use Rattle.base.proofs.Outcome.{guard-passes, guard-refuses, guard-accepted}
-use Rattle.wire.specs.Checks.{preparedOf, writtenOf, timestampOf, ifThere, all, shaped, genuine, issued, proven, proofOutcome}
-use Rattle.wire.specs.Judging.{shapedSigners, smallest, preparedOutcome, writtenOutcome}
+use Rattle.wire.specs.Checks.{preparedOf, writtenOf, timestampOf, ifThere, all, shaped, shapedIfThere, genuine, issued, issuedIfThere, proven, proofOutcome}
+use Rattle.wire.specs.Judging.{shapedSigners, smallest, outcomeIfThere}
 use Rattle.wire.specs.Message.{Message}
-use Rattle.wire.specs.Parts.{preparedSigners}
-use Rattle.wire.specs.Proof.{Entry, PreparedProof, WrittenProof, signerSet}
+use Rattle.wire.specs.Parts.{signersIfThere}
+use Rattle.wire.specs.Proof.{Entry, Proof, signerSet}
 use Rattle.wire.proofs.Verdicts.{all-append}
 
 -- 9 to 11 of a proof, by what 9 makes of its entries.
@@ -93,54 +93,34 @@ parts {A} s s′ r r′ t t′ own a b c =
     (from-guard 9 10 r′ (guard 11 t′ second) (omega arith) (from-guard 9 11 t′ second (omega arith) tt)) in
     rw (e₉, e₁₀, e₁₁) (with-own (s && s′) (r && r′) (t && t′) own a c)
 
--- A written proof's signers, which nobody asks for.
-abbrev writtenSigners : Option WrittenProof → ReplicaSet
-writtenSigners none = empty
-writtenSigners (some proof) = signerSet (proof .entries)
-
 module _ (f : ℕ) where
-  prepared-part : (verdicts : List ℕ) (proof : Option PreparedProof)
-      → preparedOutcome f verdicts proof ≡ part (ifThere (λ (p : PreparedProof). shaped f (p .entries)) proof) (genuine verdicts) (ifThere (λ (p : PreparedProof). issued (p .timestamp)) proof) (preparedSigners proof)
+  proof-part : {d : ℕ} (verdicts : List ℕ) (proof : Option (Proof d))
+      → outcomeIfThere f verdicts proof ≡ part (shapedIfThere f proof) (genuine verdicts) (issuedIfThere proof) (signersIfThere proof)
   unfolding guard proofOutcome
-  prepared-part verdicts none = refl
-  prepared-part verdicts (some proof) = refl
-
-  written-part : (verdicts : List ℕ) (proof : Option WrittenProof)
-      → writtenOutcome f verdicts proof ≡ part (ifThere (λ (p : WrittenProof). shaped f (p .entries)) proof) (genuine verdicts) (ifThere (λ (p : WrittenProof). issued (p .timestamp)) proof) (writtenSigners proof)
-  unfolding guard proofOutcome
-  written-part verdicts none = refl
-  written-part verdicts (some proof) = refl
+  proof-part verdicts none = refl
+  proof-part verdicts (some proof) = refl
 
   -- The law behind `checks::first_refusal`: the verdicts of the prepared proof's entries, then those of the written proof's.
   pub proven-smallest : (message : Message) (first second : List ℕ)
-      → smallest (smallest (preparedOutcome f first (preparedOf message)) (writtenOutcome f second (writtenOf message))) (guard 11 (ifThere issued (timestampOf message)) (accepted empty))
-      ≡ proven f message (first ++ second) (accepted (preparedSigners (preparedOf message)))
+      → smallest (smallest (outcomeIfThere f first (preparedOf message)) (outcomeIfThere f second (writtenOf message))) (guard 11 (ifThere issued (timestampOf message)) (accepted empty))
+      ≡ proven f message (first ++ second) (accepted (signersIfThere (preparedOf message)))
   unfolding proven
   proven-smallest message first second =
       let p = preparedOf message in
       let w = writtenOf message in
-      let s = ifThere (λ (proof : PreparedProof). shaped f (proof .entries)) p in
-      let s′ = ifThere (λ (proof : WrittenProof). shaped f (proof .entries)) w in
-      let t = ifThere (λ (proof : PreparedProof). issued (proof .timestamp)) p in
-      let t′ = ifThere (λ (proof : WrittenProof). issued (proof .timestamp)) w in
-      let own = ifThere issued (timestampOf message) in
-      rw (all-append (λ v. eqb v 1) first second, prepared-part first p, written-part second w)
-      (parts s s′ (genuine first) (genuine second) t t′ own (preparedSigners p) (writtenSigners w) empty)
+      rw (all-append (λ v. eqb v 1) first second, proof-part first p, proof-part second w)
+      (parts (shapedIfThere f p) (shapedIfThere f w) (genuine first) (genuine second) (issuedIfThere p) (issuedIfThere w) (ifThere issued (timestampOf message)) (signersIfThere p) (signersIfThere w) empty)
 
   -- A proof that is missing, with no verdicts, is good.
-  pub prepared-missing : preparedOutcome f [] none ≡ accepted empty
+  pub proof-missing : (d : ℕ) → outcomeIfThere {d = d} f [] none ≡ accepted empty
   unfolding guard all
-  prepared-missing = refl
-
-  pub written-missing : writtenOutcome f [] none ≡ accepted empty
-  unfolding guard all
-  written-missing = refl
+  proof-missing d = refl
 
   -- What follows 9 to 11.
   pub proven-then : {A B : Type 0} (message : Message) (verdicts : List ℕ) (a : A) (next : A → Outcome B)
       → (proven f message verdicts (accepted a) >>= next) ≡ proven f message verdicts (next a)
   unfolding proven
   proven-then message verdicts a next =
-      let s = ifThere (λ (proof : PreparedProof). shaped f (proof .entries)) (preparedOf message) && ifThere (λ (proof : WrittenProof). shaped f (proof .entries)) (writtenOf message) in
-      let t = ifThere issued (timestampOf message) && (ifThere (λ (proof : PreparedProof). issued (proof .timestamp)) (preparedOf message) && ifThere (λ (proof : WrittenProof). issued (proof .timestamp)) (writtenOf message)) in
+      let s = shapedIfThere f (preparedOf message) && shapedIfThere f (writtenOf message) in
+      let t = ifThere issued (timestampOf message) && (issuedIfThere (preparedOf message) && issuedIfThere (writtenOf message)) in
       part-then s (genuine verdicts) t a next

@@ -11,16 +11,16 @@ use Rattle.base.specs.BitMap.{bit, mapOf}
 use Rattle.base.specs.Outcome.{Outcome, accepted}
 use Rattle.base.specs.declared.party.RegisterId.{RegisterId}
 use Rattle.base.proofs.BigEndian.{length-toBytes, fromBytes-toBytes}
-use Rattle.wire.specs.Decode.{Kind, kinds, ofKind, tested, messageIn, forRegister, decode, takerOf, kindIn, registerIn, optional, preparedIn, writtenIn}
+use Rattle.wire.specs.Decode.{Kind, kinds, ofKind, tested, messageIn, forRegister, decode, takerOf, kindIn, registerIn, optional, proofIn}
 use Rattle.wire.specs.Layout.{mapIn, place, field, signature}
-use Rattle.wire.specs.Message.{Message, READ-STAMP, PREPARE, WRITE, READ, STAMP, PREPARED, WRITTEN, CARD, kindOf, preparedField, writtenField, fields, joined, body, encode, IsSignature, PreparedFits, WrittenFits, IfThere, Fits, Legal, size}
-use Rattle.wire.specs.Proof.{PreparedProof, WrittenProof, readPrepared, readWritten}
+use Rattle.wire.specs.Message.{Message, READ-STAMP, PREPARE, WRITE, READ, STAMP, PREPARED, WRITTEN, CARD, kindOf, proofField, fields, joined, body, encode, IsSignature, ProofFits, IfThere, Fits, Legal, size}
+use Rattle.wire.specs.Proof.{Proof, readProof}
 use Rattle.wire.specs.declared.message.Party.{Party}
 use Rattle.wire.proofs.Framed.{Framed, framed-passes}
 use Rattle.wire.proofs.Parsed.{decode-joins}
 use Rattle.wire.proofs.Rows.{row, own-row, good-map}
 use Rattle.wire.proofs.Places.{there, content, written, map-written, bit-written, place-written, field-written}
-use Rattle.wire.proofs.ProofBytes.{read-prepared, read-written}
+use Rattle.wire.proofs.ProofBytes.{read-proof}
 use Rattle.wire.proofs.Size.{fields-obey, encode-size}
 
 encode-written : (x : RegisterId) (m : Message) (s : List ℕ) → encode x m s ≡ written (fields x m) s
@@ -61,19 +61,12 @@ module _ (x : RegisterId) (m : Message) (s : List ℕ) (fits : Fits m) where
   number-encoded : (b width n : ℕ) → content (getD (fields x m) b none) ≡ toBytes width n → n < 256 ^ width → fromBytes (field (encode x m s) b) ≡ n
   number-encoded b width n e small = rw (field-encoded b, e) (fromBytes-toBytes width n small)
 
-  prepared-encoded : (proof : Option PreparedProof) → getD (fields x m) 6 none ≡ preparedField proof → IfThere PreparedFits proof → preparedIn (encode x m s) ≡ accepted proof
-  prepared-encoded proof e f = rw (bit-encoded 6, field-encoded 6, e) (go proof f)
+  proof-encoded : {d : ℕ} (b : ℕ) (proof : Option (Proof d)) → getD (fields x m) b none ≡ proofField proof → IfThere ProofFits proof → proofIn d b (encode x m s) ≡ accepted proof
+  proof-encoded {d} b proof e f = rw (bit-encoded b, field-encoded b, e) (go proof f)
     where
-      go : (proof : Option PreparedProof) → IfThere PreparedFits proof → optional (there (preparedField proof)) (readPrepared (content (preparedField proof))) ≡ accepted proof
+      go : (proof : Option (Proof d)) → IfThere ProofFits proof → optional (there (proofField proof)) (readProof d (content (proofField proof))) ≡ accepted proof
       go none f = refl
-      go (some p) f = rw (read-prepared p f)
-
-  written-encoded : (last : Option WrittenProof) → getD (fields x m) 7 none ≡ writtenField last → IfThere WrittenFits last → writtenIn (encode x m s) ≡ accepted last
-  written-encoded last e f = rw (bit-encoded 7, field-encoded 7, e) (go last f)
-    where
-      go : (last : Option WrittenProof) → IfThere WrittenFits last → optional (there (writtenField last)) (readWritten (content (writtenField last))) ≡ accepted last
-      go none f = refl
-      go (some p) f = rw (read-written p f)
+      go (some p) f = rw (read-proof p f)
 
 -- The row of a message finds it.
 row-encoded : (x : RegisterId) (m : Message) (s : List ℕ) (fits : Fits m) → row (kindOf m) .message (encode x m s) ≡ accepted m
@@ -84,22 +77,22 @@ row-encoded x (READ-STAMP c n) s fits =
 row-encoded x (PREPARE c t d proof last) s fits =
     let m = PREPARE c t d proof last in
     rw (
-      prepared-encoded x m s fits proof refl (fits .3),
-      written-encoded x m s fits last refl (fits .4),
+      proof-encoded x m s fits 6 proof refl (fits .3),
+      proof-encoded x m s fits 7 last refl (fits .4),
       number-encoded x m s fits 1 1 (c .0) refl (fits .0),
       number-encoded x m s fits 3 5 t refl (fits .1),
       field-encoded x m s fits 4,
     )
 row-encoded x (WRITE c card proof) s fits =
     let m = WRITE c card proof in
-    rw (field-encoded x m s fits 6, read-prepared proof (fits .2), number-encoded x m s fits 1 1 (c .0) refl (fits .0), field-encoded x m s fits 5)
+    rw (field-encoded x m s fits 6, read-proof proof (fits .2), number-encoded x m s fits 1 1 (c .0) refl (fits .0), field-encoded x m s fits 5)
 row-encoded x (READ c n) s fits =
     let m = READ c n in
     rw (number-encoded x m s fits 1 1 (c .0) refl (fits .0), number-encoded x m s fits 2 8 n refl (fits .1))
 row-encoded x (STAMP r n proof c) s fits =
     let m = STAMP r n proof c in
     rw (
-      prepared-encoded x m s fits proof refl (fits .2),
+      proof-encoded x m s fits 6 proof refl (fits .2),
       number-encoded x m s fits 1 1 (r .0) refl (fits .0),
       number-encoded x m s fits 2 8 n refl (fits .1),
       number-encoded x m s fits 8 1 (c .0) refl (fits .3),
@@ -113,7 +106,7 @@ row-encoded x (WRITTEN r t) s fits =
 row-encoded x (CARD r n card proof c) s fits =
     let m = CARD r n card proof c in
     rw (
-      prepared-encoded x m s fits proof refl (fits .3),
+      proof-encoded x m s fits 6 proof refl (fits .3),
       number-encoded x m s fits 1 1 (r .0) refl (fits .0),
       number-encoded x m s fits 2 8 n refl (fits .1),
       field-encoded x m s fits 5,

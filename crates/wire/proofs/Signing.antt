@@ -23,8 +23,8 @@ use Rattle.wire.specs.Checks.{preparedOf, writtenOf, entriesIfThere, ent
 use Rattle.wire.specs.Decode.{forRegister, registerIn, reading, fieldsIn}
 use Rattle.wire.specs.Layout.{mapIn, field}
 use Rattle.wire.specs.Message.{Message, PREPARED, WRITTEN, body}
-use Rattle.wire.specs.Parts.{partAt, preparedPart, writtenPart, timestampPart, digestPart, countPart, writtenCount}
-use Rattle.wire.specs.Proof.{Entry, PreparedProof, WrittenProof, preparedFrom, writtenFrom, readEntries}
+use Rattle.wire.specs.Parts.{partAt, proofPart, timestampPart, digestPart, countPart, entriesPart}
+use Rattle.wire.specs.Proof.{Entry, Proof, proofFrom, readEntries}
 use Rattle.wire.specs.Signatures.{Signature, signedBy, preparedSignatures, writtenSignatures, signaturesIfThere, signaturesOf, signaturesTo, signatureTo, signerOf, ShowsSignature, EntriesStand}
 use Rattle.wire.specs.Putting.{Put}
 use Rattle.wire.specs.declared.message.Fields.{Fields}
@@ -35,7 +35,7 @@ use Rattle.wire.specs.declared.signatures.Signer.{Signer}
 use Rattle.wire.proofs.Accepting.{seen, placed-reading, all-signatures, entries-counted}
 use Rattle.wire.proofs.Framed.{field-absent}
 use Rattle.wire.proofs.Handed.{prepared-is, written-is, prepared-shown, written-shown, front-timestamp}
-use Rattle.wire.proofs.Parsed.{preparedAt, writtenAt, messageOf, parsed, prepared-whole, written-whole, message-refused, decode-joins, decode-refused}
+use Rattle.wire.proofs.Parsed.{ProofBit, prepared-bit, written-bit, proofAt, messageOf, parsed, proof-ends, message-refused, decode-joins, decode-refused}
 use Rattle.wire.proofs.ProofBytes.{length-read}
 
 -- ---- How many
@@ -44,20 +44,30 @@ length-signed : (x : RegisterId) (message : ReplicaId → Message) (entries : Li
 length-signed x message [] = refl
 length-signed x message (entry ∷ entries) = ap suc (length-signed x message entries)
 
-prepared-length : (x : RegisterId) (proof : Option PreparedProof) → length (signaturesIfThere (preparedSignatures x) proof) ≡ length (entriesIfThere (λ (p : PreparedProof). p .entries) proof)
-prepared-length x none = refl
-prepared-length x (some proof) = length-signed x (λ id. PREPARED id (proof .timestamp) (proof .digest)) (proof .entries)
+-- The message whose signature an entry of a proof is.
+abbrev Vouching : ℕ → Type 0
+Vouching d = Proof d → ReplicaId → Message
 
-written-length : (x : RegisterId) (proof : Option WrittenProof) → length (signaturesIfThere (writtenSignatures x) proof) ≡ length (entriesIfThere (λ (p : WrittenProof). p .entries) proof)
-written-length x none = refl
-written-length x (some proof) = length-signed x (λ id. WRITTEN id (proof .timestamp)) (proof .entries)
+abbrev asPrepared : Vouching 32
+asPrepared p id = PREPARED id (p .timestamp) (p .digest)
+
+abbrev asWritten : Vouching 0
+asWritten p id = WRITTEN id (p .timestamp)
+
+-- The signatures of a proof that may be missing.
+abbrev ofProof : {d : ℕ} → RegisterId → Vouching d → Option (Proof d) → List Signature
+ofProof {d} x message proof = signaturesIfThere (λ (p : Proof d). signedBy x (message p) (p .entries)) proof
+
+length-of : {d : ℕ} (x : RegisterId) (message : Vouching d) (proof : Option (Proof d)) → length (ofProof x message proof) ≡ length (entriesIfThere proof)
+length-of x message none = refl
+length-of x message (some proof) = length-signed x (message proof) (proof .entries)
 
 -- Its own, and one an entry: as many as verdicts that test 7 asks for.
 pub length-signatures : (bytes : List ℕ) (x : RegisterId) (message : Message) → length (signaturesOf bytes (forRegister x message)) ≡ 1 + length (entriesOf message)
 unfolding entriesOf
 length-signatures bytes x message =
-    let first = prepared-length x (preparedOf message) in
-    let second = written-length x (writtenOf message) in
+    let first = length-of x asPrepared (preparedOf message) in
+    let second = length-of x asWritten (writtenOf message) in
     simp length-append (omega arith)
 
 -- Of bytes that can be read, as many as their fields say; of others none.
@@ -89,35 +99,32 @@ signed-at x message (suc n) bytes (suc i) h =
     signed-at x message n (drop 65 bytes) i (omega arith) ∙ rw (getD-drop 65 bytes (65 * i) 0, next)
 
 -- An entry that is counted lies within its proof.
-module _ (proof : List ℕ) (i : ℕ) where
-  pub prepared-inside : EntriesStand 38 proof → i < countPart proof → 38 + 65 * i < length proof
-  unfolding countPart
-  prepared-inside stand h = let size = length-drop 38 proof in omega arith
+module _ (d : ℕ) (proof : List ℕ) (i : ℕ) (stand : EntriesStand d proof) (h : i < countPart d proof) where
+  pub inside : 6 + d + 65 * i < length proof
+  unfolding countPart entriesPart
+  inside = let size = length-drop (6 + d) proof in omega arith
 
-  pub written-inside : EntriesStand 6 proof → i < writtenCount proof → 6 + 65 * i < length proof
-  unfolding writtenCount
-  written-inside stand h = let size = length-drop 6 proof in omega arith
+  timestamp-in : number (timestampPart proof) ≡ fromBytes (take 5 proof)
+  timestamp-in = let long = inside in ap number (front-timestamp proof (omega arith)) ∙ number-ofNumber (fromBytes (take 5 proof))
+
+  proof-at : (x : RegisterId) (message : ReplicaId → Message) → getElem? (signedBy x message (proofFrom d proof .entries)) i ≡ some (entrySignature x message (record { 0 = getD proof (6 + d + 65 * i) 0 }))
+  unfolding countPart
+  proof-at x message = rw (← getD-drop (6 + d) proof (65 * i) 0) (signed-at x message (getD proof (5 + d) 0) (drop (6 + d) proof) i h)
 
 -- Of a proof, by the parts that the code answers.
-pub prepared-at : (x : RegisterId) (proof : List ℕ) (i : ℕ) → EntriesStand 38 proof → i < countPart proof
-    → getElem? (preparedSignatures x (preparedFrom proof)) i
-    ≡ some (entrySignature x (λ id. PREPARED id (number (timestampPart proof)) (filled 32 (digestPart proof))) (record { 0 = getD proof (38 + 65 * i) 0 }))
-unfolding countPart digestPart
+pub prepared-at : (x : RegisterId) (proof : List ℕ) (i : ℕ) → EntriesStand 32 proof → i < countPart 32 proof
+    → getElem? (preparedSignatures x (proofFrom 32 proof)) i
+    ≡ some (entrySignature x (λ id. PREPARED id (number (timestampPart proof)) (filled 32 (digestPart 32 proof))) (record { 0 = getD proof (38 + 65 * i) 0 }))
+unfolding digestPart
 prepared-at x proof i stand h =
-    let long = prepared-inside proof i stand h in
-    let stamp : number (timestampPart proof) ≡ fromBytes (take 5 proof) = ap number (front-timestamp proof (omega arith)) ∙ number-ofNumber (fromBytes (take 5 proof)) in
+    let long = inside 32 proof i stand h in
     let digest : length (take 32 (drop 5 proof)) ≡ 32 = simp (length-take, length-drop) (omega arith) in
-    rw (stamp, le-ltb (length proof) 37 (omega arith), filled-whole 32 (take 32 (drop 5 proof)) digest, ← getD-drop 38 proof (65 * i) 0)
-    (signed-at x (λ id. PREPARED id (fromBytes (take 5 proof)) (take 32 (drop 5 proof))) (getD proof 37 0) (drop 38 proof) i h)
+    rw (timestamp-in 32 proof i stand h, le-ltb (length proof) 37 (omega arith), filled-whole 32 (take 32 (drop 5 proof)) digest)
+    (proof-at 32 proof i stand h x (λ id. PREPARED id (fromBytes (take 5 proof)) (take 32 (drop 5 proof))))
 
-pub written-at : (x : RegisterId) (proof : List ℕ) (i : ℕ) → EntriesStand 6 proof → i < writtenCount proof
-    → getElem? (writtenSignatures x (writtenFrom proof)) i ≡ some (entrySignature x (λ id. WRITTEN id (number (timestampPart proof))) (record { 0 = getD proof (6 + 65 * i) 0 }))
-unfolding writtenCount
-written-at x proof i stand h =
-    let long = written-inside proof i stand h in
-    let stamp : number (timestampPart proof) ≡ fromBytes (take 5 proof) = ap number (front-timestamp proof (omega arith)) ∙ number-ofNumber (fromBytes (take 5 proof)) in
-    rw (stamp, ← getD-drop 6 proof (65 * i) 0)
-    (signed-at x (λ id. WRITTEN id (fromBytes (take 5 proof))) (getD proof 5 0) (drop 6 proof) i h)
+pub written-at : (x : RegisterId) (proof : List ℕ) (i : ℕ) → EntriesStand 0 proof → i < countPart 0 proof
+    → getElem? (writtenSignatures x (proofFrom 0 proof)) i ≡ some (entrySignature x (λ id. WRITTEN id (number (timestampPart proof))) (record { 0 = getD proof (6 + 65 * i) 0 }))
+written-at x proof i stand h = rw (timestamp-in 0 proof i stand h) (proof-at 0 proof i stand h x (λ id. WRITTEN id (fromBytes (take 5 proof))))
 
 -- Of a list behind another.
 module _ {A : Type 0} where
@@ -136,49 +143,40 @@ module _ {A : Type 0} where
   behind-all (x ∷ a) zero h = absurd (omega arith)
   behind-all (x ∷ a) (suc i) h = behind-all a i (omega arith)
 
+module _ {d : ℕ} (x : RegisterId) (message : Vouching d) where
+  part-size : (proof : List ℕ) → length (ofProof x message (proofPart d proof)) ≡ countPart d proof
+  unfolding countPart
+  part-size [] = refl
+  part-size (byte ∷ proof) = length-of x message (proofPart d (byte ∷ proof)) ∙ length-read _ _
+
+  part-there : (proof : List ℕ) → 0 < countPart d proof → ofProof x message (proofPart d proof) ≡ signedBy x (message (proofFrom d proof)) (proofFrom d proof .entries)
+  unfolding countPart
+  part-there [] h = absurd (omega arith)
+  part-there (byte ∷ proof) h = refl
+
 -- Of both proofs.
 abbrev ofPrepared : RegisterId → List ℕ → List Signature
-ofPrepared x proof = signaturesIfThere (preparedSignatures x) (preparedPart proof)
+ofPrepared x proof = ofProof x asPrepared (proofPart 32 proof)
 
 abbrev ofWritten : RegisterId → List ℕ → List Signature
-ofWritten x proof = signaturesIfThere (writtenSignatures x) (writtenPart proof)
-
-prepared-size : (x : RegisterId) (proof : List ℕ) → length (ofPrepared x proof) ≡ countPart proof
-unfolding countPart
-prepared-size x [] = refl
-prepared-size x (byte ∷ proof) = let p = preparedFrom (byte ∷ proof) in length-signed x (λ id. PREPARED id (p .timestamp) (p .digest)) (p .entries) ∙ length-read _ _
-
-written-size : (x : RegisterId) (proof : List ℕ) → length (ofWritten x proof) ≡ writtenCount proof
-unfolding writtenCount
-written-size x [] = refl
-written-size x (byte ∷ proof) = let p = writtenFrom (byte ∷ proof) in length-signed x (λ id. WRITTEN id (p .timestamp)) (p .entries) ∙ length-read _ _
-
-prepared-there : (x : RegisterId) (proof : List ℕ) → 0 < countPart proof → ofPrepared x proof ≡ preparedSignatures x (preparedFrom proof)
-unfolding countPart
-prepared-there x [] h = absurd (omega arith)
-prepared-there x (byte ∷ proof) h = refl
-
-written-there : (x : RegisterId) (proof : List ℕ) → 0 < writtenCount proof → ofWritten x proof ≡ writtenSignatures x (writtenFrom proof)
-unfolding writtenCount
-written-there x [] h = absurd (omega arith)
-written-there x (byte ∷ proof) h = refl
+ofWritten x proof = ofProof x asWritten (proofPart 0 proof)
 
 module _ (x : RegisterId) (prepared written : List ℕ) (i : ℕ) where
-  pub of-first : i < countPart prepared → getElem? (preparedSignatures x (preparedFrom prepared)) i ≡ getElem? (ofPrepared x prepared ++ ofWritten x written) i
+  pub of-first : i < countPart 32 prepared → getElem? (preparedSignatures x (proofFrom 32 prepared)) i ≡ getElem? (ofPrepared x prepared ++ ofWritten x written) i
   of-first h =
-      let size = prepared-size x prepared in
-      sym (in-first (ofPrepared x prepared) (ofWritten x written) i (omega arith) ∙ rw (prepared-there x prepared (omega arith)))
+      let size = part-size x asPrepared prepared in
+      sym (in-first (ofPrepared x prepared) (ofWritten x written) i (omega arith) ∙ rw (part-there x asPrepared prepared (omega arith)))
 
-  pub of-second : countPart prepared ≤ i → i - countPart prepared < writtenCount written
-      → getElem? (writtenSignatures x (writtenFrom written)) (i - countPart prepared) ≡ getElem? (ofPrepared x prepared ++ ofWritten x written) i
+  pub of-second : countPart 32 prepared ≤ i → i - countPart 32 prepared < countPart 0 written
+      → getElem? (writtenSignatures x (proofFrom 0 written)) (i - countPart 32 prepared) ≡ getElem? (ofPrepared x prepared ++ ofWritten x written) i
   of-second past h =
-      let size = prepared-size x prepared in
-      sym (in-second (ofPrepared x prepared) (ofWritten x written) i (omega arith) ∙ rw (size, written-there x written (omega arith)))
+      let size = part-size x asPrepared prepared in
+      sym (in-second (ofPrepared x prepared) (ofWritten x written) i (omega arith) ∙ rw (size, part-there x asWritten written (omega arith)))
 
-  pub of-neither : countPart prepared ≤ i → writtenCount written ≤ i - countPart prepared → getElem? (ofPrepared x prepared ++ ofWritten x written) i ≡ none
+  pub of-neither : countPart 32 prepared ≤ i → countPart 0 written ≤ i - countPart 32 prepared → getElem? (ofPrepared x prepared ++ ofWritten x written) i ≡ none
   of-neither past h =
-      let first = prepared-size x prepared in
-      let second = written-size x written in
+      let first = part-size x asPrepared prepared in
+      let second = part-size x asWritten written in
       behind-all (ofPrepared x prepared ++ ofWritten x written) i (rw length-append (omega arith))
 
 -- Of a message that was read.
@@ -195,7 +193,7 @@ module _ (party : Party) (bytes : List ℕ) (fields : Fields) (e : reading party
   register-read = rw (parsed party bytes fields e .same)
 
   both : RegisterId → List Signature
-  both x = signaturesIfThere (preparedSignatures x) (preparedAt bytes) ++ signaturesIfThere (writtenSignatures x) (writtenAt bytes)
+  both x = ofProof x asPrepared (proofAt 32 6 bytes) ++ ofProof x asWritten (proofAt 0 7 bytes)
 
   pub entry-at : (i : ℕ) → signatureTo party bytes (suc i) ≡ accepted (getElem? (ofPrepared (fields .register) (partAt bytes (fields .prepared)) ++ ofWritten (fields .register) (partAt bytes (fields .written))) i)
   unfolding signatureTo both
@@ -205,19 +203,19 @@ module _ (party : Party) (bytes : List ℕ) (fields : Fields) (e : reading party
       rw (decode-joins party bytes _ (p .decodes), s .prepared, s .written, prepared-shown party bytes fields p, written-shown party bytes fields p)
       (ap (λ (x : RegisterId). accepted (getElem? (both x) i)) (sym register-read))
 
-  pub prepared-stand : EntriesStand 38 (partAt bytes (fields .prepared))
-  prepared-stand = rw (prepared-is party bytes fields (parsed party bytes fields e)) (go (bit (mapIn bytes) 6) refl)
+  stand : {d b : ℕ} → ProofBit d b → EntriesStand d (field bytes b)
+  unfolding countPart entriesPart
+  stand {d} {b} bit-is = go (bit (mapIn bytes) b) refl
     where
-      go : (b : Bool) → bit (mapIn bytes) 6 ≡ b → EntriesStand 38 (field bytes 6)
-      go true set = let whole = prepared-whole bytes (parsed party bytes fields e .framed) set in rw length-drop (omega arith)
-      go false clear = rw (field-absent bytes 6 clear) (omega arith)
+      go : (t : Bool) → bit (mapIn bytes) b ≡ t → 65 * getD (field bytes b) (5 + d) 0 ≤ length (drop (6 + d) (field bytes b))
+      go true set = let ends = proof-ends bytes (parsed party bytes fields e .framed) bit-is set in rw length-drop (omega arith)
+      go false clear = rw (field-absent bytes b clear) (omega arith)
 
-  pub written-stand : EntriesStand 6 (partAt bytes (fields .written))
-  written-stand = rw (written-is party bytes fields (parsed party bytes fields e)) (go (bit (mapIn bytes) 7) refl)
-    where
-      go : (b : Bool) → bit (mapIn bytes) 7 ≡ b → EntriesStand 6 (field bytes 7)
-      go true set = let whole = written-whole bytes (parsed party bytes fields e .framed) set in rw length-drop (omega arith)
-      go false clear = rw (field-absent bytes 7 clear) (omega arith)
+  pub prepared-stand : EntriesStand 32 (partAt bytes (fields .prepared))
+  prepared-stand = rw (prepared-is party bytes fields (parsed party bytes fields e)) (stand prepared-bit)
+
+  pub written-stand : EntriesStand 0 (partAt bytes (fields .written))
+  written-stand = rw (written-is party bytes fields (parsed party bytes fields e)) (stand written-bit)
 
 pub unread-at : (party : Party) (bytes : List ℕ) (i n : ℕ) → reading party bytes ≡ refused n → signatureTo party bytes i ≡ refused n
 unfolding signatureTo

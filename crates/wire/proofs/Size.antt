@@ -11,11 +11,11 @@ use Rattle.base.specs.Range.{within}
 use Rattle.base.specs.Rising.{rising}
 use Rattle.base.specs.declared.party.RegisterId.{RegisterId}
 use Rattle.wire.specs.Checks.{preparedOf, writtenOf, entriesOf, all, oneEach, shaped, proven, checked}
-use Rattle.wire.specs.Layout.{fixed, repeated, preparedRule, writtenRule, rules}
-use Rattle.wire.specs.Message.{Message, READ-STAMP, PREPARE, WRITE, READ, STAMP, PREPARED, WRITTEN, CARD, numberField, sized, preparedField, writtenField, fields, joined, body, encode, IsSignature, PreparedFits, WrittenFits, IfThere, Fits, preparedSize, writtenSize, EachFits, Legal, size, longest}
-use Rattle.wire.specs.Proof.{Entry, PreparedProof, WrittenProof}
+use Rattle.wire.specs.Layout.{fixed, repeated, proofRule, rules}
+use Rattle.wire.specs.Message.{Message, READ-STAMP, PREPARE, WRITE, READ, STAMP, PREPARED, WRITTEN, CARD, numberField, sized, proofField, fields, joined, body, encode, IsSignature, ProofFits, IfThere, Fits, proofSize, EachFits, Legal, size, longest}
+use Rattle.wire.specs.Proof.{Entry, Proof, PreparedProof, WrittenProof}
 use Rattle.wire.proofs.Places.{content, Obeys, AllObey}
-use Rattle.wire.proofs.ProofBytes.{length-prepared, length-written, prepared-obeys, written-obeys}
+use Rattle.wire.proofs.ProofBytes.{length-proof, proof-obeys}
 
 number-obeys : (width n : ℕ) → Obeys (fixed width) (numberField width n)
 number-obeys width n rest = sym (length-toBytes width n)
@@ -23,27 +23,23 @@ number-obeys width n rest = sym (length-toBytes width n)
 sized-obeys : (card : List ℕ) → Obeys (repeated 1 1) (sized card)
 sized-obeys card rest = omega arith
 
-preparedField-obeys : (proof : Option PreparedProof) → IfThere PreparedFits proof → Obeys preparedRule (preparedField proof)
-preparedField-obeys none fits = tt
-preparedField-obeys (some p) fits = prepared-obeys p fits
-
-writtenField-obeys : (proof : Option WrittenProof) → IfThere WrittenFits proof → Obeys writtenRule (writtenField proof)
-writtenField-obeys none fits = tt
-writtenField-obeys (some p) fits = written-obeys p fits
+field-obeys : {d : ℕ} (proof : Option (Proof d)) → IfThere ProofFits proof → Obeys (proofRule d) (proofField proof)
+field-obeys none fits = tt
+field-obeys (some p) fits = proof-obeys p fits
 
 pub fields-obey : (x : RegisterId) (m : Message) → Fits m → AllObey rules (fields x m)
 unfolding fields rules Fits
 fields-obey x (READ-STAMP c n) fits = (number-obeys 1 1, (number-obeys 1 (c .0), (number-obeys 8 n, (tt, (tt, (tt, (tt, (tt, (tt, (number-obeys 1 (x .0), tt))))))))))
 fields-obey x (PREPARE c t d proof last) fits =
-    (number-obeys 1 2, (number-obeys 1 (c .0), (tt, (number-obeys 5 t, ((λ rest. sym (fits .2 .0)), (tt, (preparedField-obeys proof (fits .3), (writtenField-obeys last (fits .4), (tt, (number-obeys 1 (x .0), tt))))))))))
-fields-obey x (WRITE c card proof) fits = (number-obeys 1 3, (number-obeys 1 (c .0), (tt, (tt, (tt, (sized-obeys card, (prepared-obeys proof (fits .2), (tt, (tt, (number-obeys 1 (x .0), tt))))))))))
+    (number-obeys 1 2, (number-obeys 1 (c .0), (tt, (number-obeys 5 t, ((λ rest. sym (fits .2 .0)), (tt, (field-obeys proof (fits .3), (field-obeys last (fits .4), (tt, (number-obeys 1 (x .0), tt))))))))))
+fields-obey x (WRITE c card proof) fits = (number-obeys 1 3, (number-obeys 1 (c .0), (tt, (tt, (tt, (sized-obeys card, (proof-obeys proof (fits .2), (tt, (tt, (number-obeys 1 (x .0), tt))))))))))
 fields-obey x (READ c n) fits = (number-obeys 1 4, (number-obeys 1 (c .0), (number-obeys 8 n, (tt, (tt, (tt, (tt, (tt, (tt, (number-obeys 1 (x .0), tt))))))))))
 fields-obey x (STAMP r n proof c) fits =
-    (number-obeys 1 5, (number-obeys 1 (r .0), (number-obeys 8 n, (tt, (tt, (tt, (preparedField-obeys proof (fits .2), (tt, (number-obeys 1 (c .0), (number-obeys 1 (x .0), tt))))))))))
+    (number-obeys 1 5, (number-obeys 1 (r .0), (number-obeys 8 n, (tt, (tt, (tt, (field-obeys proof (fits .2), (tt, (number-obeys 1 (c .0), (number-obeys 1 (x .0), tt))))))))))
 fields-obey x (PREPARED r t d) fits = (number-obeys 1 6, (number-obeys 1 (r .0), (tt, (number-obeys 5 t, ((λ rest. sym (fits .2 .0)), (tt, (tt, (tt, (tt, (number-obeys 1 (x .0), tt))))))))))
 fields-obey x (WRITTEN r t) fits = (number-obeys 1 7, (number-obeys 1 (r .0), (tt, (number-obeys 5 t, (tt, (tt, (tt, (tt, (tt, (number-obeys 1 (x .0), tt))))))))))
 fields-obey x (CARD r n card proof c) fits =
-    (number-obeys 1 8, (number-obeys 1 (r .0), (number-obeys 8 n, (tt, (tt, (sized-obeys card, (preparedField-obeys proof (fits .3), (tt, (number-obeys 1 (c .0), (number-obeys 1 (x .0), tt))))))))))
+    (number-obeys 1 8, (number-obeys 1 (r .0), (number-obeys 8 n, (tt, (tt, (sized-obeys card, (field-obeys proof (fits .3), (tt, (number-obeys 1 (c .0), (number-obeys 1 (x .0), tt))))))))))
 
 -- The lengths of fields, added up.
 total : List (Option (List ℕ)) → ℕ
@@ -56,26 +52,22 @@ length-joined [] = refl
 length-joined (none ∷ fs) = length-joined fs ∙ omega arith
 length-joined (some x ∷ fs) = rw (length-append, length-joined fs)
 
-length-preparedField : (proof : Option PreparedProof) → IfThere PreparedFits proof → length (content (preparedField proof)) ≡ preparedSize proof
-length-preparedField none fits = refl
-length-preparedField (some p) fits = length-prepared p fits
-
-length-writtenField : (proof : Option WrittenProof) → IfThere WrittenFits proof → length (content (writtenField proof)) ≡ writtenSize proof
-length-writtenField none fits = refl
-length-writtenField (some p) fits = length-written p fits
+length-field : {d : ℕ} (proof : Option (Proof d)) → IfThere ProofFits proof → length (content (proofField proof)) ≡ proofSize proof
+length-field none fits = refl
+length-field (some p) fits = length-proof p fits
 
 total-size : (x : RegisterId) (m : Message) → Fits m → 2 + total (fields x m) + 64 ≡ size m
 unfolding total fields Fits size
 total-size x (READ-STAMP c n) fits = simp length-toBytes (omega arith)
 total-size x (PREPARE c t d proof last) fits =
     let digest = fits .2 .0 in
-    simp (length-toBytes, length-preparedField proof (fits .3), length-writtenField last (fits .4)) (omega arith)
-total-size x (WRITE c card proof) fits = simp (length-toBytes, length-prepared proof (fits .2)) (omega arith)
+    simp (length-toBytes, length-field proof (fits .3), length-field last (fits .4)) (omega arith)
+total-size x (WRITE c card proof) fits = simp (length-toBytes, length-proof proof (fits .2)) (omega arith)
 total-size x (READ c n) fits = simp length-toBytes (omega arith)
-total-size x (STAMP r n proof c) fits = simp (length-toBytes, length-preparedField proof (fits .2)) (omega arith)
+total-size x (STAMP r n proof c) fits = simp (length-toBytes, length-field proof (fits .2)) (omega arith)
 total-size x (PREPARED r t d) fits = let digest = fits .2 .0 in simp length-toBytes (omega arith)
 total-size x (WRITTEN r t) fits = simp length-toBytes (omega arith)
-total-size x (CARD r n card proof c) fits = simp (length-toBytes, length-preparedField proof (fits .3)) (omega arith)
+total-size x (CARD r n card proof c) fits = simp (length-toBytes, length-field proof (fits .3)) (omega arith)
 
 -- How many bytes are written.
 pub encode-size : (x : RegisterId) (m : Message) (signature : List ℕ) → Fits m → IsSignature signature → length (encode x m signature) ≡ size m
@@ -96,26 +88,22 @@ cardBytes (PREPARED r t d) = []
 cardBytes (WRITTEN r t) = []
 cardBytes (CARD r n card proof c) = card
 
-few-prepared : (proof : Option PreparedProof) → IfThere (λ (p : PreparedProof). length (p .entries) ≤ 11) proof → preparedSize proof ≤ 753
-few-prepared none few = omega arith
-few-prepared (some p) few = omega arith
-
-few-written : (proof : Option WrittenProof) → IfThere (λ (p : WrittenProof). length (p .entries) ≤ 11) proof → writtenSize proof ≤ 721
-few-written none few = omega arith
-few-written (some p) few = omega arith
+few-entries : {d : ℕ} (proof : Option (Proof d)) → IfThere (λ (p : Proof d). length (p .entries) ≤ 11) proof → proofSize proof ≤ 721 + d
+few-entries none few = omega arith
+few-entries (some p) few = omega arith
 
 -- "The longest message is 1,580 bytes", for cards of at most 17 bytes and proofs of at most 11 entries.
 pub at-most-longest : (m : Message) → length (cardBytes m) ≤ 17
     → IfThere (λ (p : PreparedProof). length (p .entries) ≤ 11) (preparedOf m) → IfThere (λ (p : WrittenProof). length (p .entries) ≤ 11) (writtenOf m) → size m ≤ longest
 unfolding size
 at-most-longest (READ-STAMP c n) card prepared written = omega arith
-at-most-longest (PREPARE c t d proof last) card prepared written = omega (arith, few-prepared proof prepared, few-written last written)
+at-most-longest (PREPARE c t d proof last) card prepared written = omega (arith, few-entries proof prepared, few-entries last written)
 at-most-longest (WRITE c bytes proof) card prepared written = omega arith
 at-most-longest (READ c n) card prepared written = omega arith
-at-most-longest (STAMP r n proof c) card prepared written = omega (arith, few-prepared proof prepared)
+at-most-longest (STAMP r n proof c) card prepared written = omega (arith, few-entries proof prepared)
 at-most-longest (PREPARED r t d) card prepared written = omega arith
 at-most-longest (WRITTEN r t) card prepared written = omega arith
-at-most-longest (CARD r n bytes proof c) card prepared written = omega (arith, few-prepared proof prepared)
+at-most-longest (CARD r n bytes proof c) card prepared written = omega (arith, few-entries proof prepared)
 
 -- A PREPARE with two proofs of 11 entries, of different replicas, has that many, and passes 7 to 11 for f = 5.
 blank : ℕ → Entry
@@ -127,7 +115,7 @@ blanks id (suc n) = blank id ∷ blanks (suc id) n
 
 pub longestMessage : Message
 longestMessage =
-    PREPARE (record { 0 = 1 }) 513 (replicate 32 0) (some (record { timestamp = 257; digest = replicate 32 0; entries = blanks 1 11 })) (some (record { timestamp = 257; entries = blanks 1 11 }))
+    PREPARE (record { 0 = 1 }) 513 (replicate 32 0) (some (record { timestamp = 257; digest = replicate 32 0; entries = blanks 1 11 })) (some (record { timestamp = 257; digest = []; entries = blanks 1 11 }))
 
 zeros : (n i : ℕ) → getD (replicate n 0) i 0 < 256
 zeros zero i = omega arith
@@ -145,7 +133,7 @@ longest-reached = (
   refl,
   record {
     register-fits = omega arith;
-    fits = (omega arith, omega arith, (refl, zeros 32), (omega arith, (refl, zeros 32), (omega arith, blanks-fit 1 11 (omega arith))), (omega arith, (omega arith, blanks-fit 1 11 (omega arith))));
+    fits = (omega arith, omega arith, (refl, zeros 32), (omega arith, (refl, zeros 32), (omega arith, blanks-fit 1 11 (omega arith))), (omega arith, (refl, λ i. omega arith), (omega arith, blanks-fit 1 11 (omega arith))));
     short = omega arith;
   },
 )

@@ -8,7 +8,7 @@ use Rattle.base.specs.declared.party.ClientId.{ClientId}
 use Rattle.base.specs.declared.party.RegisterId.{RegisterId}
 use Rattle.base.specs.declared.party.ReplicaId.{ReplicaId}
 use Rattle.wire.specs.Message.{Message, READ-STAMP, PREPARE, WRITE, READ, STAMP, PREPARED, WRITTEN, CARD, fields, joined, body, encode}
-use Rattle.wire.specs.Proof.{PreparedProof, WrittenProof, preparedBytes, writtenBytes}
+use Rattle.wire.specs.Proof.{PreparedProof, WrittenProof, proofBytes}
 use Rattle.wire.specs.Putting.{question, bytesUnless, sizedCard}
 use Rattle.wire.specs.Writing.{unsigned, unless, blankSignature}
 
@@ -40,7 +40,7 @@ module _ (x : RegisterId) (client : ClientId) where
   read-bytes nonce = simp append-assoc
 
   pub prepare-parts : (map timestamp : ℕ) (digest : List ℕ) (first second : Bool) (proof : PreparedProof) (last : WrittenProof) → map ≡ 539 + cond first 0 64 + cond second 0 128
-      → (((head map 2 (client .0) ++ (toBytes 5 timestamp ++ digest)) ++ bytesUnless first (preparedBytes proof)) ++ bytesUnless second (writtenBytes last)) ++ end x
+      → (((head map 2 (client .0) ++ (toBytes 5 timestamp ++ digest)) ++ bytesUnless first (proofBytes proof)) ++ bytesUnless second (proofBytes last)) ++ end x
       ≡ unsigned x (PREPARE client timestamp digest (unless first proof) (unless second last))
   unfolding encode body fields joined
   prepare-parts map timestamp digest true true proof last e = rw e (simp append-assoc)
@@ -49,13 +49,13 @@ module _ (x : RegisterId) (client : ClientId) where
   prepare-parts map timestamp digest false false proof last e = rw e (simp append-assoc)
 
   pub write-parts : (card : List ℕ) (proof : PreparedProof)
-      → ((head 611 3 (client .0) ++ sizedCard card) ++ preparedBytes proof) ++ end x ≡ unsigned x (WRITE client card proof)
+      → ((head 611 3 (client .0) ++ sizedCard card) ++ proofBytes proof) ++ end x ≡ unsigned x (WRITE client card proof)
   unfolding encode body fields joined
   write-parts card proof = simp append-assoc
 
 module _ (x : RegisterId) (replica : ReplicaId) where
   pub stamp-parts : (map nonce : ℕ) (absent : Bool) (proof : PreparedProof) (client : ClientId) → map ≡ 775 + cond absent 0 64
-      → ((head map 5 (replica .0) ++ toBytes 8 nonce) ++ bytesUnless absent (preparedBytes proof)) ++ addressed client x
+      → ((head map 5 (replica .0) ++ toBytes 8 nonce) ++ bytesUnless absent (proofBytes proof)) ++ addressed client x
       ≡ unsigned x (STAMP replica nonce (unless absent proof) client)
   unfolding encode body fields joined
   stamp-parts map nonce true proof client e = rw e (simp append-assoc)
@@ -70,7 +70,7 @@ module _ (x : RegisterId) (replica : ReplicaId) where
   written-body timestamp = simp (append-assoc, append-nil)
 
   pub card-parts : (map nonce : ℕ) (card : List ℕ) (absent : Bool) (proof : PreparedProof) (client : ClientId) → map ≡ 807 + cond absent 0 64
-      → (((head map 8 (replica .0) ++ toBytes 8 nonce) ++ sizedCard card) ++ bytesUnless absent (preparedBytes proof)) ++ addressed client x
+      → (((head map 8 (replica .0) ++ toBytes 8 nonce) ++ sizedCard card) ++ bytesUnless absent (proofBytes proof)) ++ addressed client x
       ≡ unsigned x (CARD replica nonce card (unless absent proof) client)
   unfolding encode body fields joined
   card-parts map nonce card true proof client e = rw e (simp append-assoc)

@@ -11,7 +11,7 @@ use Rattle.base.specs.Rising.{rising}
 use Rattle.base.specs.Timestamp.{ofNumber, isIssued}
 use Rattle.base.specs.declared.replica_set.ReplicaSet.{ReplicaSet}
 use Rattle.wire.specs.Message.{Message, READ-STAMP, PREPARE, WRITE, READ, STAMP, PREPARED, WRITTEN, CARD}
-use Rattle.wire.specs.Proof.{Entry, PreparedProof, WrittenProof, signers, signerSet}
+use Rattle.wire.specs.Proof.{Entry, Proof, PreparedProof, WrittenProof, signers, signerSet}
 
 -- The proofs and the timestamp field of a message.
 abbrev pub preparedOf : Message → Option PreparedProof
@@ -48,13 +48,13 @@ abbrev pub ifThere : {A : Type 0} → (A → Bool) → Option A → Bool
 ifThere test none = true
 ifThere test (some a) = test a
 
-abbrev pub entriesIfThere : {A : Type 0} → (A → List Entry) → Option A → List Entry
-entriesIfThere entries none = []
-entriesIfThere entries (some proof) = entries proof
+abbrev pub entriesIfThere : {d : ℕ} → Option (Proof d) → List Entry
+entriesIfThere none = []
+entriesIfThere (some proof) = proof .entries
 
 -- The entries in the order of their verdicts: "the message's own first, then entries in order".
 unfoldable pub entriesOf : Message → List Entry
-entriesOf message = entriesIfThere (λ (proof : PreparedProof). proof .entries) (preparedOf message) ++ entriesIfThere (λ (proof : WrittenProof). proof .entries) (writtenOf message)
+entriesOf message = entriesIfThere (preparedOf message) ++ entriesIfThere (writtenOf message)
 
 unfoldable pub all : (ℕ → Bool) → List ℕ → Bool
 all test [] = true
@@ -75,6 +75,9 @@ ownGenuine verdicts = eqb (getD verdicts 0 0) 1
 unfoldable pub shaped : ℕ → List Entry → Bool
 shaped f entries = eqb (length entries) (quorumSize f) && rising 0 (replicaCount f) (signers entries)
 
+abbrev pub shapedIfThere : {d : ℕ} → ℕ → Option (Proof d) → Bool
+shapedIfThere {d} f proof = ifThere (λ (p : Proof d). shaped f (p .entries)) proof
+
 -- 10: "An entry's mark is 0."
 abbrev pub genuine : List ℕ → Bool
 genuine verdicts = all (λ v. eqb v 1) verdicts
@@ -83,13 +86,15 @@ genuine verdicts = all (λ v. eqb v 1) verdicts
 abbrev pub issued : ℕ → Bool
 issued timestamp = isIssued (ofNumber timestamp)
 
+abbrev pub issuedIfThere : {d : ℕ} → Option (Proof d) → Bool
+issuedIfThere {d} proof = ifThere (λ (p : Proof d). issued (p .timestamp)) proof
+
 -- 9 to 11 of a message, each test over the whole message before the next.
 unfoldable pub proven : {A : Type 0} → ℕ → Message → List ℕ → Outcome A → Outcome A
 proven f message entryVerdicts next =
-    guard 9 (ifThere (λ (proof : PreparedProof). shaped f (proof .entries)) (preparedOf message) && ifThere (λ (proof : WrittenProof). shaped f (proof .entries)) (writtenOf message))
+    guard 9 (shapedIfThere f (preparedOf message) && shapedIfThere f (writtenOf message))
     (guard 10 (genuine entryVerdicts)
-    (guard 11 (ifThere issued (timestampOf message)
-    && (ifThere (λ (proof : PreparedProof). issued (proof .timestamp)) (preparedOf message) && ifThere (λ (proof : WrittenProof). issued (proof .timestamp)) (writtenOf message)))
+    (guard 11 (ifThere issued (timestampOf message) && (issuedIfThere (preparedOf message) && issuedIfThere (writtenOf message)))
     next))
 
 -- 7 to 11 of a message, and what follows.

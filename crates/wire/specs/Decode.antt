@@ -15,7 +15,7 @@ use Rattle.base.specs.declared.party.RegisterId.{RegisterId}
 use Rattle.base.specs.declared.party.ReplicaId.{ReplicaId}
 use Rattle.wire.specs.Layout.{fieldBits, mapIn, place, field, signaturePlace}
 use Rattle.wire.specs.Message.{Message, READ-STAMP, PREPARE, WRITE, READ, STAMP, PREPARED, WRITTEN, CARD, longest}
-use Rattle.wire.specs.Proof.{PreparedProof, WrittenProof, readPrepared, readWritten}
+use Rattle.wire.specs.Proof.{Proof, readProof}
 use Rattle.wire.specs.declared.message.Fields.{Fields}
 use Rattle.wire.specs.declared.message.Party.{Party}
 use Rattle.wire.specs.declared.message.Party.the-variants.{Replica, Client}
@@ -58,11 +58,9 @@ abbrev pub optional : {A : Type 0} → Bool → Outcome A → Outcome (Option A)
 optional true proof = proof >>= λ p. accepted (some p)
 optional false proof = accepted none
 
-abbrev pub preparedIn : List ℕ → Outcome (Option PreparedProof)
-preparedIn bytes = optional (bit (mapIn bytes) 6) (readPrepared (field bytes 6))
-
-abbrev pub writtenIn : List ℕ → Outcome (Option WrittenProof)
-writtenIn bytes = optional (bit (mapIn bytes) 7) (readWritten (field bytes 7))
+-- With a digest of d bytes, by its bit: the prepared proof has 32 and bit 6, the written one none and bit 7.
+abbrev pub proofIn : (d b : ℕ) → List ℕ → Outcome (Option (Proof d))
+proofIn d b bytes = optional (bit (mapIn bytes) b) (readProof d (field bytes b))
 
 -- A row of the table of kinds: who takes it, the bits it has, the bits it may have, and the message. Each has bit 9.
 pub record Kind : Type 1 where
@@ -81,20 +79,20 @@ kinds =
     kind 1 Replica (0 ∷ 1 ∷ 2 ∷ 9 ∷ []) [] (λ m. accepted (READ-STAMP (clientIn m) (nonceIn m)))
     -- PREPARE
     ∷ kind 2 Replica (0 ∷ 1 ∷ 3 ∷ 4 ∷ 9 ∷ []) (6 ∷ 7 ∷ []) (λ m.
-    preparedIn m >>= λ proof. writtenIn m >>= λ last. accepted (PREPARE (clientIn m) (timestampIn m) (digestIn m) proof last))
+    proofIn 32 6 m >>= λ proof. proofIn 0 7 m >>= λ last. accepted (PREPARE (clientIn m) (timestampIn m) (digestIn m) proof last))
     -- WRITE
-    ∷ kind 3 Replica (0 ∷ 1 ∷ 5 ∷ 6 ∷ 9 ∷ []) [] (λ m. readPrepared (field m 6) >>= λ proof. accepted (WRITE (clientIn m) (cardIn m) proof))
+    ∷ kind 3 Replica (0 ∷ 1 ∷ 5 ∷ 6 ∷ 9 ∷ []) [] (λ m. readProof 32 (field m 6) >>= λ proof. accepted (WRITE (clientIn m) (cardIn m) proof))
     -- READ
     ∷ kind 4 Replica (0 ∷ 1 ∷ 2 ∷ 9 ∷ []) [] (λ m. accepted (READ (clientIn m) (nonceIn m)))
     -- STAMP
-    ∷ kind 5 Client (0 ∷ 1 ∷ 2 ∷ 8 ∷ 9 ∷ []) (6 ∷ []) (λ m. preparedIn m >>= λ proof. accepted (STAMP (replicaIn m) (nonceIn m) proof (addressedIn m)))
+    ∷ kind 5 Client (0 ∷ 1 ∷ 2 ∷ 8 ∷ 9 ∷ []) (6 ∷ []) (λ m. proofIn 32 6 m >>= λ proof. accepted (STAMP (replicaIn m) (nonceIn m) proof (addressedIn m)))
     -- PREPARED
     ∷ kind 6 Client (0 ∷ 1 ∷ 3 ∷ 4 ∷ 9 ∷ []) [] (λ m. accepted (PREPARED (replicaIn m) (timestampIn m) (digestIn m)))
     -- WRITTEN
     ∷ kind 7 Client (0 ∷ 1 ∷ 3 ∷ 9 ∷ []) [] (λ m. accepted (WRITTEN (replicaIn m) (timestampIn m)))
     -- CARD
     ∷ kind 8 Client (0 ∷ 1 ∷ 2 ∷ 5 ∷ 8 ∷ 9 ∷ []) (6 ∷ []) (λ m.
-    preparedIn m >>= λ proof. accepted (CARD (replicaIn m) (nonceIn m) (cardIn m) proof (addressedIn m)))
+    proofIn 32 6 m >>= λ proof. accepted (CARD (replicaIn m) (nonceIn m) (cardIn m) proof (addressedIn m)))
     ∷ []
 
 -- Who takes a message: "holders 1 to 4, desks 5 to 8".

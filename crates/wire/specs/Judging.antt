@@ -9,7 +9,7 @@ use Rattle.base.specs.ReplicaSet.{empty}
 use Rattle.base.specs.Rising.{rising}
 use Rattle.base.specs.declared.replica_set.ReplicaSet.{ReplicaSet}
 use Rattle.wire.specs.Checks.{shaped, genuine, proofOutcome}
-use Rattle.wire.specs.Proof.{Entry, PreparedProof, WrittenProof, signers, signerSet, readEntries}
+use Rattle.wire.specs.Proof.{Entry, Proof, signers, signerSet, readEntries}
 use Rattle.wire.specs.declared.checks.ProofCheck.{ProofCheck}
 use Rattle.wire.specs.declared.checks.ProofCheck.the-variants.{Good, Refused}
 
@@ -41,10 +41,6 @@ abbrev pub firstRefusal : Outcome ReplicaSet → Outcome ReplicaSet → Bool →
 firstRefusal prepared written issued = smallest (smallest prepared written) (guard 11 issued (accepted empty))
 
 -- 9 to 11 of a proof with its entries' verdicts; a missing one has none.
-abbrev pub preparedOutcome : ℕ → List ℕ → Option PreparedProof → Outcome ReplicaSet
-preparedOutcome f verdicts none = guard 10 (genuine verdicts) (accepted empty)
-preparedOutcome f verdicts (some proof) = proofOutcome f (proof .entries) verdicts (proof .timestamp)
-
-abbrev pub writtenOutcome : ℕ → List ℕ → Option WrittenProof → Outcome ReplicaSet
-writtenOutcome f verdicts none = guard 10 (genuine verdicts) (accepted empty)
-writtenOutcome f verdicts (some proof) = proofOutcome f (proof .entries) verdicts (proof .timestamp)
+abbrev pub outcomeIfThere : {d : ℕ} → ℕ → List ℕ → Option (Proof d) → Outcome ReplicaSet
+outcomeIfThere f verdicts none = guard 10 (genuine verdicts) (accepted empty)
+outcomeIfThere f verdicts (some proof) = proofOutcome f (proof .entries) verdicts (proof .timestamp)

@@ -16,13 +16,16 @@ abbrev pub extent : Rule → List ℕ → ℕ
 extent (fixed width) bytes = width
 extent (repeated head unit) bytes = head + unit * getD bytes (head - 1) 0
 
--- A prepared proof: timestamp (5), digest (32), number of entries (1), and entries of 65 bytes.
-abbrev pub preparedRule : Rule
-preparedRule = repeated 38 65
+-- A proof: timestamp (5), digest (d), number of entries (1), and entries of 65 bytes.
+abbrev pub proofRule : ℕ → Rule
+proofRule d = repeated (6 + d) 65
 
--- A written proof: "the same without the digest".
+-- A prepared proof has a digest of 32 bytes; a written proof is "the same without the digest".
+abbrev pub preparedRule : Rule
+preparedRule = proofRule 32
+
 abbrev pub writtenRule : Rule
-writtenRule = repeated 6 65
+writtenRule = proofRule 0
 
 -- The fields by bit.
 unfoldable pub rules : List Rule

@@ -9,7 +9,7 @@ use Rattle.base.specs.BitMap.{mapOf}
 use Rattle.base.specs.declared.party.ClientId.{ClientId}
 use Rattle.base.specs.declared.party.RegisterId.{RegisterId}
 use Rattle.base.specs.declared.party.ReplicaId.{ReplicaId}
-use Rattle.wire.specs.Proof.{Entry, PreparedProof, WrittenProof, preparedBytes, writtenBytes}
+use Rattle.wire.specs.Proof.{Entry, Proof, PreparedProof, WrittenProof, proofBytes}
 
 -- A message but for its register (document 02, #103: set) and its signature. Fields stand in the order of their bits; a timestamp is its number.
 pub data Message : Type 0 where
@@ -40,28 +40,24 @@ numberField width n = some (toBytes width n)
 abbrev pub sized : List ℕ → Option (List ℕ)
 sized bytes = some (length bytes ∷ bytes)
 
-abbrev pub preparedField : Option PreparedProof → Option (List ℕ)
-preparedField none = none
-preparedField (some proof) = some (preparedBytes proof)
-
-abbrev pub writtenField : Option WrittenProof → Option (List ℕ)
-writtenField none = none
-writtenField (some proof) = some (writtenBytes proof)
+abbrev pub proofField : {d : ℕ} → Option (Proof d) → Option (List ℕ)
+proofField none = none
+proofField (some proof) = some (proofBytes proof)
 
 -- The fields by bit: 0 kind, 1 sender, 2 nonce, 3 timestamp, 4 digest, 5 card, 6 prepared proof, 7 written proof, 8 client addressed, 9 register.
 unfoldable pub fields : RegisterId → Message → List (Option (List ℕ))
 fields register (READ-STAMP client nonce) = numberField 1 1 ∷ numberField 1 (client .0) ∷ numberField 8 nonce ∷ none ∷ none ∷ none ∷ none ∷ none ∷ none ∷ numberField 1 (register .0) ∷ []
 fields register (PREPARE client timestamp digest proof last) =
-    numberField 1 2 ∷ numberField 1 (client .0) ∷ none ∷ numberField 5 timestamp ∷ some digest ∷ none ∷ preparedField proof ∷ writtenField last ∷ none ∷ numberField 1 (register .0) ∷ []
-fields register (WRITE client card proof) = numberField 1 3 ∷ numberField 1 (client .0) ∷ none ∷ none ∷ none ∷ sized card ∷ some (preparedBytes proof) ∷ none ∷ none ∷ numberField 1 (register .0) ∷ []
+    numberField 1 2 ∷ numberField 1 (client .0) ∷ none ∷ numberField 5 timestamp ∷ some digest ∷ none ∷ proofField proof ∷ proofField last ∷ none ∷ numberField 1 (register .0) ∷ []
+fields register (WRITE client card proof) = numberField 1 3 ∷ numberField 1 (client .0) ∷ none ∷ none ∷ none ∷ sized card ∷ some (proofBytes proof) ∷ none ∷ none ∷ numberField 1 (register .0) ∷ []
 fields register (READ client nonce) = numberField 1 4 ∷ numberField 1 (client .0) ∷ numberField 8 nonce ∷ none ∷ none ∷ none ∷ none ∷ none ∷ none ∷ numberField 1 (register .0) ∷ []
 fields register (STAMP replica nonce proof client) =
-    numberField 1 5 ∷ numberField 1 (replica .0) ∷ numberField 8 nonce ∷ none ∷ none ∷ none ∷ preparedField proof ∷ none ∷ numberField 1 (client .0) ∷ numberField 1 (register .0) ∷ []
+    numberField 1 5 ∷ numberField 1 (replica .0) ∷ numberField 8 nonce ∷ none ∷ none ∷ none ∷ proofField proof ∷ none ∷ numberField 1 (client .0) ∷ numberField 1 (register .0) ∷ []
 fields register (PREPARED replica timestamp digest) =
     numberField 1 6 ∷ numberField 1 (replica .0) ∷ none ∷ numberField 5 timestamp ∷ some digest ∷ none ∷ none ∷ none ∷ none ∷ numberField 1 (register .0) ∷ []
 fields register (WRITTEN replica timestamp) = numberField 1 7 ∷ numberField 1 (replica .0) ∷ none ∷ numberField 5 timestamp ∷ none ∷ none ∷ none ∷ none ∷ none ∷ numberField 1 (register .0) ∷ []
 fields register (CARD replica nonce card proof client) =
-    numberField 1 8 ∷ numberField 1 (replica .0) ∷ numberField 8 nonce ∷ none ∷ none ∷ sized card ∷ preparedField proof ∷ none ∷ numberField 1 (client .0) ∷ numberField 1 (register .0) ∷ []
+    numberField 1 8 ∷ numberField 1 (replica .0) ∷ numberField 8 nonce ∷ none ∷ none ∷ sized card ∷ proofField proof ∷ none ∷ numberField 1 (client .0) ∷ numberField 1 (register .0) ∷ []
 
 -- The fields that are there, one after the other.
 unfoldable pub joined : List (Option (List ℕ)) → List ℕ
@@ -91,11 +87,8 @@ EachFits (entry ∷ entries) = ((entry .signer .0 < 256) × IsSignature (entry .
 abbrev pub EntriesFit : List Entry → Type 0
 EntriesFit entries = (length entries < 256) × EachFits entries
 
-abbrev pub PreparedFits : PreparedProof → Type 0
-PreparedFits proof = (proof .timestamp < 2 ^ 40) × IsDigest (proof .digest) × EntriesFit (proof .entries)
-
-abbrev pub WrittenFits : WrittenProof → Type 0
-WrittenFits proof = (proof .timestamp < 2 ^ 40) × EntriesFit (proof .entries)
+abbrev pub ProofFits : {d : ℕ} → Proof d → Type 0
+ProofFits {d} proof = (proof .timestamp < 2 ^ 40) × ((length (proof .digest) ≡ d) × Bytes (proof .digest)) × EntriesFit (proof .entries)
 
 abbrev pub IfThere : {A : Type 0} → (A → Type 0) → Option A → Type 0
 IfThere P none = Unit {0}
@@ -106,22 +99,18 @@ CardFits card = (length card < 256) × Bytes card
 
 unfoldable pub Fits : Message → Type 0
 Fits (READ-STAMP client nonce) = (client .0 < 256) × (nonce < 2 ^ 64)
-Fits (PREPARE client timestamp digest proof last) = (client .0 < 256) × (timestamp < 2 ^ 40) × IsDigest digest × IfThere PreparedFits proof × IfThere WrittenFits last
-Fits (WRITE client card proof) = (client .0 < 256) × CardFits card × PreparedFits proof
+Fits (PREPARE client timestamp digest proof last) = (client .0 < 256) × (timestamp < 2 ^ 40) × IsDigest digest × IfThere ProofFits proof × IfThere ProofFits last
+Fits (WRITE client card proof) = (client .0 < 256) × CardFits card × ProofFits proof
 Fits (READ client nonce) = (client .0 < 256) × (nonce < 2 ^ 64)
-Fits (STAMP replica nonce proof client) = (replica .0 < 256) × (nonce < 2 ^ 64) × IfThere PreparedFits proof × (client .0 < 256)
+Fits (STAMP replica nonce proof client) = (replica .0 < 256) × (nonce < 2 ^ 64) × IfThere ProofFits proof × (client .0 < 256)
 Fits (PREPARED replica timestamp digest) = (replica .0 < 256) × (timestamp < 2 ^ 40) × IsDigest digest
 Fits (WRITTEN replica timestamp) = (replica .0 < 256) × (timestamp < 2 ^ 40)
-Fits (CARD replica nonce card proof client) = (replica .0 < 256) × (nonce < 2 ^ 64) × CardFits card × IfThere PreparedFits proof × (client .0 < 256)
+Fits (CARD replica nonce card proof client) = (replica .0 < 256) × (nonce < 2 ^ 64) × CardFits card × IfThere ProofFits proof × (client .0 < 256)
 
 -- How many bytes a message has, its signature included.
-abbrev pub preparedSize : Option PreparedProof → ℕ
-preparedSize none = 0
-preparedSize (some proof) = 38 + 65 * length (proof .entries)
-
-abbrev pub writtenSize : Option WrittenProof → ℕ
-writtenSize none = 0
-writtenSize (some proof) = 6 + 65 * length (proof .entries)
+abbrev pub proofSize : {d : ℕ} → Option (Proof d) → ℕ
+proofSize none = 0
+proofSize {d} (some proof) = 6 + d + 65 * length (proof .entries)
 
 -- Bit map, kind and sender in front, register and signature behind.
 abbrev pub sizeWith : ℕ → ℕ
@@ -129,13 +118,13 @@ sizeWith others = 2 + 1 + 1 + others + 1 + 64
 
 unfoldable pub size : Message → ℕ
 size (READ-STAMP client nonce) = sizeWith 8
-size (PREPARE client timestamp digest proof last) = sizeWith (5 + 32 + preparedSize proof + writtenSize last)
-size (WRITE client card proof) = sizeWith (1 + length card + preparedSize (some proof))
+size (PREPARE client timestamp digest proof last) = sizeWith (5 + 32 + proofSize proof + proofSize last)
+size (WRITE client card proof) = sizeWith (1 + length card + proofSize (some proof))
 size (READ client nonce) = sizeWith 8
-size (STAMP replica nonce proof client) = sizeWith (8 + preparedSize proof + 1)
+size (STAMP replica nonce proof client) = sizeWith (8 + proofSize proof + 1)
 size (PREPARED replica timestamp digest) = sizeWith (5 + 32)
 size (WRITTEN replica timestamp) = sizeWith 5
-size (CARD replica nonce card proof client) = sizeWith (8 + 1 + length card + preparedSize proof + 1)
+size (CARD replica nonce card proof client) = sizeWith (8 + 1 + length card + proofSize proof + 1)
 
 -- Document 02, #103: "The longest message is 1,580 bytes"
 abbrev pub longest : ℕ

@@ -3,7 +3,7 @@ use mathlib.Core.Path.{_≡_}
 use mathlib.Core.Bool.{cond}
 use mathlib.Core.List.{List, [], _∷_}
 use mathlib.Core.Option.{Option, none, some}
-use Prim.Native.Nat.{ℕ, _-_, _≤_}
+use Prim.Native.Nat.{ℕ, _+_, _-_, _≤_}
 use lib.Dec.{ltb}
 use lib.ListN.{length, getD, take, drop}
 use Rattle.base.specs.BigEndian.{fromBytes}
@@ -13,8 +13,8 @@ use Rattle.base.specs.Timestamp.{ofNumber, start}
 use Rattle.base.specs.declared.party.RegisterId.{RegisterId}
 use Rattle.base.specs.declared.replica_set.ReplicaSet.{ReplicaSet}
 use Rattle.base.specs.declared.timestamp.Timestamp.{Timestamp}
-use Rattle.wire.specs.Layout.{extent, preparedRule}
-use Rattle.wire.specs.Proof.{PreparedProof, WrittenProof, signerSet, preparedFrom, writtenFrom}
+use Rattle.wire.specs.Layout.{extent, proofRule}
+use Rattle.wire.specs.Proof.{Proof, PreparedProof, signerSet, proofFrom}
 use Rattle.wire.specs.declared.message.Span.{Span}
 
 -- The bytes at a place.
@@ -31,51 +31,49 @@ abbrev pub cardAt : List ℕ → Span → List ℕ
 cardAt bytes at = drop 1 (partAt bytes at)
 
 -- The proof that some bytes of a message are; no bytes are no proof.
-abbrev pub preparedPart : List ℕ → Option PreparedProof
-preparedPart [] = none
-preparedPart (byte ∷ bytes) = some (preparedFrom (byte ∷ bytes))
+abbrev pub proofPart : (d : ℕ) → List ℕ → Option (Proof d)
+proofPart d [] = none
+proofPart d (byte ∷ bytes) = some (proofFrom d (byte ∷ bytes))
 
-abbrev pub writtenPart : List ℕ → Option WrittenProof
-writtenPart [] = none
-writtenPart (byte ∷ bytes) = some (writtenFrom (byte ∷ bytes))
+abbrev pub preparedPart : List ℕ → Option PreparedProof
+preparedPart = proofPart 32
 
 -- "A missing prepared proof means stamp 0.0."
+abbrev pub timestampIfThere : {d : ℕ} → Option (Proof d) → ℕ
+timestampIfThere none = 0
+timestampIfThere (some proof) = proof .timestamp
+
 abbrev pub preparedTimestamp : Option PreparedProof → ℕ
-preparedTimestamp none = 0
-preparedTimestamp (some proof) = proof .timestamp
+preparedTimestamp = timestampIfThere
 
 -- Document 02, #102: who vouched for the proof's card; "for 0.0, no holders".
-abbrev pub preparedSigners : Option PreparedProof → ReplicaSet
-preparedSigners none = empty
-preparedSigners (some proof) = signerSet (proof .entries)
+abbrev pub signersIfThere : {d : ℕ} → Option (Proof d) → ReplicaSet
+signersIfThere none = empty
+signersIfThere (some proof) = signerSet (proof .entries)
 
-abbrev pub writtenTimestamp : Option WrittenProof → ℕ
-writtenTimestamp none = 0
-writtenTimestamp (some proof) = proof .timestamp
+abbrev pub preparedSigners : Option PreparedProof → ReplicaSet
+preparedSigners = signersIfThere
 
 -- The timestamp at the front of a proof, prepared or written; 0.0 where there is none.
 unfoldable pub timestampPart : List ℕ → Timestamp
 timestampPart proof = cond (ltb (length proof) 5) start (ofNumber (fromBytes (take 5 proof)))
 
--- The digest of a prepared proof, how many entries it has (a written proof too), and their bytes.
-unfoldable pub digestPart : List ℕ → List ℕ
-digestPart proof = cond (ltb (length proof) 37) [] (take 32 (drop 5 proof))
+-- The digest of a proof, of d bytes; how many entries it has, and their bytes.
+unfoldable pub digestPart : ℕ → List ℕ → List ℕ
+digestPart d proof = cond (ltb (length proof) (5 + d)) [] (take d (drop 5 proof))
 
-unfoldable pub countPart : List ℕ → ℕ
-countPart proof = getD proof 37 0
+unfoldable pub countPart : ℕ → List ℕ → ℕ
+countPart d proof = getD proof (5 + d) 0
 
-unfoldable pub writtenCount : List ℕ → ℕ
-writtenCount proof = getD proof 5 0
+unfoldable pub entriesPart : ℕ → List ℕ → List ℕ
+entriesPart d proof = drop (6 + d) proof
 
-unfoldable pub entriesPart : List ℕ → List ℕ
-entriesPart proof = drop 38 proof
+-- The bytes of a proof with a digest of d bytes are as many as its number of entries says, which the largest quorum bounds.
+pub record Whole (d : ℕ) (proof : List ℕ) : Type 0 where
+  pub ends : extent (proofRule d) proof ≡ length proof
+  pub few : countPart d proof ≤ 11
 
--- The bytes of a prepared proof are as many as its number of entries says, which the largest quorum bounds.
-pub record Whole (proof : List ℕ) : Type 0 where
-  pub ends : extent preparedRule proof ≡ length proof
-  pub few : countPart proof ≤ 11
-
--- The same of a proof that may be missing.
+-- The same of a prepared proof that may be missing.
 abbrev pub WholeIfThere : List ℕ → Type 0
 WholeIfThere [] = Unit {0}
-WholeIfThere (byte ∷ bytes) = Whole (byte ∷ bytes)
+WholeIfThere (byte ∷ bytes) = Whole 32 (byte ∷ bytes)

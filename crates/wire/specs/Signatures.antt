@@ -3,7 +3,7 @@ use mathlib.Core.Path.{_≡_}
 use mathlib.Core.List.{List, [], _∷_, _++_}
 use mathlib.Core.Option.{Option, none, some}
 use Prim.Native.Nat.{ℕ, _-_, _*_, _≤_}
-use lib.ListN.{length, getD, take, drop, getElem?}
+use lib.ListN.{length, take, getElem?}
 use Rattle.base.specs.Outcome.{Outcome, accepted, refused, _>>=_}
 use Rattle.base.specs.declared.party.RegisterId.{RegisterId}
 use Rattle.base.specs.declared.party.ReplicaId.{ReplicaId}
@@ -11,6 +11,7 @@ use Rattle.wire.specs.Acceptance.{Sender, replica, client, senderOf}
 use Rattle.wire.specs.Checks.{preparedOf, writtenOf}
 use Rattle.wire.specs.Decode.{decode}
 use Rattle.wire.specs.Message.{Message, PREPARED, WRITTEN, body}
+use Rattle.wire.specs.Parts.{countPart, entriesPart}
 use Rattle.wire.specs.Proof.{Entry, PreparedProof, WrittenProof}
 use Rattle.wire.specs.Writing.{inFront}
 use Rattle.wire.specs.declared.message.Party.{Party}
@@ -84,6 +85,6 @@ pub record ShowsSignature (found : Outcome (Option Signature)) (old : List ℕ) 
   pub answered : signedOutcome answer ≡ found >>= λ signature. accepted (inShort signature)
   pub holds : new ≡ coveredIn found old
 
--- Behind a proof's head stand as many entries as its last byte says.
+-- As many entries as the number of entries says stand behind it, in a proof with a digest of d bytes.
 abbrev pub EntriesStand : ℕ → List ℕ → Type 0
-EntriesStand head proof = 65 * getD proof (head - 1) 0 ≤ length (drop head proof)
+EntriesStand d proof = 65 * countPart d proof ≤ length (entriesPart d proof)

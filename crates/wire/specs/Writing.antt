@@ -1,7 +1,7 @@
 -- Document 01, "Messages": what a writer leaves in the borrowed output ("lent output"), and what it is handed.
 use mathlib.Core.Path.{_≡_}
 use mathlib.Core.Bool.{Bool, cond}
-use mathlib.Core.List.{List, _++_}
+use mathlib.Core.List.{List, [], _++_}
 use mathlib.Core.Option.{Option, none, some}
 use Prim.Native.Nat.{ℕ, min}
 use lib.Dec.{leb, eqb}
@@ -52,7 +52,7 @@ abbrev pub keptPrepared : Timestamp → List ℕ → ℕ → List ℕ → Prepar
 keptPrepared timestamp digest count entries = record { timestamp = number timestamp; digest = digest; entries = keptEntries count entries }
 
 abbrev pub keptWritten : Timestamp → ℕ → List ℕ → WrittenProof
-keptWritten timestamp count entries = record { timestamp = number timestamp; entries = keptEntries count entries }
+keptWritten timestamp count entries = record { timestamp = number timestamp; digest = []; entries = keptEntries count entries }
 
 -- "A missing prepared proof means stamp 0.0."
 abbrev pub missing : Timestamp → Bool

@@ -11,7 +11,7 @@ use base::slices::behind;
 use base::slices::between;
 use base::timestamp::Timestamp;
 ghost use mathlib.Core.Path.{_≡_};
-ghost use Rattle.wire.specs.Parts.{lastRegister, partAt, cardAt, timestampPart, digestPart, countPart, writtenCount, entriesPart};
+ghost use Rattle.wire.specs.Parts.{lastRegister, partAt, cardAt, timestampPart, digestPart, countPart, entriesPart};
 
 // The register that a message is for, by its last byte before the signature; 0 where there are too few bytes. Whether the bytes are
 // a message for a register, tests 2 to 6 and 20 say.
@@ -51,7 +51,7 @@ pub fn timestamp(proof: &[u8]) -> Timestamp
 
 // The digest of a prepared proof.
 pub fn digest(proof: &[u8]) -> &[u8]
-    ensures { λ r. ⌜ now r ≡ digestPart (now (proof .entry)) ⌝ }
+    ensures { λ r. ⌜ now r ≡ digestPart 32 (now (proof .entry)) ⌝ }
 {
     let end = TIMESTAMP + DIGEST;
     if proof.len() < end {
@@ -62,7 +62,7 @@ pub fn digest(proof: &[u8]) -> &[u8]
 
 // How many entries a prepared proof has, and how many a written one.
 pub fn entry_count(proof: &[u8]) -> u8
-    ensures { λ r. ⌜ r ≡ countPart (now (proof .entry)) ⌝ }
+    ensures { λ r. ⌜ r ≡ countPart 32 (now (proof .entry)) ⌝ }
 {
     if proof.len() < PREPARED_HEAD {
         return 0;
@@ -71,7 +71,7 @@ pub fn entry_count(proof: &[u8]) -> u8
 }
 
 pub fn written_entry_count(proof: &[u8]) -> u8
-    ensures { λ r. ⌜ r ≡ writtenCount (now (proof .entry)) ⌝ }
+    ensures { λ r. ⌜ r ≡ countPart 0 (now (proof .entry)) ⌝ }
 {
     if proof.len() < WRITTEN_HEAD {
         return 0;
@@ -81,7 +81,7 @@ pub fn written_entry_count(proof: &[u8]) -> u8
 
 // The bytes of a prepared proof's entries.
 pub fn entries(proof: &[u8]) -> &[u8]
-    ensures { λ r. ⌜ now r ≡ entriesPart (now (proof .entry)) ⌝ }
+    ensures { λ r. ⌜ now r ≡ entriesPart 32 (now (proof .entry)) ⌝ }
 {
     behind(proof, PREPARED_HEAD)
 }

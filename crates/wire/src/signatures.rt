@@ -28,8 +28,8 @@ ghost use Rattle.wire.specs.Acceptance.{numbered};
 ghost use Rattle.wire.specs.Accepting.{entryCount, countIn};
 ghost use Rattle.wire.specs.Decode.{reading};
 ghost use Rattle.wire.specs.Message.{longest};
-ghost use Rattle.wire.specs.Parts.{countPart, writtenCount, preparedPart, writtenPart};
-ghost use Rattle.wire.specs.Proof.{preparedFrom, writtenFrom};
+ghost use Rattle.wire.specs.Parts.{countPart, proofPart};
+ghost use Rattle.wire.specs.Proof.{proofFrom};
 ghost use Rattle.wire.specs.Signatures.{signaturesTo, signatureTo, signerOf, ShowsSignature, EntriesStand, signaturesIfThere, preparedSignatures, writtenSignatures};
 ghost use Rattle.wire.specs.Writing.{roomy};
 
@@ -106,8 +106,8 @@ fn own(party: Party, number: u8, bytes: &[u8], out: &mut [u8]) -> Signed
 
 // An entry's of a prepared proof: its replica's, over the PREPARED for this register with the proof's timestamp and digest.
 fn of_prepared(register: RegisterId, proof: &[u8], i: usize, out: &mut [u8]) -> Signed
-    requires { ⌜ EntriesStand 38 (now proof) × (i < countPart (now proof)) × (longest ≤ length (now out)) ⌝ }
-    ensures { λ r. ⌜ ShowsSignature (accepted (getElem? (preparedSignatures register (preparedFrom (now (proof .entry)))) i)) (now (out .entry)) r (now (out .exit)) ⌝ }
+    requires { ⌜ EntriesStand 32 (now proof) × (i < countPart 32 (now proof)) × (longest ≤ length (now out)) ⌝ }
+    ensures { λ r. ⌜ ShowsSignature (accepted (getElem? (preparedSignatures register (proofFrom 32 (now (proof .entry)))) i)) (now (out .entry)) r (now (out .exit)) ⌝ }
 {
     let replica = ReplicaId(proof[PREPARED_HEAD + ENTRY * i]);
     let digest = digest_array(crate::parts::digest(proof));
@@ -123,8 +123,8 @@ fn of_prepared(register: RegisterId, proof: &[u8], i: usize, out: &mut [u8]) -> 
 
 // An entry's of a written proof: its replica's, over the WRITTEN for this register with the proof's timestamp.
 fn of_written(register: RegisterId, proof: &[u8], i: usize, out: &mut [u8]) -> Signed
-    requires { ⌜ EntriesStand 6 (now proof) × (i < writtenCount (now proof)) × (longest ≤ length (now out)) ⌝ }
-    ensures { λ r. ⌜ ShowsSignature (accepted (getElem? (writtenSignatures register (writtenFrom (now (proof .entry)))) i)) (now (out .entry)) r (now (out .exit)) ⌝ }
+    requires { ⌜ EntriesStand 0 (now proof) × (i < countPart 0 (now proof)) × (longest ≤ length (now out)) ⌝ }
+    ensures { λ r. ⌜ ShowsSignature (accepted (getElem? (writtenSignatures register (proofFrom 0 (now (proof .entry)))) i)) (now (out .entry)) r (now (out .exit)) ⌝ }
 {
     let replica = ReplicaId(proof[WRITTEN_HEAD + ENTRY * i]);
     let covered = put_written_body(out, register, replica, crate::parts::timestamp(proof));
@@ -139,9 +139,9 @@ fn of_entries(
     i: usize,
     out: &mut [u8],
 ) -> Signed
-    requires { ⌜ EntriesStand 38 (now prepared) × EntriesStand 6 (now written) × (longest ≤ length (now out)) ⌝ }
+    requires { ⌜ EntriesStand 32 (now prepared) × EntriesStand 0 (now written) × (longest ≤ length (now out)) ⌝ }
     ensures { λ r. ⌜ ShowsSignature
-        (accepted (getElem? (signaturesIfThere (preparedSignatures register) (preparedPart (now (prepared .entry))) ++ signaturesIfThere (writtenSignatures register) (writtenPart (now (written .entry)))) i))
+        (accepted (getElem? (signaturesIfThere (preparedSignatures register) (proofPart 32 (now (prepared .entry))) ++ signaturesIfThere (writtenSignatures register) (proofPart 0 (now (written .entry)))) i))
         (now (out .entry)) r (now (out .exit)) ⌝ }
 {
     let first = crate::parts::entry_count(prepared) as usize;

@@ -17,11 +17,11 @@ use Rattle.wire.specs.Checks.{entriesOf, all, oneEach, shaped, proven, checked,
 use Rattle.wire.specs.Decode.{kinds, ofKind, framed, messageIn, decode}
 use Rattle.wire.specs.Layout.{rules, place, field}
 use Rattle.wire.specs.Message.{fields, joined, body, encode}
-use Rattle.wire.specs.Proof.{entriesBytes, preparedBytes, writtenBytes, readEntries, readPrepared, readWritten}
+use Rattle.wire.specs.Proof.{entriesBytes, proofBytes, readEntries, readProof}
 use Rattle.wire.specs.Sha256.{Ch, Maj, Σ₀, Σ₁, σ₀, σ₁, K, H⁰, paddingZeros, padded, wordOf, words, nextWord, schedule, T₁, T₂, rounds, nextHash, compress, hashValue, hashBytes, sha256}
 
 unfoldable pub messages : Unit {0}
-unfolding fromBytes toBytes guard within same rules place field kinds ofKind framed messageIn decode fields joined body encode entriesBytes preparedBytes writtenBytes readEntries readPrepared readWritten
+unfolding fromBytes toBytes guard within same rules place field kinds ofKind framed messageIn decode fields joined body encode entriesBytes proofBytes readEntries readProof
 messages = tt
 
 unfoldable pub steps : Unit {0}

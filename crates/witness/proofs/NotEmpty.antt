@@ -82,7 +82,7 @@ abbrev at-3·1 : Timestamp
 at-3·1 = record { count = 3; client = client-1 }
 
 abbrev own-written : WrittenProof
-own-written = record { timestamp = 1·1; entries = entry replica-1 ∷ entry replica-2 ∷ entry replica-4 ∷ [] }
+own-written = record { timestamp = 1·1; digest = []; entries = entry replica-1 ∷ entry replica-2 ∷ entry replica-4 ∷ [] }
 
 abbrev proof-3 : PreparedProof
 proof-3 = record { timestamp = 3·1; digest = service-digest; entries = entry replica-1 ∷ entry replica-2 ∷ entry replica-4 ∷ [] }

@@ -32,7 +32,7 @@ use Rattle.wire.specs.Acceptance.{Sender, replica, client}
 use Rattle.run.specs.Run.{Event, at-replica, at-client, begins-write, partyOf, registerOf, HasBytes, CorrectIn, Run, event, answerTo, answerAt, At, Sent}
 use Rattle.wire.specs.Decode.{decode}
 use Rattle.wire.specs.Message.{Message, body}
-use Rattle.wire.specs.Proof.{PreparedProof, signerSet, preparedBytes, readPrepared}
+use Rattle.wire.specs.Proof.{PreparedProof, signerSet, proofBytes, readProof}
 use Rattle.wire.specs.Checks.{proofOutcome}
 use Rattle.wire.specs.Sha256.{sha256}
 use Rattle.wire.specs.Signatures.{Signature, signaturesOf, preparedSignatures}
@@ -481,14 +481,14 @@ module _ (R : Run) (lines : List Line) (told : Told R lines) where
         }
 
   -- A prepared proof that passes 9 to 11 with verdicts that are true at the end of the run, for a register.
-  pub genuine-told : (x : RegisterId) (proof : PreparedProof) (verdicts : List ℕ) → allBytes (preparedBytes proof) ≡ true → readPrepared (preparedBytes proof) ≡ accepted proof
+  pub genuine-told : (x : RegisterId) (proof : PreparedProof) (verdicts : List ℕ) → allBytes (proofBytes proof) ≡ true → readProof 32 (proofBytes proof) ≡ accepted proof
       → length verdicts ≡ length (proof .entries) → proofOutcome (R .f) (proof .entries) verdicts (proof .timestamp) ≡ accepted (signerSet (proof .entries))
       → trueVerdicts R lines (length (R .events)) (preparedSignatures x proof) verdicts ≡ true → Genuine R x proof
   genuine-told x proof verdicts bytes read-as one-each passes true-verdicts =
       record {
-        bytes = preparedBytes proof;
+        bytes = proofBytes proof;
         verdicts = verdicts;
-        are-bytes = all-bytes (preparedBytes proof) bytes;
+        are-bytes = all-bytes (proofBytes proof) bytes;
         reads = read-as;
         one-each = one-each;
         passes = passes;

@@ -13,7 +13,7 @@ ghost use mathlib.Core.Path.{_≡_};
 ghost use mathlib.Core.Bool.{cond};
 ghost use Prim.Native.Nat.{_+_, _≤_};
 ghost use lib.ListN.{length};
-ghost use Rattle.wire.specs.Proof.{countedEntries, preparedBytes, writtenBytes};
+ghost use Rattle.wire.specs.Proof.{countedEntries, proofBytes};
 ghost use Rattle.wire.specs.Putting.{Put, bytesUnless};
 ghost use Rattle.wire.specs.Writing.{keptEntries, keptPrepared, keptWritten, missing};
 
@@ -36,7 +36,7 @@ pub(super) fn put_prepared<'a>(
     entries: &'a [u8; ENTRIES_ROOM],
 ) -> usize
     requires { ⌜ at + 753 ≤ length (now out) ⌝ }
-    ensures { λ r. ⌜ Put (now (out .entry)) at (preparedBytes (keptPrepared timestamp (now (digest .entry)) «entry_count» (now (entries .entry)))) 753 r (now (out .exit)) ⌝ }
+    ensures { λ r. ⌜ Put (now (out .entry)) at (proofBytes (keptPrepared timestamp (now (digest .entry)) «entry_count» (now (entries .entry)))) 753 r (now (out .exit)) ⌝ }
 {
     let behind = put_timestamp_and_digest(out, at, timestamp, digest);
     put_entries(out, behind, entry_count, entries)
@@ -50,7 +50,7 @@ fn put_written(
     entries: &[u8; ENTRIES_ROOM],
 ) -> usize
     requires { ⌜ at + 721 ≤ length (now out) ⌝ }
-    ensures { λ r. ⌜ Put (now (out .entry)) at (writtenBytes (keptWritten timestamp «entry_count» (now (entries .entry)))) 721 r (now (out .exit)) ⌝ }
+    ensures { λ r. ⌜ Put (now (out .entry)) at (proofBytes (keptWritten timestamp «entry_count» (now (entries .entry)))) 721 r (now (out .exit)) ⌝ }
 {
     let behind = put_timestamp(out, at, timestamp);
     put_entries(out, behind, entry_count, entries)
@@ -78,7 +78,7 @@ pub(super) fn put_prepared_unless_missing<'a>(
     entries: &'a [u8; ENTRIES_ROOM],
 ) -> usize
     requires { ⌜ at + 753 ≤ length (now out) ⌝ }
-    ensures { λ r. ⌜ Put (now (out .entry)) at (bytesUnless (missing timestamp) (preparedBytes (keptPrepared timestamp (now (digest .entry)) «entry_count» (now (entries .entry))))) 753 r (now (out .exit)) ⌝ }
+    ensures { λ r. ⌜ Put (now (out .entry)) at (bytesUnless (missing timestamp) (proofBytes (keptPrepared timestamp (now (digest .entry)) «entry_count» (now (entries .entry))))) 753 r (now (out .exit)) ⌝ }
 {
     if is_missing(timestamp) {
         return at;
@@ -94,7 +94,7 @@ pub(super) fn put_written_unless_missing(
     entries: &[u8; ENTRIES_ROOM],
 ) -> usize
     requires { ⌜ at + 721 ≤ length (now out) ⌝ }
-    ensures { λ r. ⌜ Put (now (out .entry)) at (bytesUnless (missing timestamp) (writtenBytes (keptWritten timestamp «entry_count» (now (entries .entry))))) 721 r (now (out .exit)) ⌝ }
+    ensures { λ r. ⌜ Put (now (out .entry)) at (bytesUnless (missing timestamp) (proofBytes (keptWritten timestamp «entry_count» (now (entries .entry))))) 721 r (now (out .exit)) ⌝ }
 {
     if is_missing(timestamp) {
         return at;

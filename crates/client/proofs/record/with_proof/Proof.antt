@@ -15,8 +15,8 @@ returns c =
     let s = digest .before .before .before in
     let proof = s .args .proof .now in
     let p = by-parts proof (s .pre .0) in
-    let kept : digest .digest-array .result ≡ digestPart proof = digest .digest-array .ensures ∙ ap (filled 32) (digest .before .digest .ensures) ∙ filled-whole 32 (digestPart proof) (p .digest-length) in
-    let listed : entries .entries-array .result ≡ filled 715 (entriesPart proof) = entries .entries-array .ensures ∙ ap (filled 715) (entries .before .entries .ensures) in
+    let kept : digest .digest-array .result ≡ digestPart 32 proof = digest .digest-array .ensures ∙ ap (filled 32) (digest .before .digest .ensures) ∙ filled-whole 32 (digestPart 32 proof) (p .digest-length) in
+    let listed : entries .entries-array .result ≡ filled 715 (entriesPart 32 proof) = entries .entries-array .ensures ∙ ap (filled 715) (entries .before .entries .ensures) in
     rw (kept, listed, c .entry-count .ensures, s .pre .1, p .digest, p .count, p .entries)
 
 pub with-proof-spec : {M : Type 1} → statement M

@@ -19,7 +19,7 @@ returns c =
     let s = stamp .before .before .before in
     let proof = s .args .proof .now in
     let p = by-parts proof (s .pre .0) in
-    let held : digest .digest-array .result ≡ digestPart proof = digest .digest-array .ensures ∙ rw (digest .before .digest .ensures) (filled-whole 32 (digestPart proof) (p .digest-length)) in
+    let held : digest .digest-array .result ≡ digestPart 32 proof = digest .digest-array .ensures ∙ rw (digest .before .digest .ensures) (filled-whole 32 (digestPart 32 proof) (p .digest-length)) in
     rw (p .timestamp, p .digest, ← s .pre .1, p .count, p .entries, ← stamp .timestamp .ensures, ofNumber-number (stamp .timestamp .result) (omega (arith, stamp .timestamp .ok)), held, card .card-array .ensures, count .entry-count .ensures, c .entries-array .ensures, entries .entries .ensures)
 
 pub holding-spec : {M : Type 1} → statement M

@@ -17,7 +17,7 @@ use Rattle.replica.proofs.Replies.{sends, sends-keeping, refuses, wrong
 use Rattle.replica.proofs.write.write.Statement.{statement}
 use Rattle.replica.proofs.write.write.Tie as tie
 
-parts : (c : tie.Start) → ByParts (c .args .proof .now)
+parts : (c : tie.Start) → ByParts 32 (c .args .proof .now)
 parts c = by-parts (c .args .proof .now) (c .pre .0)
 
 -- Test 14 as the code asks it.

@@ -1,19 +1,19 @@
 -- `wire::signatures::of_prepared` meets its contract. Assumes nothing.
 use mathlib.Core.Path.{refl, ap}
 use Rattle.base.specs.Outcome.{accepted}
-use Rattle.wire.proofs.Signing.{prepared-inside, prepared-at, answers}
+use Rattle.wire.proofs.Signing.{inside, prepared-at, answers}
 use borrow.Author.Needs.{needs}
 use Rattle.wire.proofs.signatures.of_prepared.Statement.{statement}
 use Rattle.wire.proofs.signatures.of_prepared.Tie as tie
 
 mul-t8 : tie.Need-mul-t8
-mul-t8 c = let a = c .before .before in let h = prepared-inside (a .args .proof .now) (a .args .i) (a .pre .0) (a .pre .1) in search needs
+mul-t8 c = let a = c .before .before in let h = inside 32 (a .args .proof .now) (a .args .i) (a .pre .0) (a .pre .1) in search needs
 
 add-t9 : tie.Need-add-t9
-add-t9 c = let a = c .before .before in let h = prepared-inside (a .args .proof .now) (a .args .i) (a .pre .0) (a .pre .1) in search needs
+add-t9 c = let a = c .before .before in let h = inside 32 (a .args .proof .now) (a .args .i) (a .pre .0) (a .pre .1) in search needs
 
 shared-slice-read-t11 : tie.Need-shared-slice-read-t11
-shared-slice-read-t11 c = let a = c .before .before .before in prepared-inside (a .args .proof .now) (a .args .i) (a .pre .0) (a .pre .1)
+shared-slice-read-t11 c = let a = c .before .before .before in inside 32 (a .args .proof .now) (a .args .i) (a .pre .0) (a .pre .1)
 
 returns : tie.Need-returns
 returns c =

@@ -1,19 +1,19 @@
 -- `wire::signatures::of_written` meets its contract. Assumes nothing.
 use mathlib.Core.Path.{refl, ap}
 use Rattle.base.specs.Outcome.{accepted}
-use Rattle.wire.proofs.Signing.{written-inside, written-at, answers}
+use Rattle.wire.proofs.Signing.{inside, written-at, answers}
 use borrow.Author.Needs.{needs}
 use Rattle.wire.proofs.signatures.of_written.Statement.{statement}
 use Rattle.wire.proofs.signatures.of_written.Tie as tie
 
 mul-t7 : tie.Need-mul-t7
-mul-t7 c = let a = c .before .before in let h = written-inside (a .args .proof .now) (a .args .i) (a .pre .0) (a .pre .1) in search needs
+mul-t7 c = let a = c .before .before in let h = inside 0 (a .args .proof .now) (a .args .i) (a .pre .0) (a .pre .1) in search needs
 
 add-t8 : tie.Need-add-t8
-add-t8 c = let a = c .before .before in let h = written-inside (a .args .proof .now) (a .args .i) (a .pre .0) (a .pre .1) in search needs
+add-t8 c = let a = c .before .before in let h = inside 0 (a .args .proof .now) (a .args .i) (a .pre .0) (a .pre .1) in search needs
 
 shared-slice-read-t10 : tie.Need-shared-slice-read-t10
-shared-slice-read-t10 c = let a = c .before .before .before in written-inside (a .args .proof .now) (a .args .i) (a .pre .0) (a .pre .1)
+shared-slice-read-t10 c = let a = c .before .before .before in inside 0 (a .args .proof .now) (a .args .i) (a .pre .0) (a .pre .1)
 
 returns : tie.Need-returns
 returns c =

@@ -3,7 +3,7 @@ use mathlib.Core.List.{append-assoc}
 use native.Mathlib.Omega.{arith}
 use Rattle.base.specs.BigEndian.{toBytes}
 use Rattle.base.specs.Timestamp.{number}
-use Rattle.wire.specs.Proof.{countedEntries, preparedBytes}
+use Rattle.wire.specs.Proof.{countedEntries, proofBytes}
 use Rattle.wire.specs.Writing.{keptEntries}
 use Rattle.wire.proofs.Stores.{then, restated}
 use borrow.Author.Needs.{needs}
@@ -11,7 +11,7 @@ use Rattle.wire.proofs.writer.proof.put_prepared.Statement.{statement}
 use Rattle.wire.proofs.writer.proof.put_prepared.Tie as tie
 
 returns : tie.Need-returns
-unfolding preparedBytes
+unfolding proofBytes
 returns c =
     let x = c .before .before in
     let y = x .before .before .before .before in

@@ -1,12 +1,12 @@
 -- `wire::writer::proof::put_written` meets its contract. Assumes nothing.
-use Rattle.wire.specs.Proof.{writtenBytes}
+use Rattle.wire.specs.Proof.{proofBytes}
 use Rattle.wire.proofs.Stores.{then}
 use borrow.Author.Needs.{needs}
 use Rattle.wire.proofs.writer.proof.put_written.Statement.{statement}
 use Rattle.wire.proofs.writer.proof.put_written.Tie as tie
 
 returns : tie.Need-returns
-unfolding writtenBytes
+unfolding proofBytes
 returns c =
     let x = c .before .before in
     let y = x .before .before .before .before in
