@@ -11,7 +11,7 @@ use Rattle.base.specs.declared.party.ReplicaId.{ReplicaId}
 use Rattle.base.specs.declared.replica_set.ReplicaSet.{ReplicaSet}
 use Rattle.wire.specs.Proof.{Entry, signerSet, entriesBytes}
 use Rattle.protocol.specs.Client.{signatureAt}
-use Rattle.protocol.specs.Parts.{entriesRoom}
+use Rattle.wire.specs.Layout.{entriesRoom}
 
 -- An entry more, at the place behind so many: signer and signature.
 abbrev pub entryOf : ReplicaId → List ℕ → List ℕ

@@ -12,7 +12,7 @@ use Rattle.base.specs.declared.timestamp.Timestamp.{Timestamp}
 use Rattle.wire.specs.declared.writer.Encoded.{Encoded}
 use Rattle.wire.specs.declared.writer.Encoded.the-variants.{Length as Wrote, Refused as Unwritten}
 use Rattle.protocol.specs.Client.{Turn, ClientCall, clientAnswers}
-use Rattle.protocol.specs.Parts.{cardRoom}
+use Rattle.wire.specs.Layout.{cardRoom}
 use Rattle.protocol.specs.declared.client.Client.{Client}
 use Rattle.protocol.specs.declared.client.ClientAnswer.{ClientAnswer}
 use Rattle.protocol.specs.declared.client.ClientAnswer.the-variants.{Send, Done, Refused}

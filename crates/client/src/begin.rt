@@ -19,7 +19,8 @@ ghost use Rattle.base.specs.ReplicaSet.{empty};
 ghost use Rattle.base.specs.Timestamp.{start};
 ghost use Rattle.wire.specs.Message.{longest, READ-STAMP, READ};
 ghost use Rattle.protocol.specs.Client.{mayBegin, turn, send, beginning};
-ghost use Rattle.protocol.specs.Parts.{cardRoom, startCard};
+ghost use Rattle.wire.specs.Layout.{cardRoom};
+ghost use Rattle.protocol.specs.Parts.{startCard};
 ghost use Rattle.client.specs.Beginning.{barredBy};
 ghost use Rattle.client.specs.Leaving.{Takes};
 

@@ -23,7 +23,7 @@ ghost use lib.ListN.{length};
 ghost use Rattle.wire.specs.Message.{longest, WRITE};
 ghost use Rattle.wire.specs.Parts.{preparedPart, preparedSigners, WholeIfThere};
 ghost use Rattle.protocol.specs.Client.{clientAnswers, currentCard, bestProof, withPhase, turn, send, afterCard, countCard, onCard, afterWriteBack};
-ghost use Rattle.protocol.specs.Parts.{cardRoom};
+ghost use Rattle.wire.specs.Layout.{cardRoom};
 ghost use Rattle.client.specs.Roles.{afterCards};
 ghost use Rattle.client.specs.Leaving.{callOf, Takes, TakesAny};
 

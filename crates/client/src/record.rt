@@ -21,7 +21,7 @@ ghost use Rattle.base.specs.Party.{registerPlace};
 ghost use Rattle.wire.specs.Parts.{Whole};
 ghost use Rattle.wire.specs.Proof.{preparedFrom, signerSet};
 ghost use Rattle.protocol.specs.Client.{withPhase, beginning, withProof, withCard, withDigest, withSignatures, withSigners, withLastWritten, writtenAt, built};
-ghost use Rattle.protocol.specs.Parts.{cardRoom, signaturesRoom};
+ghost use Rattle.wire.specs.Layout.{cardRoom, signaturesRoom};
 ghost use Rattle.client.specs.Arrays.{Keeps};
 
 // The record anew: a field that is an enum is not stored to.

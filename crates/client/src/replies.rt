@@ -18,7 +18,8 @@ ghost use lib.ListN.{length};
 ghost use Rattle.base.specs.Same.{same};
 ghost use Rattle.base.specs.Timestamp.{number};
 ghost use Rattle.protocol.specs.Client.{isBetter, bestOf, keepBetter, keepBetterCard, showedBy, isNew};
-ghost use Rattle.protocol.specs.Parts.{cardRoom, cardStands, startCard};
+ghost use Rattle.wire.specs.Layout.{cardRoom};
+ghost use Rattle.protocol.specs.Parts.{cardStands, startCard};
 ghost use Rattle.wire.specs.Parts.{preparedPart, preparedSigners, WholeIfThere};
 
 // Whether no reply of this replica was taken yet.

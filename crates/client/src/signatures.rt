@@ -13,7 +13,7 @@ ghost use Prim.Native.Nat.{_≤_};
 ghost use lib.ListN.{length, take};
 ghost use Rattle.base.specs.ReplicaSet.{with};
 ghost use Rattle.protocol.specs.Client.{withSignature, gathered};
-ghost use Rattle.protocol.specs.Parts.{entriesRoom, signaturesRoom};
+ghost use Rattle.wire.specs.Layout.{entriesRoom, signaturesRoom};
 ghost use Rattle.client.specs.Arrays.{taken, Added, Keeps};
 
 // Entries in an array, how many they are, and who signed them.

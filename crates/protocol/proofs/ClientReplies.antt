@@ -26,7 +26,7 @@ use Rattle.wire.specs.Proof.{PreparedProof, signerSet}
 use Rattle.wire.specs.Sha256.{sha256}
 use Rattle.protocol.specs.Client.{done, Turn, currentCard, bestProof, writtenAt, writtenRecord, writtenKept, lastWritten, built, withSignature, withSignatures, withSigners, withPhase, withDigest, withLastWritten, enough, isNew, bestOf, showedBy, toPrepare, afterStamp, onStamp, afterPrepared, onPrepared, afterWritten, afterWriteBack, onWritten, AfterCards, afterCard, countCard, onCard}
 use Rattle.protocol.specs.Viewer.{afterView}
-use Rattle.protocol.specs.Parts.{startCard, entriesKept, ifIssued, cardStands}
+use Rattle.protocol.specs.Parts.{startCard, ifIssued, cardStands}
 use Rattle.protocol.specs.declared.client.Client.{Client}
 use Rattle.protocol.specs.declared.client.Phase.{Phase}
 use Rattle.protocol.specs.declared.client.Phase.the-variants.{Idle, Stamps, Prepareds, Writtens, Cards, WriteBack}

@@ -19,13 +19,13 @@ use Rattle.base.specs.declared.replica_set.ReplicaSet.{ReplicaSet}
 use Rattle.base.specs.declared.timestamp.Timestamp.{Timestamp}
 use Rattle.wire.specs.Card.{isCard}
 use Rattle.wire.specs.Acceptance.{admitted}
-use Rattle.wire.specs.Layout.{signature}
+use Rattle.wire.specs.Layout.{signature, cardRoom, entriesRoom, signaturesRoom}
 use Rattle.wire.specs.Message.{Message, READ-STAMP, PREPARE, WRITE, READ, STAMP, PREPARED, WRITTEN, CARD}
 use Rattle.wire.specs.Proof.{Entry, PreparedProof, WrittenProof, signerSet, entriesBytes}
 use Rattle.wire.specs.Sha256.{sha256}
 use Rattle.wire.specs.Writing.{unsigned, inFront}
 use Rattle.wire.specs.declared.message.Party.the-variants.{Client as AtClient}
-use Rattle.protocol.specs.Parts.{cardRoom, entriesRoom, signaturesRoom, startCard, cardKept, entriesKept, ifIssued, cardStands}
+use Rattle.protocol.specs.Parts.{startCard, cardKept, entriesKept, ifIssued, cardStands}
 use Rattle.protocol.specs.Replica.{withOutput}
 use Rattle.protocol.specs.declared.client.Client.{Client}
 use Rattle.protocol.specs.declared.client.ClientAnswer.{ClientAnswer}

@@ -2,22 +2,12 @@
 use mathlib.Core.Bool.{Bool}
 use mathlib.Core.List.{List, [], _∷_}
 use mathlib.Core.Option.{Option, none, some}
-use Prim.Native.Nat.{ℕ, _*_}
+use Prim.Native.Nat.{ℕ}
 use lib.Dec.{eqb}
 use Rattle.base.specs.Same.{same}
 use Rattle.wire.specs.Card.{standsUnder}
 use Rattle.wire.specs.Proof.{Entry, PreparedProof}
 use Rattle.wire.specs.Writing.{keptCard, keptEntries, unless}
-
--- Room for a card of all fields, for 11 entries ("f = 5 gives 16, 11") "of holder (1) and seal (64)", and for a seal of each of 16 holders.
-abbrev pub cardRoom : ℕ
-cardRoom = 17
-
-abbrev pub entriesRoom : ℕ
-entriesRoom = 11 * 65
-
-abbrev pub signaturesRoom : ℕ
-signaturesRoom = 16 * 64
 
 -- "The starting card is `00 00` hex."
 abbrev pub startCard : List ℕ

@@ -20,7 +20,8 @@ use Rattle.wire.specs.Message.{Message, READ-STAMP, PREPARE, WRITE, READ, STAMP
 use Rattle.wire.specs.Proof.{PreparedProof, WrittenProof, signerSet, entriesBytes}
 use Rattle.wire.specs.Writing.{unsigned, roomy, inFront}
 use Rattle.wire.specs.declared.message.Party.the-variants.{Replica as AtReplica}
-use Rattle.protocol.specs.Parts.{cardRoom, entriesRoom, cardKept, entriesKept, ifIssued, cardStands}
+use Rattle.wire.specs.Layout.{cardRoom, entriesRoom}
+use Rattle.protocol.specs.Parts.{cardKept, entriesKept, ifIssued, cardStands}
 use Rattle.protocol.specs.declared.replica.Held.{Held}
 use Rattle.protocol.specs.declared.replica.Register.{Register}
 use Rattle.protocol.specs.declared.replica.Replica.{Replica}

@@ -22,7 +22,7 @@ ghost use lib.ListN.{length, take, drop};
 ghost use Rattle.base.specs.Same.{same};
 ghost use Rattle.base.specs.Timestamp.{number};
 ghost use Rattle.protocol.specs.Replica.{holding};
-ghost use Rattle.protocol.specs.Parts.{cardRoom};
+ghost use Rattle.wire.specs.Layout.{cardRoom};
 ghost use Rattle.wire.specs.Parts.{Whole};
 ghost use Rattle.wire.specs.Proof.{preparedFrom, signerSet};
 ghost use Rattle.replica.specs.Prepares.{isSlot, takesSlot};

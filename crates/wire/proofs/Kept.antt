@@ -1,11 +1,11 @@
 -- The bytes of a card and of entries as a party keeps them. Assumes nothing.
-use mathlib.Core.Path.{_≡_, refl}
-use mathlib.Core.List.{List, [], _∷_}
-use Prim.Native.Nat.{ℕ, zero, suc, _+_, _*_, _≤_, min}
+use mathlib.Core.Path.{_≡_}
+use mathlib.Core.List.{List, _∷_}
+use Prim.Native.Nat.{ℕ, _*_, min}
 use native.Mathlib.Omega.{arith}
-use lib.ListN.{length, take, drop, length-drop}
-use lib.Seq.{take-add, length-take-le}
-use Rattle.wire.specs.Proof.{entriesBytes, countedEntries, readEntries}
+use lib.ListN.{length, take}
+use lib.Seq.{length-take-le}
+use Rattle.wire.specs.Proof.{countedEntries}
 use Rattle.wire.specs.Putting.{sizedCard}
 use Rattle.wire.specs.Writing.{keptCard, keptEntries}
 use Rattle.wire.proofs.ProofBytes.{length-read, bytes-read}

@@ -65,3 +65,19 @@ signaturePlace bytes = place bytes fieldBits
 
 abbrev pub signature : List ℕ → List ℕ
 signature bytes = drop (signaturePlace bytes) bytes
+
+-- Room for a card of all fields: "At most 17 bytes."
+abbrev pub cardRoom : ℕ
+cardRoom = 17
+
+-- For the entries "of holder (1) and seal (64)" of the largest quorum: "f = 5 gives 16, 11".
+abbrev pub entriesRoom : ℕ
+entriesRoom = 11 * 65
+
+-- Room for a proof with a digest of d bytes: timestamp, digest, number of entries, entries.
+abbrev pub proofRoom : ℕ → ℕ
+proofRoom d = 5 + d + 1 + entriesRoom
+
+-- For a signature (seal) of each of 16 replicas.
+abbrev pub signaturesRoom : ℕ
+signaturesRoom = 16 * 64

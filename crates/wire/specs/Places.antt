@@ -1,7 +1,7 @@
 -- What the code finds of a message on the way through tests 2 to 4: where its fields end.
 use mathlib.Core.Path.{_≡_}
 use mathlib.Core.List.{List}
-use Prim.Native.Nat.{ℕ, _+_, _-_, _≤_, _<_}
+use Prim.Native.Nat.{ℕ, _+_, _≤_, _<_}
 use lib.ListN.{length}
 use Rattle.base.specs.Outcome.{Outcome, accepted, refused}
 use Rattle.wire.specs.Layout.{mapIn, place, signaturePlace}

@@ -6,9 +6,10 @@ use base::bytes::put;
 use base::slices::front;
 ghost use mathlib.Core.Path.{_≡_};
 ghost use Rattle.base.specs.Bytes.{filled};
+ghost use Rattle.wire.specs.Layout.{cardRoom, entriesRoom};
 
 pub fn card_array(card: &[u8]) -> [u8; CARD_ROOM]
-    ensures { λ r. ⌜ r ≡ filled 17 (now (card .entry)) ⌝ }
+    ensures { λ r. ⌜ r ≡ filled cardRoom (now (card .entry)) ⌝ }
 {
     let mut array = [0u8; CARD_ROOM];
     put(&mut array, 0, front(card, CARD_ROOM));
@@ -16,7 +17,7 @@ pub fn card_array(card: &[u8]) -> [u8; CARD_ROOM]
 }
 
 pub fn entries_array(entries: &[u8]) -> [u8; ENTRIES_ROOM]
-    ensures { λ r. ⌜ r ≡ filled 715 (now (entries .entry)) ⌝ }
+    ensures { λ r. ⌜ r ≡ filled entriesRoom (now (entries .entry)) ⌝ }
 {
     // By itself, so that the compiler makes zeros only behind entries that are there.
     if entries.len() == 0 {

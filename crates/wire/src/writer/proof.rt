@@ -13,14 +13,15 @@ ghost use mathlib.Core.Path.{_≡_};
 ghost use mathlib.Core.Bool.{cond};
 ghost use Prim.Native.Nat.{_+_, _≤_};
 ghost use lib.ListN.{length};
+ghost use Rattle.wire.specs.Layout.{entriesRoom, proofRoom};
 ghost use Rattle.wire.specs.Proof.{countedEntries, proofBytes};
 ghost use Rattle.wire.specs.Putting.{Put, bytesUnless};
 ghost use Rattle.wire.specs.Writing.{keptEntries, keptPrepared, keptWritten, missing};
 
 // The number of entries, and the entries.
 fn put_entries(out: &mut [u8], at: usize, entry_count: u8, entries: &[u8; ENTRIES_ROOM]) -> usize
-    requires { ⌜ at + 716 ≤ length (now out) ⌝ }
-    ensures { λ r. ⌜ Put (now (out .entry)) at (countedEntries (keptEntries «entry_count» (now (entries .entry)))) 716 r (now (out .exit)) ⌝ }
+    requires { ⌜ at + (1 + entriesRoom) ≤ length (now out) ⌝ }
+    ensures { λ r. ⌜ Put (now (out .entry)) at (countedEntries (keptEntries «entry_count» (now (entries .entry)))) (1 + entriesRoom) r (now (out .exit)) ⌝ }
 {
     let count = at_most(MOST_ENTRIES, entry_count);
     let behind = put_byte(out, at, count);
@@ -35,8 +36,8 @@ pub(super) fn put_prepared<'a>(
     entry_count: u8,
     entries: &'a [u8; ENTRIES_ROOM],
 ) -> usize
-    requires { ⌜ at + 753 ≤ length (now out) ⌝ }
-    ensures { λ r. ⌜ Put (now (out .entry)) at (proofBytes (keptPrepared timestamp (now (digest .entry)) «entry_count» (now (entries .entry)))) 753 r (now (out .exit)) ⌝ }
+    requires { ⌜ at + proofRoom 32 ≤ length (now out) ⌝ }
+    ensures { λ r. ⌜ Put (now (out .entry)) at (proofBytes (keptPrepared timestamp (now (digest .entry)) «entry_count» (now (entries .entry)))) (proofRoom 32) r (now (out .exit)) ⌝ }
 {
     let behind = put_timestamp_and_digest(out, at, timestamp, digest);
     put_entries(out, behind, entry_count, entries)
@@ -49,8 +50,8 @@ fn put_written(
     entry_count: u8,
     entries: &[u8; ENTRIES_ROOM],
 ) -> usize
-    requires { ⌜ at + 721 ≤ length (now out) ⌝ }
-    ensures { λ r. ⌜ Put (now (out .entry)) at (proofBytes (keptWritten timestamp «entry_count» (now (entries .entry)))) 721 r (now (out .exit)) ⌝ }
+    requires { ⌜ at + proofRoom 0 ≤ length (now out) ⌝ }
+    ensures { λ r. ⌜ Put (now (out .entry)) at (proofBytes (keptWritten timestamp «entry_count» (now (entries .entry)))) (proofRoom 0) r (now (out .exit)) ⌝ }
 {
     let behind = put_timestamp(out, at, timestamp);
     put_entries(out, behind, entry_count, entries)
@@ -77,8 +78,8 @@ pub(super) fn put_prepared_unless_missing<'a>(
     entry_count: u8,
     entries: &'a [u8; ENTRIES_ROOM],
 ) -> usize
-    requires { ⌜ at + 753 ≤ length (now out) ⌝ }
-    ensures { λ r. ⌜ Put (now (out .entry)) at (bytesUnless (missing timestamp) (proofBytes (keptPrepared timestamp (now (digest .entry)) «entry_count» (now (entries .entry))))) 753 r (now (out .exit)) ⌝ }
+    requires { ⌜ at + proofRoom 32 ≤ length (now out) ⌝ }
+    ensures { λ r. ⌜ Put (now (out .entry)) at (bytesUnless (missing timestamp) (proofBytes (keptPrepared timestamp (now (digest .entry)) «entry_count» (now (entries .entry))))) (proofRoom 32) r (now (out .exit)) ⌝ }
 {
     if is_missing(timestamp) {
         return at;
@@ -93,8 +94,8 @@ pub(super) fn put_written_unless_missing(
     entry_count: u8,
     entries: &[u8; ENTRIES_ROOM],
 ) -> usize
-    requires { ⌜ at + 721 ≤ length (now out) ⌝ }
-    ensures { λ r. ⌜ Put (now (out .entry)) at (bytesUnless (missing timestamp) (proofBytes (keptWritten timestamp «entry_count» (now (entries .entry))))) 721 r (now (out .exit)) ⌝ }
+    requires { ⌜ at + proofRoom 0 ≤ length (now out) ⌝ }
+    ensures { λ r. ⌜ Put (now (out .entry)) at (bytesUnless (missing timestamp) (proofBytes (keptWritten timestamp «entry_count» (now (entries .entry))))) (proofRoom 0) r (now (out .exit)) ⌝ }
 {
     if is_missing(timestamp) {
         return at;

@@ -4,7 +4,7 @@ use mathlib.Core.List.{List, [], _∷_}
 use Prim.Native.Nat.{ℕ, _-_}
 use native.Mathlib.Omega.{arith}
 use borrow.Author.Needs.{needs}
-use lib.ListN.{length, replicate}
+use lib.ListN.{length}
 use Rattle.base.specs.Bytes.{filled}
 use Rattle.base.proofs.Filling.{zeros, filled-zeros, filled-stored}
 use Rattle.wire.proofs.arrays.entries_array.Statement.{statement}

@@ -1,9 +1,9 @@
 -- The code's forms of Σ₁, σ₀ and σ₁, with one rotation in another, are the standard's. Assumes nothing.
-use mathlib.Core.Path.{_≡_, refl, sym, ap, _∙_}
+use mathlib.Core.Path.{_≡_, sym, ap, _∙_}
 use Prim.Native.Nat.{ℕ, _+_, _-_, _*_, _/_, _%_, _^_, _<_}
 use native.Mathlib.Nat.{div-div-eq-div-mul}
 use native.Mathlib.Omega.{arith}
-use lib.Bits.{bitOr, bitXor, or-shifted-r, xor-block, xor-shr, xor-mod, xor-lt, xor-comm}
+use lib.Bits.{bitOr, bitXor, or-shifted-r, xor-block, xor-shr, xor-mod, xor-lt}
 use Rattle.wire.specs.Sha256.{ROTR, SHR, Σ₁, σ₀, σ₁}
 use Rattle.wire.proofs.sha256.functions.Bits.{xor-assoc}
 

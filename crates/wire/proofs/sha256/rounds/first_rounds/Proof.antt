@@ -5,7 +5,6 @@ use native.Mathlib.Omega.{arith}
 use lib.ListN.{take}
 use Rattle.wire.specs.Sha256.{schedule, rounds}
 use Rattle.wire.proofs.sha256.rounds.Schedule.{Turned, turn, turned-all}
-use borrow.Author.Needs.{needs}
 use Rattle.wire.proofs.sha256.rounds.first_rounds.Statement.{statement}
 use Rattle.wire.proofs.sha256.rounds.first_rounds.Tie as tie
 

@@ -5,7 +5,6 @@ use native.Mathlib.Omega.{arith}
 use Rattle.wire.specs.declared.sha256.rounds.WorkingVariables.{WorkingVariables}
 use Rattle.wire.specs.Sha256.{rounds}
 use Rattle.wire.proofs.sha256.rounds.Schedule.{round-next}
-use borrow.Author.Needs.{needs}
 use Rattle.wire.proofs.sha256.rounds.last_rounds.Statement.{statement}
 use Rattle.wire.proofs.sha256.rounds.last_rounds.Tie as tie
 
