@@ -1,6 +1,7 @@
 // Numbers of parties, timestamps and sets of replicas, and the laws on lists and numbers that the crates above share.
 pub mod big_endian;
 pub mod bytes;
+pub mod numbers;
 pub mod party;
 pub mod refusal;
 pub mod replica_set;

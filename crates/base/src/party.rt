@@ -1,4 +1,5 @@
 // The parties: replicas and clients, how many there are, and how many make a quorum; and the registers that they share.
+use crate::numbers::smaller_byte;
 use crate::refusal::SET_UP;
 ghost use mathlib.Core.Path.{_≡_};
 ghost use Prim.Native.Nat.{min, _<_};
@@ -35,11 +36,7 @@ pub const REGISTERS: usize = 16;
 fn bounded(f: u8) -> u8
     ensures { λ r. ⌜ r ≡ min f 5 ⌝ }
 {
-    if f < LARGEST_FAULT_BOUND {
-        f
-    } else {
-        LARGEST_FAULT_BOUND
-    }
+    smaller_byte(f, LARGEST_FAULT_BOUND)
 }
 
 // n, the number of replicas.

@@ -1,14 +1,8 @@
 // Parts of a slice, for places of any value: what lies behind its end is not there.
+use crate::numbers::smaller;
 ghost use mathlib.Core.Path.{_≡_};
-ghost use Prim.Native.Nat.{min};
 ghost use lib.ListN.{take, drop};
 ghost use Rattle.base.specs.Bytes.{between};
-
-fn smaller(a: usize, b: usize) -> usize
-    ensures { λ r. ⌜ r ≡ min a b ⌝ }
-{
-    if a < b { a } else { b }
-}
 
 pub fn between(bytes: &[u8], at: usize, end: usize) -> &[u8]
     ensures { λ r. ⌜ now r ≡ between (now (bytes .entry)) at end ⌝ }

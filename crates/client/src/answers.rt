@@ -1,6 +1,7 @@
 // What a call returns.
 use crate::Stepped;
 use crate::record::with_phase;
+use base::numbers::smaller_byte;
 use base::timestamp::Timestamp;
 use protocol::client::Client;
 use protocol::client::ClientAnswer;
@@ -57,11 +58,7 @@ pub(super) fn sent(encoded: Encoded, client: Client) -> Stepped
 fn kept(card_length: u8) -> u8
     ensures { λ r. ⌜ r ≡ min «card_length» cardRoom ⌝ }
 {
-    if card_length < LONGEST_CARD {
-        card_length
-    } else {
-        LONGEST_CARD
-    }
+    smaller_byte(card_length, LONGEST_CARD)
 }
 
 // Done with the card and the signers that the record holds, which is then idle.

@@ -1,4 +1,6 @@
 // The lines that the player prints.
+use base::numbers::smaller;
+use base::numbers::wide;
 use base::replica_set::ReplicaSet;
 use base::slices::front;
 use base::timestamp::Timestamp;
@@ -92,7 +94,7 @@ fn put_said(out: &mut [u8], at: usize, what: Said, card: &[u8]) -> usize
 fn card_length(length: u8) -> usize
     ensures { λ r. ⌜ r ≡ min length 17 ⌝ }
 {
-    if length < 17 { length as usize } else { 17 }
+    smaller(wide(length), 17)
 }
 
 // A line of the output: the number of the input's line, and what is said of it.

@@ -7,6 +7,7 @@ use crate::tasks::place;
 use crate::words::hex;
 use crate::words::rest;
 use crate::words::word;
+use base::big_endian::from_two;
 use base::slices::behind;
 use base::slices::front;
 use text::decimal::decimal_byte;
@@ -15,7 +16,6 @@ use text::hex::Digit;
 use text::hex::Length;
 use wire::message::Party;
 use wire::signatures::signature_count;
-ghost use Prim.Native.Nat.{_*_, _≤_};
 
 // So many messages are kept, the first ones, each at its number with so much room: its length in two bytes, and its bytes.
 const KEPT: usize = 200;
@@ -31,12 +31,6 @@ pub type Verdicts = [u8; 400];
 
 // So many bytes of a card are taken.
 const CARD: usize = 64;
-
-fn wide(byte: u8) -> usize
-    ensures { λ r. ⌜ r ≤ 255 ⌝ }
-{
-    byte as usize
-}
 
 pub fn empty() -> Store {
     [0; 321_600]
@@ -55,7 +49,7 @@ pub fn keep(store: &mut Store, number: usize, message: &[u8]) {
 // The message with a number, which is one of the kept.
 fn fetch(number: usize, store: &Store, to: &mut [u8]) -> Length {
     let at = place(number, 200) * ROOM;
-    let n = wide(store[at]) * 256 + wide(store[at + 1]);
+    let n = from_two(store[at], store[at + 1]) as usize;
     text::buffer::put(to, 0, front(behind(store, at + 2), n));
     Length::Count(n)
 }

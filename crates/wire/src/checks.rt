@@ -1,6 +1,7 @@
 // Tests 7 and 9 to 11: verdicts (document 01: marks) and the proofs that they judge.
 use crate::layout::ENTRY;
 use base::big_endian::from_four;
+use base::numbers::larger_byte;
 use base::party::quorum_size;
 use base::party::replica_count;
 use base::refusal::ENTRY_NOT_GENUINE;
@@ -10,7 +11,7 @@ use base::replica_set::ReplicaSet;
 use base::timestamp::Timestamp;
 ghost use mathlib.Core.Path.{_≡_};
 ghost use mathlib.Core.List.{[], _∷_};
-ghost use Prim.Native.Nat.{_+_, _≤_, max};
+ghost use Prim.Native.Nat.{_+_, _≤_};
 ghost use lib.Dec.{leb};
 ghost use lib.ListN.{length, getD};
 ghost use Rattle.base.specs.Timestamp.{number};
@@ -23,12 +24,6 @@ pub enum ProofCheck {
     Refused(u8),
 }
 
-fn larger(a: u8, b: u8) -> u8
-    ensures { λ r. ⌜ r ≡ max a b ⌝ }
-{
-    if a < b { b } else { a }
-}
-
 // Whether no number is above `high`. The largest is looked for, without a way out before the end, so that the compiler takes several
 // numbers at once.
 fn all_up_to(high: u8, numbers: &[u8]) -> bool
@@ -37,7 +32,7 @@ fn all_up_to(high: u8, numbers: &[u8]) -> bool
     let mut most: u8 = 0;
     let mut i = 0;
     while i < numbers.len() {
-        most = larger(most, numbers[i]);
+        most = larger_byte(most, numbers[i]);
         i += 1;
     }
     most <= high

@@ -13,6 +13,7 @@ use crate::message::Span;
 use crate::writer::put_prepared_body;
 use crate::writer::put_written_body;
 use base::bytes::put;
+use base::numbers::difference;
 use base::party::ClientId;
 use base::party::RegisterId;
 use base::party::ReplicaId;
@@ -46,21 +47,11 @@ pub enum Signed {
     Refused(u8),
 }
 
-// How much the first is above the second; 0 if it is below.
-fn excess(a: usize, b: usize) -> usize
-    ensures { λ r. ⌜ r ≡ a - b ⌝ }
-{
-    if a < b {
-        return 0;
-    }
-    a - b
-}
-
 // The number of entries of the proof at a place; 0 if there is none.
 pub(super) fn entry_count(at: Span, head: usize) -> usize
     ensures { λ r. ⌜ (r ≡ entryCount at head) × (r ≤ at .end / 65) ⌝ }
 {
-    excess(excess(at.end, at.start), head) / ENTRY
+    difference(difference(at.end, at.start), head) / ENTRY
 }
 
 // How many signatures a message with these fields has.

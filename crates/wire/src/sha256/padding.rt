@@ -1,5 +1,7 @@
 // The words of a padded message (FIPS 180-4, sections 5.1.1 and 5.2.1), made one by one: the padded message stands nowhere.
 use base::big_endian::from_four;
+use base::numbers::difference;
+use base::numbers::smaller;
 ghost use mathlib.Core.Path.{_≡_};
 ghost use Prim.Native.Nat.{_+_, _-_, _*_, _/_, _%_, _≤_, _<_, min};
 ghost use lib.ListN.{length, take, drop, replicate};
@@ -10,11 +12,7 @@ ghost use Rattle.wire.specs.Sha256.{longestInput, padded, block, blockCo
 fn full_words(length: usize, start: usize) -> usize
     ensures { λ r. ⌜ r ≡ min 16 ((length - start) / 4) ⌝ }
 {
-    if length <= start {
-        return 0;
-    }
-    let n = (length - start) / 4;
-    if n < 16 { n } else { 16 }
+    smaller(16, difference(length, start) / 4)
 }
 
 // The word that starts at `at` of the padded message, of `total` bytes, if the message does not fill it.

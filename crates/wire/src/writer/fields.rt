@@ -4,11 +4,12 @@ use crate::layout::DIGEST;
 use crate::layout::LONGEST_CARD;
 use crate::layout::SIGNATURE;
 use crate::layout::TIMESTAMP;
+use base::numbers::smaller_byte;
 use base::party::RegisterId;
 use base::timestamp::Timestamp;
 ghost use mathlib.Core.Path.{_≡_};
 ghost use mathlib.Core.List.{[], _∷_, _++_};
-ghost use Prim.Native.Nat.{_+_, _≤_, _<_, min};
+ghost use Prim.Native.Nat.{_+_, _≤_, _<_};
 ghost use lib.ListN.{length, take};
 ghost use Rattle.base.specs.BigEndian.{toBytes};
 ghost use Rattle.base.specs.Timestamp.{number};
@@ -34,12 +35,6 @@ pub(super) fn put_byte(out: &mut [u8], at: usize, byte: u8) -> usize
 {
     out[at] = byte;
     at + 1
-}
-
-pub(super) fn at_most(most: u8, count: u8) -> u8
-    ensures { λ r. ⌜ r ≡ min count most ⌝ }
-{
-    if count < most { count } else { most }
 }
 
 // The bit map, the kind and the sender.
@@ -151,7 +146,7 @@ pub(super) fn put_card(out: &mut [u8], at: usize, card: &[u8; CARD_ROOM], card_l
     requires { ⌜ at + 18 ≤ length (now out) ⌝ }
     ensures { λ r. ⌜ Put (now (out .entry)) at (sizedCard (keptCard «card_length» (now (card .entry)))) 18 r (now (out .exit)) ⌝ }
 {
-    let count = at_most(LONGEST_CARD, card_length);
+    let count = smaller_byte(card_length, LONGEST_CARD);
     let behind = put_byte(out, at, count);
     put_bytes(out, behind, card, count as usize)
 }

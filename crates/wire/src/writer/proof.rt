@@ -1,5 +1,4 @@
 // Proofs, as a party keeps them, into a message. A proof whose timestamp is 0.0 is missing.
-use super::fields::at_most;
 use super::fields::put_byte;
 use super::fields::put_bytes;
 use super::fields::put_timestamp;
@@ -8,6 +7,7 @@ use crate::layout::DIGEST;
 use crate::layout::ENTRIES_ROOM;
 use crate::layout::ENTRY;
 use crate::layout::MOST_ENTRIES;
+use base::numbers::smaller_byte;
 use base::timestamp::Timestamp;
 ghost use mathlib.Core.Path.{_≡_};
 ghost use mathlib.Core.Bool.{cond};
@@ -23,7 +23,7 @@ fn put_entries(out: &mut [u8], at: usize, entry_count: u8, entries: &[u8; ENTRIE
     requires { ⌜ at + (1 + entriesRoom) ≤ length (now out) ⌝ }
     ensures { λ r. ⌜ Put (now (out .entry)) at (countedEntries (keptEntries «entry_count» (now (entries .entry)))) (1 + entriesRoom) r (now (out .exit)) ⌝ }
 {
-    let count = at_most(MOST_ENTRIES, entry_count);
+    let count = smaller_byte(entry_count, MOST_ENTRIES);
     let behind = put_byte(out, at, count);
     put_bytes(out, behind, entries, ENTRY * count as usize)
 }

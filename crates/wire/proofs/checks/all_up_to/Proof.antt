@@ -30,7 +30,7 @@ loop-again c =
       l .inv .0
           ∙ ap (λ (r : Bool). leb (l .most) (a .high) && r) (all-step (λ n. leb n (a .high)) s (l .i) (omega arith))
           ∙ up-to-larger (l .most) (getD s (l .i) 0) (a .high) rest
-          ∙ ap (λ (m : ℕ). leb m (a .high) && rest) (sym (c .larger .ensures)),
+          ∙ ap (λ (m : ℕ). leb m (a .high) && rest) (sym (c .larger-byte .ensures)),
       omega arith,
     )
 

@@ -12,7 +12,7 @@ returns c =
     let y = x .before .before .before .before .before in
     let z = y .before .before in
     let a = z .before .before .args in
-    restated 18 (card-kept (z .at-most .result) (a .card-length) (a .card .now) (omega arith) (z .at-most .ensures)) (omega arith) (then (y .put-byte .ensures) (x .put-bytes .ensures))
+    restated 18 (card-kept (z .smaller-byte .result) (a .card-length) (a .card .now) (omega arith) (z .smaller-byte .ensures)) (omega arith) (then (y .put-byte .ensures) (x .put-bytes .ensures))
 
 pub put-card-spec : {M : Type 1} → statement M
 put-card-spec =

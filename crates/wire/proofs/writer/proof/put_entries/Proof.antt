@@ -12,7 +12,7 @@ returns c =
     let y = x .before .before .before .before .before in
     let z = y .before .before in
     let a = z .before .before .args in
-    restated 716 (entries-kept (z .at-most .result) (a .entry-count) (a .entries .now) (omega arith) (z .at-most .ensures)) (omega arith) (then (y .put-byte .ensures) (x .put-bytes .ensures))
+    restated 716 (entries-kept (z .smaller-byte .result) (a .entry-count) (a .entries .now) (omega arith) (z .smaller-byte .ensures)) (omega arith) (then (y .put-byte .ensures) (x .put-bytes .ensures))
 
 pub put-entries-spec : {M : Type 1} → statement M
 put-entries-spec =
