@@ -1,7 +1,11 @@
+pub mod Banks
 pub mod Cutting
+pub mod ForRegister
+pub mod HexBytes
 pub mod Keeping
 pub mod Leaving
 pub mod Lists
+pub mod Logging
 pub mod LongLines
 pub mod Pieces
 pub mod Printing

@@ -1,4 +1,5 @@
 pub mod Calls
+pub mod ForRegister
 pub mod Grammar
 pub mod Log
 pub mod Output

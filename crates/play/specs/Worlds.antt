@@ -1,4 +1,4 @@
--- What the player starts with: four replicas with one register each (`Calls.theRegister`), and four clients.
+-- What the player starts with: four replicas with one register each (`Calls.theRegister`; `ForRegister` has why one is enough), and four clients.
 use mathlib.Core.List.{List, [], _∷_}
 use Prim.Native.Nat.{ℕ, _+_, _%_}
 use lib.ListN.{replicate}

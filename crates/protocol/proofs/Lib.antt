@@ -10,7 +10,9 @@ pub mod ClientKept
 pub mod ClientReplies
 pub mod Examples
 pub mod Fit
+pub mod FreshRecords
 pub mod LastWritten
+pub mod MessageBytes
 pub mod OperationMessages
 pub mod ReplicaFacts
 pub mod Towards

@@ -4,11 +4,11 @@ use mathlib.Core.Path.{_≡_, refl, sym, ap, subst, _∙_}
 use mathlib.Core.Bool.{Bool, true, false, cond}
 use mathlib.Core.List.{List}
 use mathlib.Core.Option.{Option, none, some}
-use Prim.Native.Nat.{ℕ, zero, suc, _+_, _^_, _≤_, _<_}
+use Prim.Native.Nat.{ℕ, zero, suc, _+_, _≤_, _<_}
 use native.Mathlib.Omega.{arith}
 use borrow.Author.Tests.{eqb-true, eqb-false, eq-eqb}
 use lib.Dec.{eqb}
-use lib.ListN.{length, getD, replicate, length-replicate, length-set, getD-replicate}
+use lib.ListN.{length, length-replicate, length-set}
 use Rattle.base.specs.BigEndian.{Bytes}
 use Rattle.base.specs.Outcome.{Outcome, accepted, refused}
 use Rattle.base.specs.Party.{replicaCount, isWriter, registerPlace}
@@ -28,19 +28,18 @@ use Rattle.base.specs.ReplicaSet.{empty}
 use Rattle.base.specs.Timestamp.{start}
 use Rattle.protocol.specs.Parts.{startCard}
 use Rattle.protocol.specs.Bank.{partAt, withPartAt, freshBank, placeIn, bankStep}
-use Rattle.protocol.specs.Client.{Answer, send, Turn, noWritten, freshClient, beginWrite, beginRead, onReply, clientStep}
-use Rattle.protocol.specs.Replica.{Reply, freshRegister, freshReplica, onRequest, replicaStep}
+use Rattle.protocol.specs.Client.{Answer, send, Turn, beginWrite, beginRead, onReply, clientStep}
+use Rattle.protocol.specs.Replica.{Reply, freshRegister, onRequest, replicaStep}
 use Rattle.protocol.specs.Viewer.{onViewerReply, viewerStep}
 use Rattle.protocol.specs.declared.client.Client.{Client}
 use Rattle.protocol.specs.declared.client.Phase.{Phase}
 use Rattle.protocol.specs.declared.client.Phase.the-variants.{Stamps, Cards}
-use Rattle.protocol.specs.declared.client.Written.{Written}
 use Rattle.protocol.specs.declared.replica.Bank.{Bank}
 use Rattle.protocol.specs.declared.replica.Register.{Register}
 use Rattle.protocol.specs.declared.replica.Replica.{Replica}
-use Rattle.protocol.proofs.ArrayLaws.{bytes-zeros, zeros-fit}
 use Rattle.protocol.proofs.BankFacts.{fresh-part, part-elsewhere, part-there}
-use Rattle.protocol.proofs.Fit.{SlotsFit, HeldFits, ReplicaFits, WrittenKeptFits, ClientFits}
+use Rattle.protocol.proofs.Fit.{SlotsFit, HeldFits, ReplicaFits, ClientFits}
+use Rattle.protocol.proofs.FreshRecords.{fresh-replica-fits, fresh-client-fits}
 use Rattle.protocol.proofs.ReplicaFacts.{ReplicaFacts, replica-facts}
 use Rattle.protocol.proofs.ClientCases.{Begun, PhaseFits, ClientFacts}
 use Rattle.protocol.proofs.ClientFacts.{begins-write as begins-write-facts, begins-read as begins-read-facts, client-facts, viewer-facts}
@@ -55,39 +54,6 @@ same-replica a b e = ap (λ (n : ℕ). record { 0 = n }) e
 
 pub same-client : (a b : ClientId) → a .0 ≡ b .0 → a ≡ b
 same-client a b e = ap (λ (n : ℕ). record { 0 = n }) e
-
--- ---- Fresh records fit
-
-fresh-slots-fit : SlotsFit (freshRegister .slots)
-unfolding freshRegister
-fresh-slots-fit = record {
-  counts-long = length-replicate {A = ℕ} 64 0;
-  counts-fit = λ i. zeros 64 i;
-  digests-fit = zeros-fit 2048;
-  written-fits = omega arith;
-}
-  where
-    zeros : (n i : ℕ) → getD (replicate n 0) i 0 < 2 ^ 32
-    zeros n i = let b = bytes-zeros n i in omega arith
-
-fresh-held-fits : HeldFits (freshRegister .held)
-unfolding freshRegister
-fresh-held-fits = record { timestamp-fits = omega arith; card-fits = zeros-fit 17; digest-fits = zeros-fit 32; entries-fit = zeros-fit 715 }
-
-abbrev unwritten : Written
-unwritten = record { timestamp = start; «entry_count» = 0; entries = replicate 715 0 }
-
-fresh-client-fits : (f : ℕ) (id : ClientId) (nonce : ℕ) → id .0 < 256 → nonce < 2 ^ 64 → ClientFits (freshClient f id nonce)
-fresh-client-fits f id nonce low small = record {
-  id-fits = low;
-  nonce-fits = omega arith;
-  card-fits = zeros-fit 17;
-  digest-fits = zeros-fit 32;
-  entries-fit = zeros-fit 715;
-  signatures-fit = zeros-fit 1024;
-  written-long = length-replicate 16 unwritten;
-  written-fit = λ at inside. subst WrittenKeptFits (sym (getD-replicate 16 at unwritten noWritten inside)) (record { timestamp-fits = omega arith; entries-fit = zeros-fit 715 });
-}
 
 -- What a client makes of a message that 2 to 11 let through, with the message's own signature.
 abbrev pub clientTakes : ClientId → Client → List ℕ → Message → Outcome Turn
@@ -201,8 +167,8 @@ module _ (R : Run) where
   fresh-bank : (id : ReplicaId) → R .correct-replica id ≡ true → GoodBank id (freshBank (R .f) id)
   fresh-bank id c =
       let range = correct-replica-range id c in
-      let fits : ReplicaFits (freshReplica (R .f) id) = record { id-fits = omega arith; slots-fit = fresh-slots-fit; held-fits = fresh-held-fits } in
-      record { f-is = refl; id-is = refl; long = length-replicate 16 freshRegister; fit = λ at inside. subst ReplicaFits (sym (fresh-part (R .f) id at inside)) fits }
+      let low : id .0 < 256 = omega arith in
+      record { f-is = refl; id-is = refl; long = length-replicate 16 freshRegister; fit = λ at inside. subst ReplicaFits (sym (fresh-part (R .f) id at inside)) (fresh-replica-fits (R .f) id low) }
 
   pub good-bank : (id : ReplicaId) → R .correct-replica id ≡ true → (t : ℕ) → GoodBank id (bankAt R id t)
   unfolding bankAt

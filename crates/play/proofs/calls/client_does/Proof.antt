@@ -30,8 +30,7 @@ returns-2 c =
     let s = t .before .before in
     let a = s .before .before .before .before .args in
     let out = out-free (a .log) (a .store .now) (s .start .result) (s .start .ensures .0) in
-    let call = ap (λ (old : List ℕ). beginReadCall (a .client) theRegister old) out in
-    client-behind _ _ _ _ _ _ (call ∙ ap (λ (k : Call). clientDoes (a .client) (a .log) (a .store .now) (a .line .now) k) (sym (t .enum-told2 .given .1))) (put-behind (a .log) (a .store .now) (s .start .result) (s .start .ensures .0) _) (client-leaves _ _ _ _ (d .begin-read .ensures))
+    client-behind _ _ _ _ _ _ (ap (beginReadCall (a .client) _) out ∙ ap (λ (k : Call). clientDoes (a .client) (a .log) (a .store .now) (a .line .now) k) (sym (t .enum-told2 .given .1))) (put-behind (a .log) (a .store .now) (s .start .result) (s .start .ensures .0) _) (client-leaves _ _ _ _ (d .begin-read .ensures))
 
 returns-3 : tie.Need-returns-3
 unfolding clientDoes
