@@ -4,7 +4,6 @@ use mathlib.Core.Bool.{true}
 use mathlib.Core.List.{List, []}
 use mathlib.Core.Option.{none, some}
 use Prim.Native.Nat.{ℕ, _≤_}
-use native.Mathlib.Omega.{arith}
 use borrow.Author.Tests.{le-leb}
 use lib.Dec.{leb}
 use lib.ListN.{length}
@@ -16,6 +15,7 @@ use Rattle.base.specs.declared.timestamp.Successor.the-variants.{Next, Missing}
 use Rattle.base.specs.declared.replica_set.ReplicaSet.{ReplicaSet}
 use Rattle.base.specs.declared.timestamp.Timestamp.{Timestamp}
 use Rattle.base.proofs.Outcome.{guard-passes}
+use Rattle.base.proofs.Apart.{apart}
 use Rattle.wire.specs.Message.{Message, longest}
 use Rattle.wire.specs.Writing.{Wrote, unsigned, encodedOutcome, inFront}
 use Rattle.wire.specs.declared.writer.Encoded.{Encoded}
@@ -44,7 +44,7 @@ module _ (old new : List ℕ) (message : Message) (enough : longest ≤ length o
     where
       go : (e : Encoded) → encodedOutcome e ≡ accepted (length bytes) → e ≡ Length (length bytes)
       go (Length n) h = cc
-      go (Refused number) h = let z : _≡_ {A = ℕ} 0 1 = cc in absurd (omega arith)
+      go (Refused number) h = apart (cc)
 
   pub sends : (encoded : Encoded) (stepped : Stepped) (next : Client) → Wrote old (unsigned (next .register) message) encoded new → stepped ≡ sentAs encoded next
       → callOf stepped new ≡ leaving next (given (next .register) old (accepted (send message)))

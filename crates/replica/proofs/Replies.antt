@@ -16,6 +16,7 @@ use Rattle.base.specs.declared.timestamp.Successor.the-variants.{Next, Missing}
 use Rattle.base.specs.declared.timestamp.Timestamp.{Timestamp}
 use Rattle.base.proofs.Outcome.{guard-passes}
 use Rattle.base.proofs.Timestamps.{ofNumber-number}
+use Rattle.base.proofs.Apart.{apart}
 use Rattle.wire.specs.Card.{standsUnder}
 use Rattle.wire.specs.Message.{Message, PREPARED, WRITTEN, longest}
 use Rattle.wire.specs.Proof.{PreparedProof}
@@ -33,7 +34,7 @@ use Rattle.replica.proofs.Slots.{admitted, not-admitted}
 
 answer-sends : (answer : ReplicaAnswer) (n : ℕ) → answerOutcome answer ≡ accepted n → answer ≡ Send n
 answer-sends (Send m) n e = cc
-answer-sends (Refused number) n e = let z : _≡_ {A = ℕ} 0 1 = cc in absurd (omega arith)
+answer-sends (Refused number) n e = apart (cc)
 
 -- A message that was written, for some register, into an output that is long enough.
 pub sends : (register : RegisterId) (replica : Replica) (old new : List ℕ) (outcome : Outcome Reply) (message : Message) (next : Replica) (encoded : Encoded) (stepped : Stepped)

@@ -16,6 +16,7 @@ use Rattle.base.specs.declared.timestamp.Timestamp.{Timestamp}
 use Rattle.base.proofs.Booleans.{and-true-both}
 use Rattle.base.proofs.Same.{same-equal}
 use Rattle.base.proofs.Timestamps.{ofNumber-number}
+use Rattle.base.proofs.Apart.{apart}
 use Rattle.protocol.specs.Replica.{slotCount, slotDigest, slotTimestamp, slotIs, slotTakes, withSlot, withWritten}
 use Rattle.protocol.specs.declared.replica.Slots.{Slots}
 use Rattle.replica.specs.Prepares.{preparedWith}
@@ -50,7 +51,7 @@ module _ (client : ClientId) (timestamp : ℕ) (digest : List ℕ) (slots : Slot
     not-admitted e = go (slotIs client timestamp digest slots) refl
       where
         go : (is : Bool) → slotIs client timestamp digest slots ≡ is → preparedWith client timestamp digest written slots ≡ refused 15
-        go true h = let z : true ≡ false = rw h at e in let y : _≡_ {A = ℕ} 0 1 = cc in absurd (omega arith)
+        go true h = let z : true ≡ false = rw h at e in apart (cc)
         go false h = rw (h, rw h at e)
 
     -- A PREPARE again, with no later written proof, leaves the slots as they are.

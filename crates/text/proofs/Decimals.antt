@@ -10,6 +10,7 @@ use borrow.Author.Tests.{lt-ltb, le-ltb}
 use lib.Dec.{ltb}
 use lib.ListN.{length}
 use Rattle.base.specs.Range.{within}
+use Rattle.base.proofs.Apart.{apart}
 use Rattle.text.specs.Decimal.{digitsWithin, decimal, withDigits, numeral}
 
 -- One digit more is not used by a number that has fewer.
@@ -50,7 +51,7 @@ module _ (n byte : ℕ) (bytes : List ℕ) where
   none-further first = go (within 48 57 byte && ltb (n * 10 + (byte - 48)) (2 ^ 64)) first
     where
       go : (b : Bool) → none ≡ cond b (some (n * 10 + (byte - 48))) none → cond b (withDigits (n * 10 + (byte - 48)) bytes) none ≡ none
-      go true e = let z : _≡_ {A = ℕ} 0 1 = cc in absurd (omega arith)
+      go true e = apart (cc)
       go false e = refl
 
   pub further : (m : ℕ) → some m ≡ withDigits n (byte ∷ []) → withDigits n (byte ∷ bytes) ≡ withDigits m bytes
@@ -59,7 +60,7 @@ module _ (n byte : ℕ) (bytes : List ℕ) where
     where
       go : (b : Bool) → some m ≡ cond b (some (n * 10 + (byte - 48))) none → cond b (withDigits (n * 10 + (byte - 48)) bytes) none ≡ withDigits m bytes
       go true e = let same : n * 10 + (byte - 48) ≡ m = cc in rw same
-      go false e = let z : _≡_ {A = ℕ} 0 1 = cc in absurd (omega arith)
+      go false e = apart (cc)
 
 pub some-digits : (word : List ℕ) → 0 < length word → numeral word ≡ withDigits 0 word
 some-digits [] h = absurd (omega arith)

@@ -3,7 +3,6 @@ use mathlib.Core.Path.{_≡_, refl, sym, _∙_}
 use mathlib.Core.Bool.{true, _&&_}
 use mathlib.Core.List.{List}
 use Prim.Native.Nat.{ℕ}
-use native.Mathlib.Omega.{arith}
 use borrow.Author.Tests.{eqb-true}
 use lib.Dec.{eqb, leb}
 use lib.ListN.{length, drop}
@@ -13,6 +12,7 @@ use Rattle.base.specs.declared.party.RegisterId.{RegisterId}
 use Rattle.base.specs.declared.replica_set.ReplicaSet.{ReplicaSet}
 use Rattle.base.proofs.Booleans.{and-true-both}
 use Rattle.base.proofs.Outcome.{guard-accepted, guard-then, guard-alike}
+use Rattle.base.proofs.Apart.{apart}
 use Rattle.wire.specs.Acceptance.{senderOf, inItsRange, maySend, admits, admitted, foundIn, acceptance}
 use Rattle.wire.specs.Accepting.{opening, opened, signatureCount, Ready, Judges}
 use Rattle.wire.specs.Checks.{preparedOf, oneEach, ownGenuine, all, proven, checked}
@@ -30,7 +30,7 @@ use Rattle.wire.proofs.Parsed.{parsed, message-reads}
 use Rattle.wire.proofs.Proven.{proven-then}
 
 no-both : {A : Type 0} (a : A) (n : ℕ) → accepted a ≡ refused n → ⊥
-no-both a n e = let z : _≡_ {A = ℕ} 0 1 = cc in omega arith
+no-both a n e = apart (cc)
 
 -- 2 to 8 passed.
 pub record Opened (party : Party) (f : ℕ) (bytes verdicts : List ℕ) (fields : Fields) : Type 1 where

@@ -3,12 +3,12 @@ use mathlib.Core.Path.{_≡_, refl, sym, ap, subst, _∙_}
 use mathlib.Core.Bool.{true}
 use mathlib.Core.List.{List}
 use Prim.Native.Nat.{ℕ}
-use native.Mathlib.Omega.{arith}
 use Rattle.base.specs.Outcome.{Outcome, accepted, refused, guard, _>>=_}
 use Rattle.base.specs.Party.{isRegister}
 use Rattle.base.specs.declared.party.RegisterId.{RegisterId}
 use Rattle.base.specs.declared.replica_set.ReplicaSet.{ReplicaSet}
 use Rattle.base.proofs.Outcome.{guard-accepted, guard-passes}
+use Rattle.base.proofs.Apart.{apart}
 use Rattle.wire.specs.Acceptance.{senderOf, inItsRange, maySend, admits, admitted, foundIn, acceptance}
 use Rattle.wire.specs.Checks.{preparedOf, checked}
 use Rattle.wire.specs.Decode.{forRegister, decode, registerIn, reading, fieldsIn}
@@ -44,7 +44,7 @@ module _ (party : Party) (f : ℕ) (bytes verdicts : List ℕ) where
     where
       go : (o : Outcome (RegisterId × Message)) → decode party bytes ≡ o → (o >>= admits f verdicts) ≡ accepted (forRegister register message)
           → Admitted party f bytes verdicts register message
-      go (refused n) d e = let z : _≡_ {A = ℕ} 0 1 = cc in absurd (omega arith)
+      go (refused n) d e = apart (cc)
       go (accepted (x, m)) d e =
           let behind = checked f m verdicts (accepted (forRegister x m)) in
           let pair = forRegister register message in
@@ -65,7 +65,7 @@ module _ (party : Party) (f : ℕ) (bytes verdicts : List ℕ) where
       go : (o : Outcome (RegisterId × Message)) → admitted party f bytes verdicts ≡ o → (o >>= next) ≡ accepted a
           → (register : RegisterId) × (message : Message) × Admitted party f bytes verdicts register message × (next (forRegister register message) ≡ accepted a)
       go (accepted (x, m)) d e = (x, m, admitted-passed x m d, e)
-      go (refused n) d e = let z : _≡_ {A = ℕ} 0 1 = cc in absurd (omega arith)
+      go (refused n) d e = apart (cc)
 
   -- What the code accepts or refuses is admitted or refused.
   pub acceptance-accepted : (fields : Fields) (signers : ReplicaSet) → acceptance party f bytes verdicts ≡ accepted (fields, signers)
@@ -80,12 +80,12 @@ module _ (party : Party) (f : ℕ) (bytes verdicts : List ℕ) where
           let read : accepted (fieldsIn bytes) ≡ accepted fields = ap (λ (pair : Fields × ReplicaSet). accepted (pair .0)) both in
           let split = decode-splits party bytes x m (admitted-passed x m d .decodes) in
           (m, d ∙ ap (λ (y : RegisterId). accepted (forRegister y m)) (sym (split .0)), message-reads party bytes m (split .1) ∙ read, ap (λ (pair : Fields × ReplicaSet). pair .1) (sym both))
-      go (refused n) d e = let z : _≡_ {A = ℕ} 0 1 = cc in absurd (omega arith)
+      go (refused n) d e = apart (cc)
 
   pub acceptance-refused : (n : ℕ) → acceptance party f bytes verdicts ≡ refused n → admitted party f bytes verdicts ≡ refused n
   unfolding acceptance
   acceptance-refused n e = go (admitted party f bytes verdicts) e
     where
       go : (o : Outcome (RegisterId × Message)) → (o >>= λ sent. accepted (foundIn bytes sent)) ≡ refused n → o ≡ refused n
-      go (accepted sent) e = let z : _≡_ {A = ℕ} 0 1 = cc in absurd (omega arith)
+      go (accepted sent) e = apart (cc)
       go (refused k) e = cc

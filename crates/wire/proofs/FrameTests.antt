@@ -13,6 +13,7 @@ use Rattle.base.specs.Outcome.{Outcome, accepted, refused, guard}
 use Rattle.base.specs.Range.{within}
 use Rattle.base.proofs.Outcome.{guard-passes, guard-refuses}
 use Rattle.base.proofs.Range.{inside, below, above}
+use Rattle.base.proofs.Apart.{apart}
 use Rattle.wire.specs.Decode.{framed, goodMap}
 use Rattle.wire.specs.Layout.{mapIn, place}
 use Rattle.wire.specs.Message.{longest}
@@ -72,7 +73,7 @@ module _ {A : Type 0} (s : List ℕ) (next : Outcome A) where
 guards-refused : {A B : Type 0} (t2 t3 t4 : Bool) (x : A) (next : Outcome B) (n : ℕ)
     → guard 2 t2 (guard 3 t3 (guard 4 t4 (accepted x))) ≡ refused n → guard 2 t2 (guard 3 t3 (guard 4 t4 next)) ≡ refused n
 unfolding guard
-guards-refused true true true x next n e = let z : _≡_ {A = ℕ} 0 1 = cc in absurd (omega arith)
+guards-refused true true true x next n e = apart (cc)
 guards-refused true true false x next n e = let same : _≡_ {A = ℕ} 4 n = cc in rw same
 guards-refused true false t4 x next n e = let same : _≡_ {A = ℕ} 3 n = cc in rw same
 guards-refused false t3 t4 x next n e = let same : _≡_ {A = ℕ} 2 n = cc in rw same

@@ -15,6 +15,7 @@ use Rattle.base.specs.Timestamp.{number}
 use Rattle.base.specs.declared.party.RegisterId.{RegisterId}
 use Rattle.base.proofs.Timestamps.{number-ofNumber}
 use Rattle.base.proofs.Outcome.{guard-alike}
+use Rattle.base.proofs.Apart.{apart}
 use Rattle.wire.specs.Decode.{Kind, kinds, suits, ofKind, goodMap, framed, tested, messageIn, forRegister, decode, registerIn, reading, fieldsIn, kindIn, clientIn, replicaIn, nonceIn, timestampIn, digestIn, cardIn, addressedIn, optional, proofIn}
 use Rattle.wire.specs.Layout.{rules, mapIn, place, field}
 use Rattle.wire.specs.Message.{Message, READ-STAMP, PREPARE, WRITE, READ, STAMP, PREPARED, WRITTEN, CARD, longest}
@@ -209,7 +210,7 @@ module _ {A B : Type 0} (n : ℕ) where
       go : (ofKind party map number rows (λ row. accepted a) ≡ refused n → ofKind party map number rows next ≡ refused n) → (t : Bool)
           → cond t (guard 5 (suits party map r) (accepted a)) (ofKind party map number rows (λ row. accepted a)) ≡ refused n
           → cond t (guard 5 (suits party map r) (next r)) (ofKind party map number rows next) ≡ refused n
-      go ih true e = guard-alike n 5 (suits party map r) (accepted a) (next r) (λ z. let zero-one : _≡_ {A = ℕ} 0 1 = cc in absurd (omega arith)) e
+      go ih true e = guard-alike n 5 (suits party map r) (accepted a) (next r) (λ z. apart (cc)) e
       go ih false e = ih e
 
   tested-alike : (party : Party) (bytes : List ℕ) (a : A) (next : Kind → Outcome B) → tested party bytes (λ row. accepted a) ≡ refused n → tested party bytes next ≡ refused n
@@ -248,7 +249,7 @@ module _ (party : Party) (bytes : List ℕ) where
     where
       go : (o : Outcome Message) → messageIn party bytes ≡ o → (o >>= λ m. accepted (forRegister (registerIn bytes) m)) ≡ accepted (forRegister x m)
           → (registerIn bytes ≡ x) × (messageIn party bytes ≡ accepted m)
-      go (refused n) d e = let z : _≡_ {A = ℕ} 0 1 = cc in absurd (omega arith)
+      go (refused n) d e = apart (cc)
       go (accepted m′) d e =
           let both : forRegister (registerIn bytes) m′ ≡ forRegister x m = cc in
           (ap (λ (pair : RegisterId × Message). pair .0) both, d ∙ ap (λ (pair : RegisterId × Message). accepted (pair .1)) both)

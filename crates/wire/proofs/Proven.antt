@@ -11,6 +11,7 @@ use Rattle.base.specs.Outcome.{Outcome, accepted, refused, guard, _>>=_}
 use Rattle.base.specs.ReplicaSet.{empty}
 use Rattle.base.specs.declared.replica_set.ReplicaSet.{ReplicaSet}
 use Rattle.base.proofs.Outcome.{guard-passes, guard-refuses, guard-accepted}
+use Rattle.base.proofs.Apart.{apart}
 use Rattle.wire.specs.Checks.{preparedOf, writtenOf, timestampOf, ifThere, all, shaped, shapedIfThere, genuine, issued, issuedIfThere, proven, proofOutcome}
 use Rattle.wire.specs.Judging.{shapedSigners, smallest, outcomeIfThere}
 use Rattle.wire.specs.Message.{Message}
@@ -30,7 +31,7 @@ module _ (f : ℕ) (entries : List Entry) (verdicts : List ℕ) (timestamp : ℕ
   shape-refused n e = go (shaped f entries) e
     where
       go : (b : Bool) → guard 9 b (accepted (signerSet entries)) ≡ refused n → guard 9 b (guard 10 (genuine verdicts) (guard 11 (issued timestamp) (accepted (signerSet entries)))) ≡ refused 9
-      go true k = let p = guard-passes 9 true (accepted (signerSet entries)) refl in let z : _≡_ {A = ℕ} 0 1 = cc in absurd (omega arith)
+      go true k = let p = guard-passes 9 true (accepted (signerSet entries)) refl in apart (cc)
       go false k = guard-refuses 9 false _ refl
 
 -- No refusal below a number.

@@ -15,13 +15,14 @@ use Rattle.base.specs.Outcome.{Outcome, accepted, refused, guard}
 use Rattle.base.specs.declared.party.RegisterId.{RegisterId}
 use Rattle.base.proofs.Booleans.{and-true-both}
 use Rattle.base.proofs.Outcome.{guard-passes, guard-accepted}
+use Rattle.base.proofs.Apart.{apart}
 use Rattle.wire.specs.Decode.{Kind, kinds, ofKind, sameParty, suits, mapWith, without, goodMap, takerOf}
 use Rattle.wire.specs.Message.{Message, READ-STAMP, PREPARE, WRITE, READ, STAMP, PREPARED, WRITTEN, CARD, kindOf, fields}
 use Rattle.wire.specs.declared.message.Party.{Party}
 use Rattle.wire.specs.declared.message.Party.the-variants.{Replica, Client}
 
 no-true : {A : Type 0} → _≡_ {A = Bool} false true → A
-no-true e = let z : _≡_ {A = ℕ} 0 1 = cc in absurd (omega arith)
+no-true e = apart (cc)
 
 -- The row of a kind.
 abbrev noRow : Kind
@@ -133,7 +134,7 @@ module _ (party : Party) (map number : ℕ) where
 
   among : {A : Type 0} (rows : List Kind) (next : Kind → Outcome A) (a : A) → ofKind party map number rows next ≡ accepted a → Among rows
   unfolding ofKind
-  among [] next a e = let z : _≡_ {A = ℕ} 0 1 = cc in absurd (omega arith)
+  among [] next a e = apart (cc)
   among (r ∷ rows) next a e = go (among rows next a) (eqb number (r .number)) refl e
     where
       go : (ofKind party map number rows next ≡ accepted a → Among rows) → (t : Bool) → eqb number (r .number) ≡ t

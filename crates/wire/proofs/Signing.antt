@@ -17,6 +17,7 @@ use Rattle.base.specs.declared.party.RegisterId.{RegisterId}
 use Rattle.base.specs.declared.party.ReplicaId.{ReplicaId}
 use Rattle.base.proofs.Filling.{filled-whole}
 use Rattle.base.proofs.Timestamps.{number-ofNumber}
+use Rattle.base.proofs.Apart.{apart}
 use Rattle.wire.specs.Acceptance.{Sender, replica, numbered}
 use Rattle.wire.specs.Accepting.{countIn}
 use Rattle.wire.specs.Checks.{preparedOf, writtenOf, entriesIfThere, entriesOf}
@@ -249,5 +250,5 @@ covered-inside (accepted (some signature)) {old} {signer} {covered} {new} a same
     let all : covered ≡ length (signature .covers) = ap (λ (p : Sender × ℕ). p .1) short in
     let size : length new ≡ length (signature .covers) + length (drop (length (signature .covers)) old) = ap length (a .holds) ∙ length-append (signature .covers) (drop (length (signature .covers)) old) in
     omega arith
-covered-inside (accepted none) a same = let z : _≡_ {A = ℕ} 0 1 = cc (a .answered) in absurd (omega arith)
-covered-inside (refused n) a same = let z : _≡_ {A = ℕ} 0 1 = cc (a .answered) in absurd (omega arith)
+covered-inside (accepted none) a same = apart (cc (a .answered))
+covered-inside (refused n) a same = apart (cc (a .answered))

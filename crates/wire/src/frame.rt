@@ -7,6 +7,7 @@ use crate::layout::PREPARED_HEAD;
 use crate::layout::SIGNATURE;
 use crate::layout::TIMESTAMP;
 use crate::layout::WRITTEN_HEAD;
+use base::numbers::wide;
 use base::refusal::BIT_MAP;
 use base::refusal::FIELD_LENGTHS;
 use base::refusal::MESSAGE_LENGTH;
@@ -42,12 +43,6 @@ pub enum Framing {
 enum Taken {
     Next(usize),
     Cut,
-}
-
-fn wide(byte: u8) -> usize
-    ensures { λ r. ⌜ r ≡ byte ⌝ }
-{
-    byte as usize
 }
 
 // A field whose head ends with the number of units that follow it.

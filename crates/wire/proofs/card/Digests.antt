@@ -11,6 +11,7 @@ use Rattle.base.specs.Outcome.{accepted}
 use Rattle.base.specs.Same.{same}
 use Rattle.base.proofs.Booleans.{and-true-both}
 use Rattle.base.proofs.Outcome.{guard-passes, guard-refuses}
+use Rattle.base.proofs.Apart.{apart}
 use Rattle.wire.specs.Card.{Fields, readCard, isSome, isCard, checkCard, cardOutcome, standsUnder}
 use Rattle.wire.specs.Sha256.{sha256, answer, digestOf, longestInput}
 use Rattle.wire.specs.declared.card.CardCheck.{CardCheck}
@@ -23,20 +24,20 @@ module _ (card : List ℕ) (check : CardCheck) (e : cardOutcome check ≡ checkC
     where
       go : (b : Bool) → isCard card ≡ b → b ≡ true
       go true h = refl
-      go false h = let p = guard-refuses {A = Unit {0}} 14 (isCard card) (accepted tt) h in let z : _≡_ {A = ℕ} 0 1 = cc (ap cardOutcome g) in absurd (omega arith)
+      go false h = let p = guard-refuses {A = Unit {0}} 14 (isCard card) (accepted tt) h in apart (cc (ap cardOutcome g))
 
   pub checked-refused : (number : ℕ) → check ≡ Refused number → isCard card ≡ false
   checked-refused number g = go (isCard card) refl
     where
       go : (b : Bool) → isCard card ≡ b → b ≡ false
-      go true h = let p = guard-passes {A = Unit {0}} 14 (isCard card) (accepted tt) h in let z : _≡_ {A = ℕ} 0 1 = cc (ap cardOutcome g) in absurd (omega arith)
+      go true h = let p = guard-passes {A = Unit {0}} 14 (isCard card) (accepted tt) h in apart (cc (ap cardOutcome g))
       go false h = refl
 
 pub card-short : (card : List ℕ) → isCard card ≡ true → length card ≤ 17
 card-short card h = go (readCard card) refl
   where
     go : (fields : Option Fields) → readCard card ≡ fields → length card ≤ 17
-    go none e = let z : _≡_ {A = ℕ} 0 1 = cc (ap isSome e) in absurd (omega arith)
+    go none e = apart (cc (ap isSome e))
     go (some fields) e = at-most-17 card fields e
 
 pub standing-under-short : (card digest : List ℕ) → standsUnder card digest ≡ true → length card ≤ 17

@@ -14,6 +14,7 @@ use Rattle.base.specs.Outcome.{accepted, guard}
 use Rattle.base.specs.Range.{within}
 use Rattle.base.proofs.Booleans.{and-true-both}
 use Rattle.base.specs.BitMap.{mapOf}
+use Rattle.base.proofs.Apart.{apart}
 use Rattle.wire.specs.declared.card.Row.{Row}
 use Rattle.wire.specs.Card.{table, Fields, prepend, prependPresent, standing, readFields, goodCardMap, readCard, isSome, cardOutcome, readAnswer}
 
@@ -43,7 +44,7 @@ module _ (row : Row) (bytes : List ℕ) where
           let both = and-true-both (leb (row .width) (length bytes)) (within (row .least) (row .greatest) number) t in
           let same : number ≡ value = cc in
           (leb-true (row .width) (length bytes) (both .0), same, rw same at (both .1))
-      go false t k = let z : _≡_ {A = ℕ} 0 1 = cc in absurd (omega arith)
+      go false t k = apart (cc)
 
 module _ (row : Row) (rows : List Row) (map : ℕ) (bytes : List ℕ) where
   pub field-missing : (map % 2 ≡ 1 → ⊥) → readFields (row ∷ rows) map bytes ≡ prepend none (readFields rows (map / 2) bytes)
@@ -64,7 +65,7 @@ pub data ReadAs : List Row → ℕ → List ℕ → Fields → Type 0 where
 
 -- A field in front was put before what was read behind it.
 prepended : (field : Option ℕ) (later : Option Fields) (fields : Fields) → prepend field later ≡ some fields → (rest : Fields) × (later ≡ some rest) × (field ∷ rest ≡ fields)
-prepended field none fields e = let z : _≡_ {A = ℕ} 0 1 = cc in absurd (omega arith)
+prepended field none fields e = apart (cc)
 prepended field (some rest) fields e = (rest, refl, (cc))
 
 -- One row of `read-as`, from what is known of the later rows.
@@ -79,7 +80,7 @@ module _ (row : Row) (rows : List Row) (map : ℕ) (bytes : List ℕ) (fields : 
   read-present odd e = go (standing row bytes) refl (sym (field-present row rows map bytes odd) ∙ e)
     where
       go : (o : Option ℕ) → standing row bytes ≡ o → prependPresent o (readFields rows (map / 2) (drop (row .width) bytes)) ≡ some fields → ReadAs (row ∷ rows) map bytes fields
-      go none s k = let z : _≡_ {A = ℕ} 0 1 = cc in absurd (omega arith)
+      go none s k = apart (cc)
       go (some value) s k =
           let p = prepended (some value) (readFields rows (map / 2) (drop (row .width) bytes)) fields k in
           rw (← p .2) (present odd s (later (drop (row .width) bytes) (p .0) (p .1)))
@@ -94,7 +95,7 @@ module _ (row : Row) (rows : List Row) (map : ℕ) (bytes : List ℕ) (fields : 
 pub read-as : (rows : List Row) (map : ℕ) (bytes : List ℕ) (fields : Fields) → readFields rows map bytes ≡ some fields → ReadAs rows map bytes fields
 unfolding readFields
 read-as [] map [] fields e = let same : [] ≡ fields = cc in rw (← same) ended
-read-as [] map (b ∷ bytes) fields e = let z : _≡_ {A = ℕ} 0 1 = cc in absurd (omega arith)
+read-as [] map (b ∷ bytes) fields e = apart (cc)
 read-as (row ∷ rows) map bytes fields e = read-row row rows map bytes fields (λ b f k. read-as rows (map / 2) b f k) e
 
 -- The map is told by the fields.

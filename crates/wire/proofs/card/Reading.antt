@@ -7,6 +7,7 @@ use native.Mathlib.Numerals.{add-one}
 use native.Mathlib.Omega.{arith}
 use lib.ListN.{length, getD, take, drop, set, replicate, length-set, length-drop, drop-of-length-le}
 use lib.Seq.{drop-cons, take-suc, take-suc-set, take-all, getD-set-other, drop-drop}
+use Rattle.base.proofs.Apart.{apart}
 use Rattle.wire.specs.declared.card.Row.{Row}
 use Rattle.wire.specs.declared.card.CardCheck.the-variants.{Good}
 use Rattle.wire.specs.Card.{row, table, Fields, prepend, prependPresent, standing, readFields, valueOf, valuesOf, readAnswer}
@@ -24,7 +25,7 @@ one-more earlier field (some fields) = simp append-assoc
 
 none-after : (earlier : List ℕ) (fields : Option Fields) → valuesAfter earlier fields ≡ none → fields ≡ none
 none-after earlier none e = refl
-none-after earlier (some fields) e = let z : _≡_ {A = ℕ} 0 1 = cc in absurd (omega arith)
+none-after earlier (some fields) e = apart (cc)
 
 row-at : (bit : ℕ) → bit < 7 → drop bit table ≡ getD table bit (row 0 0 0) ∷ drop (bit + 1) table
 unfolding table
@@ -115,7 +116,7 @@ module _ {card : List ℕ} {map : ℕ} {values : List ℕ} {at rest bit : ℕ} (
 
       go : (o : Option Fields) → readFields table map (drop 2 card) ≡ o → valuesAfter [] o ≡ some values
           → readAnswer o ≡ record { check = Good; fields = record { map = map; values = values } }
-      go none e k = let z : _≡_ {A = ℕ} 0 1 = cc in absurd (omega arith)
+      go none e k = apart (cc)
       go (some fields) e k =
           let same : valuesOf fields ≡ values = cc in
           rw (same, mapped (read-as table map (drop 2 card) fields e) small)

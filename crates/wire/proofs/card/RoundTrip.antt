@@ -15,6 +15,7 @@ use Rattle.base.proofs.BigEndian.{length-toBytes, fromBytes-toBytes, toBytes-fr
 use Rattle.base.proofs.Booleans.{and-true-both}
 use Rattle.base.proofs.Range.{bounds}
 use Rattle.base.specs.BitMap.{mapOf}
+use Rattle.base.proofs.Apart.{apart}
 use Rattle.wire.specs.declared.card.Row.{Row}
 use Rattle.wire.specs.Card.{table, Fields, standing, readFields, goodCardMap, readCard, writeFields, writeCard, inRange, legalFields, fieldsRecord, fieldsOf, cardRead}
 use Rattle.wire.proofs.card.Parsed.{ReadAs, ended, missing, present, read-as, mapped, stood, stands, field-missing, field-present, good-small, with-good-map}
@@ -56,8 +57,8 @@ module _ (row : Row) (rows : List Row) (fields : Fields) (later : readFields row
 fields-written : (rows : List Row) (fields : Fields) → Fitting rows → inRange rows fields ≡ true → readFields rows (mapOf fields) (writeFields rows fields) ≡ some fields
 unfolding readFields writeFields inRange
 fields-written [] [] fit legal = refl
-fields-written [] (field ∷ fields) fit legal = let z : _≡_ {A = ℕ} 0 1 = cc in absurd (omega arith)
-fields-written (row ∷ rows) [] fit legal = let z : _≡_ {A = ℕ} 0 1 = cc in absurd (omega arith)
+fields-written [] (field ∷ fields) fit legal = apart (cc)
+fields-written (row ∷ rows) [] fit legal = apart (cc)
 fields-written (row ∷ rows) (none ∷ fields) fit legal = written-missing row rows fields (fields-written rows fields (fit .1) legal)
 fields-written (row ∷ rows) (some value ∷ fields) fit legal =
     let both = and-true-both (within (row .least) (row .greatest) value) (inRange rows fields) legal in
@@ -113,7 +114,7 @@ good-card card fields e = go (leb 2 (length card) && goodCardMap map) refl e
         let both = and-true-both (leb 2 (length card)) (goodCardMap map) t in
         let r = read-as table map (drop 2 card) fields k in
         record { whole = leb-true 2 (length card) (both .0); good = both .1; map-is = mapped r (good-small map (both .1)); behind = r }
-    go false t k = let z : _≡_ {A = ℕ} 0 1 = cc in absurd (omega arith)
+    go false t k = apart (cc)
 
 -- Reading then writing returns the bytes, so that a card has one byte form.
 pub write-read : (card : List ℕ) (fields : Fields) → Bytes card → readCard card ≡ some fields → writeCard fields ≡ card
