@@ -295,7 +295,7 @@ fn every_reply(awaited: u8) -> Script {
     script
 }
 
-/// What every comparison begins with. The replies are a script for each register: `scripts` takes 1 MiB of one.
+/// What every comparison begins with. The replies are a script for each register: `script_player` takes 1 MiB of one.
 pub fn fixed(random: &mut Random) -> Vec<Script> {
     let mut scripts = vec![every_sender(random), every_register(random)];
     scripts.extend(REGISTERS.map(every_reply));

@@ -15,9 +15,9 @@ use denote.Array.{Array}
 use borrow.Struct.Way.{Cut}
 use borrow.Struct.Behind.{put-at}
 use borrow.Struct.Items.{cut-records}
-use Rattle.protocol.specs.Bank.{withPartAt}
+use Rattle.protocol.specs.Bank.{withBankPart}
 use Rattle.protocol.specs.declared.replica.Bank.{Bank}
-use Rattle.protocol.specs.declared.replica.Replica.{Replica}
+use Rattle.protocol.specs.declared.replica.RegisterReplica.{RegisterReplica}
 use Rattle.protocol.proofs.replica.Bank as B
 use Rattle.protocol.proofs.replica.Bank.Laws as B′
 use Rattle.protocol.proofs.replica.Register as G
@@ -31,6 +31,6 @@ size-fits = omega arith
 
 -- The array of registers in a bank in memory, with another part's register at a place.
 module _ {M : Type 1} (𝓤 : URA M) (H : Heap 𝓤) (A : Atoms 𝓤) (W : Given 𝓤 H A) (bank : Bank) (b o : ℕ) where
-  pub bank-put : (i : ℕ) (part : Replica) → Cut 𝓤 H A fullShare B.the-row (Array G.the-row 16) 4 bank (withPartAt i part bank) (bank .registers) (set (bank .registers) i (part .register)) (b, o)
-  bank-put i part = cut-records 𝓤 H A fullShare B.the-row G.the-type 16 4 bank (withPartAt i part bank) (bank .registers) (set (bank .registers) i (part .register)) (b, o)
-      (put-at 𝓤 H A W fullShare B.the-type B′.the-laws 2 4 refl refl (b, o) bank (withPartAt i part bank) (B.struct .as-values bank) (set (bank .registers) i (part .register)) refl refl)
+  pub bank-put : (i : ℕ) (part : RegisterReplica) → Cut 𝓤 H A fullShare B.the-row (Array G.the-row 16) 4 bank (withBankPart i part bank) (bank .registers) (set (bank .registers) i (part .register)) (b, o)
+  bank-put i part = cut-records 𝓤 H A fullShare B.the-row G.the-type 16 4 bank (withBankPart i part bank) (bank .registers) (set (bank .registers) i (part .register)) (b, o)
+      (put-at 𝓤 H A W fullShare B.the-type B′.the-laws 2 4 refl refl (b, o) bank (withBankPart i part bank) (B.struct .as-values bank) (set (bank .registers) i (part .register)) refl refl)

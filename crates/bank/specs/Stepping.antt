@@ -4,7 +4,7 @@ use mathlib.Core.List.{List}
 use Prim.Native.Nat.{ℕ}
 use Rattle.wire.specs.Decode.{registerIn}
 use Rattle.protocol.specs.Bank.{bankStep, bankCall}
-use Rattle.protocol.specs.Replica.{answerOutcome, sentLength, withOutput}
+use Rattle.protocol.specs.RegisterReplica.{answerOutcome, sentLength, withOutput}
 use Rattle.protocol.specs.declared.replica.Bank.{Bank}
 use Rattle.protocol.specs.declared.replica.ReplicaAnswer.{ReplicaAnswer}
 

@@ -7,16 +7,16 @@ use base::party::Setup;
 use base::party::register_place;
 use base::party::replica_setup;
 use protocol::replica::Bank;
-use protocol::replica::Replica;
+use protocol::replica::RegisterReplica;
 use protocol::replica::ReplicaAnswer;
-use replica::fresh_register;
-use replica::register_in_place;
+use register_replica::fresh_register;
+use register_replica::register_in_place;
 use wire::parts::last_register;
 ghost use mathlib.Core.Path.{_≡_};
 ghost use Prim.Native.Nat.{_<_};
 ghost use Rattle.base.specs.Party.{registerPlace, replicaSetup, setupOutcome};
 ghost use Rattle.wire.specs.Parts.{lastRegister};
-ghost use Rattle.protocol.specs.Bank.{partAt, withPartAt, freshBank, madeBank};
+ghost use Rattle.protocol.specs.Bank.{bankPart, withBankPart, freshBank, madeBank};
 ghost use Rattle.bank.specs.Stepping.{BankSteps};
 
 // A replica as it is set up. Where that is refused its record is a fresh one of replica 0, for f = 0.
@@ -69,12 +69,12 @@ fn place_of(message: &[u8]) -> usize
 }
 
 // One register's part of a bank, by its place.
-fn part_at(bank: Bank, at: usize) -> Replica
+fn part_at(bank: Bank, at: usize) -> RegisterReplica
     requires { ⌜ at < 16 ⌝ }
-    ensures { λ r. ⌜ r ≡ partAt at bank ⌝ }
+    ensures { λ r. ⌜ r ≡ bankPart at bank ⌝ }
 {
     let register = bank.registers[at];
-    Replica {
+    RegisterReplica {
         f: bank.f,
         id: bank.id,
         register: register,
@@ -82,9 +82,9 @@ fn part_at(bank: Bank, at: usize) -> Replica
 }
 
 // The bank with another part there.
-fn with_part_at(bank: Bank, at: usize, part: Replica) -> Bank
+fn with_part_at(bank: Bank, at: usize, part: RegisterReplica) -> Bank
     requires { ⌜ at < 16 ⌝ }
-    ensures { λ r. ⌜ r ≡ withPartAt at part bank ⌝ }
+    ensures { λ r. ⌜ r ≡ withBankPart at part bank ⌝ }
 {
     let register = part.register;
     let mut left = bank;
@@ -98,7 +98,7 @@ pub fn step(bank: Bank, message: &[u8], verdicts: &[u8], out: &mut [u8]) -> Bank
 {
     let at = place_of(message);
     let part = part_at(bank, at);
-    let stepped = replica::step(part, message, verdicts, out);
+    let stepped = register_replica::step(part, message, verdicts, out);
     let answer = stepped.answer;
     let next = stepped.replica;
     BankStepped {

@@ -16,7 +16,7 @@ use Rattle.base.specs.declared.party.RegisterId.{RegisterId}
 use Rattle.base.proofs.Booleans.{and-true-both}
 use Rattle.wire.specs.Message.{longest}
 use Rattle.protocol.specs.Client.{Turn, isIdle, mayBegin}
-use Rattle.protocol.specs.Replica.{withOutput}
+use Rattle.protocol.specs.RegisterReplica.{withOutput}
 use Rattle.protocol.specs.declared.client.Client.{Client}
 use Rattle.protocol.specs.declared.client.Phase.{Phase}
 use Rattle.protocol.specs.declared.client.Phase.the-variants.{Idle, Stamps, Prepareds, Writtens, Cards, WriteBack}

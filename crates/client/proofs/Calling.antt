@@ -16,7 +16,7 @@ use Rattle.wire.specs.Message.{longest, READ-STAMP, READ}
 use Rattle.wire.specs.Writing.{unsigned}
 use Rattle.protocol.specs.Client.{send, Turn, turn, ClientCall, clientAnswers, Meaning, clientOutcome, stepOutcome, mayBegin, beginning, beginWrite, beginRead, clientStep, beginWriteCall, beginReadCall, clientCall}
 use Rattle.protocol.specs.Parts.{startCard}
-use Rattle.protocol.specs.Replica.{withOutput}
+use Rattle.protocol.specs.RegisterReplica.{withOutput}
 use Rattle.protocol.specs.Viewer.{viewerStep, viewerCall}
 use Rattle.protocol.specs.declared.client.Client.{Client}
 use Rattle.protocol.specs.declared.client.ClientAnswer.the-variants.{Refused}

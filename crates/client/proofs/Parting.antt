@@ -25,9 +25,9 @@ use Rattle.wire.specs.Parts.{partAt, cardAt, preparedPart, WholeIfThere}
 use Rattle.wire.specs.Proof.{PreparedProof}
 use Rattle.wire.specs.declared.message.Fields.{Fields}
 use Rattle.wire.specs.declared.message.Party.the-variants.{Client as AtClient}
-use Rattle.wire.proofs.Admitted.{admitted-passed, acceptance-accepted, acceptance-refused}
-use Rattle.wire.proofs.Handed.{handed-stamp, handed-prepared, handed-written, handed-card, reply-kind, register-is, proof-whole, signature-is, signature-length}
-use Rattle.wire.proofs.Parsed.{decode-splits}
+use Rattle.wire.proofs.AdmittedMessage.{admitted-passed, acceptance-accepted, acceptance-refused}
+use Rattle.wire.proofs.MessageParts.{handed-stamp, handed-prepared, handed-written, handed-card, reply-kind, register-is, proof-whole, signature-is, signature-length}
+use Rattle.wire.proofs.ReadingByKind.{decode-splits}
 use Rattle.protocol.specs.Client.{Turn, withPhase, onStamp, onPrepared, onWritten, onCard, onReply, towards, clientStep}
 use Rattle.protocol.specs.Parts.{cardStands}
 use Rattle.protocol.specs.Viewer.{onViewerReply, viewerStep}

@@ -10,12 +10,12 @@ use Rattle.base.specs.Timestamp.{number}
 use Rattle.base.specs.declared.timestamp.Timestamp.{Timestamp}
 use Rattle.base.proofs.Timestamps.{number-ofNumber}
 use Rattle.wire.specs.Parts.{preparedPart, preparedTimestamp, timestampPart, WholeIfThere}
-use Rattle.wire.proofs.Handed.{There, there, shown}
+use Rattle.wire.proofs.MessageParts.{There, proof-there, shown}
 
--- A proof whose timestamp is larger than another is there.
+-- A proof whose timestamp is larger than another is proof-there.
 pub later-there : (n : ℕ) (proof : List ℕ) → WholeIfThere proof → ltb n (preparedTimestamp (preparedPart proof)) ≡ true → There proof
 later-there n [] p h = absurd (let less = ltb-true n 0 h in omega arith)
-later-there n (byte ∷ bytes) p h = there (byte ∷ bytes) p (λ e. omega arith)
+later-there n (byte ∷ bytes) p h = proof-there (byte ∷ bytes) p (λ e. omega arith)
 
 -- Comparing with the timestamp that the code reads off the proof.
 module _ (best stamp : Timestamp) (proof : List ℕ) (whole : WholeIfThere proof) (read : stamp ≡ timestampPart proof) where

@@ -18,7 +18,7 @@ use Rattle.wire.specs.Message.{Message, READ-STAMP, PREPARE, WRITE, READ, STAMP
 use Rattle.wire.specs.Proof.{PreparedProof}
 use Rattle.wire.specs.declared.message.Party.the-variants.{Client as AtClient}
 use Rattle.protocol.specs.Client.{send, waits, done, ended, Turn, currentCard, bestOf, keepBetter, showedBy, keepBetterCard, beginWrite, beginRead, toPrepare, afterStamp, onStamp, afterPrepared, onPrepared, afterWritten, afterWriteBack, onWritten, afterCard, countCard, onCard, onReply, towards, clientStep}
-use Rattle.protocol.specs.Replica.{withOutput}
+use Rattle.protocol.specs.RegisterReplica.{withOutput}
 use Rattle.protocol.specs.Viewer.{afterView, onViewerReply, viewerStep}
 use Rattle.protocol.specs.declared.client.Client.{Client}
 use Rattle.protocol.specs.declared.client.Phase.{Phase}

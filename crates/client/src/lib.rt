@@ -32,7 +32,7 @@ use wire::layout::SIGNATURES_ROOM;
 ghost use mathlib.Core.Path.{_≡_};
 ghost use Rattle.base.specs.Party.{setupOutcome};
 ghost use Rattle.protocol.specs.Client.{noneWritten, idleClient, freshClient, clientIfSetUp, beginWrite, beginRead, clientStep, beginWriteCall, beginReadCall, clientCall};
-ghost use Rattle.protocol.specs.Replica.{withOutput};
+ghost use Rattle.protocol.specs.RegisterReplica.{withOutput};
 ghost use Rattle.client.specs.Leaving.{NonceIfGood};
 ghost use Rattle.client.specs.Stepping.{Made, Calls};
 

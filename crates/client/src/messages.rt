@@ -26,7 +26,7 @@ ghost use Prim.Native.Nat.{ℕ, _≤_};
 ghost use lib.ListN.{length};
 ghost use Rattle.wire.specs.Message.{longest};
 ghost use Rattle.protocol.specs.Client.{clientAnswers, towards};
-ghost use Rattle.protocol.specs.Replica.{withOutput};
+ghost use Rattle.protocol.specs.RegisterReplica.{withOutput};
 ghost use Rattle.client.specs.Roles.{roleStep, roleCall};
 ghost use Rattle.client.specs.Messages.{Passing, SignedBy, afterTests};
 ghost use Rattle.client.specs.Leaving.{callOf};

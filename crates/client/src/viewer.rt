@@ -10,7 +10,7 @@ use protocol::client::ClientAnswer;
 use wire::layout::CARD_ROOM;
 ghost use mathlib.Core.Path.{_≡_};
 ghost use Rattle.protocol.specs.Client.{beginRead, beginReadCall};
-ghost use Rattle.protocol.specs.Replica.{withOutput};
+ghost use Rattle.protocol.specs.RegisterReplica.{withOutput};
 ghost use Rattle.protocol.specs.Viewer.{viewerStep, viewerCall};
 ghost use Rattle.client.specs.Stepping.{Calls};
 ghost use Rattle.client.specs.Viewing.{ViewerMade, ofViewer};

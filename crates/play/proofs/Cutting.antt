@@ -11,10 +11,10 @@ use lib.Seq.{take-all, take-at, take-append-add, drop-append-add}
 use Rattle.text.specs.Line.{lengthTo, lineLength, lines}
 use Rattle.text.proofs.Lines.{first-line}
 use Rattle.play.specs.Output.{header}
-use Rattle.play.specs.Script.{startPlace, step, keptByte, keptOf}
+use Rattle.play.specs.Input.{startPlace, step, keptByte, keptOf}
 use Rattle.play.specs.Session.{printedLines, printed}
 use Rattle.play.specs.Worlds.{freshWorld, emptyStore}
-use Rattle.play.specs.declared.script.Place.{Place}
+use Rattle.play.specs.declared.input.Place.{Place}
 use Rattle.play.proofs.LongLines.{cut-lines}
 
 -- A text without a newline.

@@ -20,27 +20,28 @@ use Rattle.wire.specs.Layout.{signature}
 use Rattle.wire.specs.Message.{Message, longest}
 use Rattle.wire.specs.Writing.{unsigned, roomy, inFront}
 use Rattle.wire.specs.declared.message.Party.the-variants.{Replica as AtReplica, Client as AtClient}
-use Rattle.wire.proofs.Admitted.{admitted-then}
+use Rattle.wire.proofs.AdmittedMessage.{admitted-then}
 use Rattle.wire.proofs.OneForm.{found-register, decoded-fits, decoded-signature}
 use Rattle.text.specs.Hex.{hexPairs}
-use Rattle.protocol.specs.Client.{Answer, send, waits, done, ended, Turn, noClient, freshClient, clientIfSetUp, madeClient, beginWrite, beginRead, clientStep, ClientCall, answered, clientAnswers, beginWriteCall, beginReadCall, clientCall}
-use Rattle.protocol.specs.Replica.{Reply, freshReplica, noReplica, onRequest, replicaStep, ReplicaCall, replicaAnswers, withOutput, replicaCall}
+use Rattle.protocol.specs.Events.{asClientAnswer}
+use Rattle.protocol.specs.Client.{Answer, send, waits, done, ended, Turn, noClient, freshClient, clientIfSetUp, madeClient, beginWrite, beginRead, clientStep, ClientCall, given, leaving, clientAnswers, beginWriteCall, beginReadCall, clientCall}
+use Rattle.protocol.specs.RegisterReplica.{Reply, freshRegisterReplica, noRegisterReplica, onRequest, registerStep, RegisterCall, registerAnswers, withOutput, registerCall}
 use Rattle.protocol.specs.declared.client.Client.{Client}
 use Rattle.protocol.specs.declared.client.ClientAnswer.the-variants.{Refused}
 use Rattle.protocol.specs.declared.client.Phase.{Phase}
-use Rattle.protocol.specs.declared.replica.Replica.{Replica}
+use Rattle.protocol.specs.declared.replica.RegisterReplica.{RegisterReplica}
 use Rattle.protocol.proofs.ArrayLaws.{bytes-zeros}
 use Rattle.protocol.proofs.ClientCases.{Begun, LegalAnswer, PhaseFits}
 use Rattle.protocol.proofs.ClientFacts.{begins-write, begins-read, client-facts}
-use Rattle.protocol.proofs.Fit.{ReplicaFits, ClientFits, LegalMessage}
+use Rattle.protocol.proofs.Fit.{RegisterReplicaFits, ClientFits, LegalMessage}
 use Rattle.protocol.proofs.FreshRecords.{fresh-replica-fits, fresh-client-fits}
-use Rattle.protocol.proofs.ReplicaFacts.{ReplicaFacts, replica-facts}
+use Rattle.protocol.proofs.RegisterFacts.{RegisterFacts, register-facts}
 use Rattle.protocol.proofs.Towards.{client-takes}
 use Rattle.play.specs.Calls.{theRegister, verdicts, free, messageAt, clientDoes, replicaDoes}
 use Rattle.play.specs.ForRegister.{Reached, begun, played, ForRegister}
 use Rattle.play.specs.Grammar.{command}
 use Rattle.play.specs.Log.{emptyLog, start, sentLength, message, logged}
-use Rattle.play.specs.Player.{loggedBy, reply, clientTurn, replicaTurn, ifSent, addressee, does, turn}
+use Rattle.play.specs.Player.{loggedBy, clientTurn, replicaTurn, ifSent, addressee, does, turn}
 use Rattle.play.specs.Worlds.{freshWorld, replicaSeat, clientSeat, emptyStore}
 use Rattle.play.specs.declared.calls.Call.{Call}
 use Rattle.play.specs.declared.calls.Call.the-variants.{Write as BeginWrite, Read as BeginRead, Deliver}
@@ -83,7 +84,7 @@ record GoodTurn (turn : Turn) : Type 0 where
 
 module _ (log : Log) (client : Client) (old : List ℕ) (good : GoodClient client) where
   client-answers : (answer : Answer) (next : Client) → longest ≤ length old → GoodClient next → LegalAnswer answer → next .register ≡ theRegister
-      → ClientLeft log old (answered old answer next)
+      → ClientLeft log old (leaving next (given (next .register) old (accepted answer)))
   unfolding loggedBy
   client-answers (send m) next room fit legal is = record { good = fit; sends = sends-for (next .register) m is legal room }
   client-answers waits next room fit legal is = record { good = fit; sends = nothing }
@@ -138,33 +139,33 @@ module _ (log : Log) (client : Client) (old : List ℕ) (good : GoodClient clien
           }
 
 -- What a replica's call leaves.
-pub record ReplicaLeft (log : Log) (old : List ℕ) (before : Replica) (call : ReplicaCall) : Type 0 where
+pub record ReplicaLeft (log : Log) (old : List ℕ) (before : RegisterReplica) (call : RegisterCall) : Type 0 where
   pub same-f : call .replica .f ≡ before .f
   pub same-id : call .replica .id ≡ before .id
-  pub fits : ReplicaFits (call .replica)
-  pub sends : Sends log old (loggedBy (reply (call .answer)) log) (call .output)
+  pub fits : RegisterReplicaFits (call .replica)
+  pub sends : Sends log old (loggedBy (asClientAnswer (call .answer)) log) (call .output)
 
-module _ (log : Log) (before : Replica) (old bytes verdicts : List ℕ) (fits : ReplicaFits before) (small : Bytes bytes) (is : registerIn bytes ≡ theRegister) where
-  replica-outcome : (o : Outcome Reply) → longest ≤ length old → ((r : Reply) → o ≡ accepted r → (m : Message) × ReplicaFacts before verdicts m r)
-      → ReplicaLeft log old before (replicaAnswers (registerIn bytes) before old o)
-  unfolding loggedBy reply
+module _ (log : Log) (before : RegisterReplica) (old bytes verdicts : List ℕ) (fits : RegisterReplicaFits before) (small : Bytes bytes) (is : registerIn bytes ≡ theRegister) where
+  replica-outcome : (o : Outcome Reply) → longest ≤ length old → ((r : Reply) → o ≡ accepted r → (m : Message) × RegisterFacts before verdicts m r)
+      → ReplicaLeft log old before (registerAnswers (registerIn bytes) before old o)
+  unfolding loggedBy
   replica-outcome (accepted r) room taken =
       let (m, facts) = taken r refl in
       record { same-f = facts .same-f; same-id = facts .same-id; fits = facts .fits; sends = sends-for (registerIn bytes) (r .message) is (facts .legal) room }
   replica-outcome (refused number) room taken = record { same-f = refl; same-id = refl; fits = fits; sends = refused-rests number }
 
   -- What a replica answers is for the register of the request.
-  pub replica-left : ReplicaLeft log old before (replicaCall before bytes verdicts old)
-  unfolding guard loggedBy reply replicaCall replicaStep
+  pub replica-left : ReplicaLeft log old before (registerCall before bytes verdicts old)
+  unfolding guard loggedBy registerCall registerStep
   replica-left = go (roomy old) refl
     where
-      taken : (r : Reply) → replicaStep before bytes verdicts ≡ accepted r → (m : Message) × ReplicaFacts before verdicts m r
+      taken : (r : Reply) → registerStep before bytes verdicts ≡ accepted r → (m : Message) × RegisterFacts before verdicts m r
       taken r e =
           let (x, m, passed, by) = admitted-then AtReplica (before .f) bytes verdicts (λ sent. onRequest before (sent .1)) r e in
-          (m, replica-facts before verdicts m r fits (decoded-fits AtReplica bytes x m (passed .decodes) small) (passed .may-send) (passed .passed) by)
+          (m, register-facts before verdicts m r fits (decoded-fits AtReplica bytes x m (passed .decodes) small) (passed .may-send) (passed .passed) by)
 
-      go : (b : Bool) → roomy old ≡ b → ReplicaLeft log old before (replicaAnswers (registerIn bytes) before old (guard 1 b (replicaStep before bytes verdicts)))
-      go true e = replica-outcome (replicaStep before bytes verdicts) (leb-true longest (length old) e) taken
+      go : (b : Bool) → roomy old ≡ b → ReplicaLeft log old before (registerAnswers (registerIn bytes) before old (guard 1 b (registerStep before bytes verdicts)))
+      go true e = replica-outcome (registerStep before bytes verdicts) (leb-true longest (length old) e) taken
       go false e = record { same-f = refl; same-id = refl; fits = fits; sends = refused-rests 1 }
 
 -- ---- One line
@@ -186,14 +187,14 @@ each-set (another p rest) (suc i) new = another p (each-set rest i new)
 no-client : GoodClient noClient
 no-client = record { fits = fresh-client-fits 0 (record { 0 = 0 }) 0 (omega arith) (omega arith); phase-fits = tt }
 
-fresh-replica : (f i : ℕ) → i < 256 → ReplicaFits (freshReplica f (replica i))
+fresh-replica : (f i : ℕ) → i < 256 → RegisterReplicaFits (freshRegisterReplica f (replica i))
 fresh-replica f i low = fresh-replica-fits f (replica i) low
 
 -- What holds from line to line.
 pub record Holds (world : World) (store : List ℕ) : Type 0 where
   pub logs : Logs (world .log) store
   clients : Each GoodClient (world .clients)
-  replicas : Each ReplicaFits (world .replicas)
+  replicas : Each RegisterReplicaFits (world .replicas)
 
 -- A message that is delivered was sent.
 abbrev pub Known : ℕ → Call → Type 0
@@ -243,8 +244,8 @@ module _ (client : Client) (log : Log) (store text : List ℕ) where
   unfolding clientDoes
   read-names = refl
 
-abbrev pub addressed : World → ReplicaId → Replica
-addressed world id = getD (world .replicas) (replicaSeat id) noReplica
+abbrev pub addressed : World → ReplicaId → RegisterReplica
+addressed world id = getD (world .replicas) (replicaSeat id) noRegisterReplica
 
 module _ {world : World} {store : List ℕ} (holds : Holds world store) where
   call-left : (client : Client) → GoodClient client → (text : List ℕ) (call : Call) → Known (world .log .count) call
@@ -264,7 +265,7 @@ module _ {world : World} {store : List ℕ} (holds : Holds world store) where
   unfolding replicaDoes
   request-left id m known =
       replica-left (world .log) (addressed world id) (free (world .log) store) (messageAt (world .log) store m) (verdicts AtReplica (messageAt (world .log) store m))
-      (each-at ReplicaFits noReplica (fresh-replica 0 0 (omega arith)) (holds .replicas) (replicaSeat id)) (message-bytes (holds .logs) m) (message-register (holds .logs) m known)
+      (each-at RegisterReplicaFits noRegisterReplica (fresh-replica 0 0 (omega arith)) (holds .replicas) (replicaSeat id)) (message-bytes (holds .logs) m) (message-register (holds .logs) m known)
 
   pub does-holds : (text : List ℕ) (party : Addressee) → KnownTo (world .log .count) party → Holds (does world store text party .world) (does world store text party .store)
   unfolding does clientTurn replicaTurn

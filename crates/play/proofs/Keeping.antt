@@ -5,8 +5,8 @@ use Prim.Native.Nat.{ℕ, _+_, _<_}
 use native.Mathlib.Numerals.{add-one}
 use lib.ListN.{length, getD, drop}
 use lib.Seq.{drop-cons}
-use Rattle.play.specs.Script.{keptByte, after, keptOf}
-use Rattle.play.specs.declared.script.Place.{Place}
+use Rattle.play.specs.Input.{keptByte, after, keptOf}
+use Rattle.play.specs.declared.input.Place.{Place}
 
 module _ (place next : Place) (piece : List ℕ) (i : ℕ) (h : i < length piece) (e : next ≡ after place (getD piece i 0 ∷ [])) where
   pub after-more : after next (drop (i + 1) piece) ≡ after place (drop i piece)

@@ -11,12 +11,12 @@ use Rattle.text.specs.Hex.{hexPairs, HexRead}
 use Rattle.text.specs.Put.{Puts}
 use Rattle.text.proofs.Putting.{put-front}
 use Rattle.protocol.specs.Client.{Turn, ClientCall}
-use Rattle.protocol.specs.Replica.{ReplicaCall, replicaCall}
-use Rattle.protocol.specs.declared.replica.Replica.{Replica}
+use Rattle.protocol.specs.RegisterReplica.{RegisterCall, registerCall}
+use Rattle.protocol.specs.declared.replica.RegisterReplica.{RegisterReplica}
 use Rattle.client.specs.Stepping.{Calls}
 use Rattle.client.specs.declared.Stepped.{Stepped as ClientStepped}
-use Rattle.replica.specs.Stepping.{Steps}
-use Rattle.replica.specs.declared.Stepped.{Stepped as ReplicaStepped}
+use Rattle.register_replica.specs.Stepping.{Steps}
+use Rattle.register_replica.specs.declared.Stepped.{Stepped as ReplicaStepped}
 use Rattle.wire.specs.declared.message.Party.{Party}
 use Rattle.wire.specs.Signatures.{signaturesTo}
 use Rattle.play.specs.Calls.{verdicts, sentBefore, free, messageAt, ClientLeaves, ReplicaLeaves}
@@ -28,8 +28,8 @@ pub client-leaves : (call : ClientCall) (step : Outcome Turn) (stepped : ClientS
 client-leaves call step stepped new e =
     record { answer = e .answer; «card_length» = e .«card_length»; card = e .card; client = e .client; store-is = e .output }
 
-pub replica-leaves : (replica : Replica) (bytes verdicts old : List ℕ) (stepped : ReplicaStepped) (new : List ℕ) → Steps replica bytes verdicts old (stepped .answer) (stepped .replica) new
-    → ReplicaLeaves (replicaCall replica bytes verdicts old) [] stepped new
+pub replica-leaves : (replica : RegisterReplica) (bytes verdicts old : List ℕ) (stepped : ReplicaStepped) (new : List ℕ) → Steps replica bytes verdicts old (stepped .answer) (stepped .replica) new
+    → ReplicaLeaves (registerCall replica bytes verdicts old) [] stepped new
 replica-leaves replica bytes verdicts old stepped new e = record { answer = e .answer; replica = e .next; store-is = e .output }
 
 -- An output that stands behind some bytes of the store.
@@ -47,13 +47,13 @@ client-behind call call′ sent stepped new store same put e =
 pub same-call : (call call′ : ClientCall) (sent : List ℕ) (stepped : ClientStepped) (store : List ℕ) → call ≡ call′ → ClientLeaves call sent stepped store → ClientLeaves call′ sent stepped store
 same-call call call′ sent stepped store same e = subst (λ (k : ClientCall). ClientLeaves k sent stepped store) same e
 
-pub replica-behind : (call call′ : ReplicaCall) (sent : List ℕ) (stepped : ReplicaStepped) (new store : List ℕ) → call ≡ call′ → store ≡ sent ++ new
+pub replica-behind : (call call′ : RegisterCall) (sent : List ℕ) (stepped : ReplicaStepped) (new store : List ℕ) → call ≡ call′ → store ≡ sent ++ new
     → ReplicaLeaves call [] stepped new → ReplicaLeaves call′ sent stepped store
 replica-behind call call′ sent stepped new store same put e =
     record {
-      answer = e .answer ∙ ap (λ (k : ReplicaCall). k .answer) same;
-      replica = e .replica ∙ ap (λ (k : ReplicaCall). k .replica) same;
-      store-is = put ∙ ap (λ (l : List ℕ). sent ++ l) (e .store-is ∙ ap (λ (k : ReplicaCall). k .output) same);
+      answer = e .answer ∙ ap (λ (k : RegisterCall). k .answer) same;
+      replica = e .replica ∙ ap (λ (k : RegisterCall). k .replica) same;
+      store-is = put ∙ ap (λ (l : List ℕ). sent ++ l) (e .store-is ∙ ap (λ (k : RegisterCall). k .output) same);
     }
 
 -- The verdicts, the card and the message that the code hands over are the definition's.

@@ -10,10 +10,10 @@ use lib.ListN.{length, take}
 use lib.Seq.{take-all}
 use Rattle.text.specs.Put.{Puts}
 use Rattle.text.proofs.Putting.{then, nothing, same-bytes, put-front}
-use Rattle.play.specs.Script.{startPlace, step, keptByte, after, keptOf, Keeps}
+use Rattle.play.specs.Input.{startPlace, step, keptByte, after, keptOf, Keeps}
 use Rattle.play.specs.Session.{printed}
-use Rattle.play.specs.declared.script.Kept.{Kept}
-use Rattle.play.specs.declared.script.Place.{Place}
+use Rattle.play.specs.declared.input.Kept.{Kept}
+use Rattle.play.specs.declared.input.Place.{Place}
 use Rattle.play.proofs.Cutting.{kept-prints}
 use Rattle.play.proofs.Room.{script-room}
 

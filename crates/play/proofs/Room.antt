@@ -16,12 +16,12 @@ use Rattle.text.specs.Timestamp.{stamp}
 use Rattle.play.specs.Grammar.{command}
 use Rattle.play.specs.Output.{header, behindCard, said, line}
 use Rattle.play.specs.Player.{Turn, addressee, does, clientTurn, replicaTurn, turn}
-use Rattle.play.specs.Script.{startPlace, step, keptByte, keptOf}
+use Rattle.play.specs.Input.{startPlace, step, keptByte, keptOf}
 use Rattle.play.specs.Session.{printedLines, printed}
 use Rattle.play.specs.Worlds.{freshWorld, emptyStore}
 use Rattle.play.specs.declared.output.Said.{Said}
 use Rattle.play.specs.declared.output.Said.the-variants.{Sent, Taken, Done, Ended, Refused, Unread}
-use Rattle.play.specs.declared.script.Place.{Place}
+use Rattle.play.specs.declared.input.Place.{Place}
 use Rattle.play.specs.declared.turn.Addressee.{Addressee}
 use Rattle.play.specs.declared.turn.Addressee.the-variants.{Client as ToTheClient, Replica as ToTheReplica, Nobody}
 use Rattle.play.specs.declared.world.World.{World}

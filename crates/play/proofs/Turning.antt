@@ -7,13 +7,13 @@ use lib.ListN.{length, getD, set}
 use Rattle.base.specs.declared.party.ClientId.{ClientId}
 use Rattle.base.specs.declared.party.ReplicaId.{ReplicaId}
 use Rattle.protocol.specs.Parts.{cardKept}
-use Rattle.protocol.specs.Replica.{noReplica}
+use Rattle.protocol.specs.RegisterReplica.{noRegisterReplica}
 use Rattle.protocol.specs.Client.{noClient}
-use Rattle.protocol.specs.declared.replica.Replica.{Replica}
+use Rattle.protocol.specs.declared.replica.RegisterReplica.{RegisterReplica}
 use Rattle.protocol.specs.declared.client.Client.{Client}
 use Rattle.protocol.specs.declared.client.ClientAnswer.{ClientAnswer}
 use Rattle.client.specs.declared.Stepped.{Stepped as ClientStepped}
-use Rattle.replica.specs.declared.Stepped.{Stepped as ReplicaStepped}
+use Rattle.register_replica.specs.declared.Stepped.{Stepped as ReplicaStepped}
 use Rattle.play.specs.Calls.{sentBefore, clientDoes, replicaDoes, ClientLeaves, ReplicaLeaves}
 use Rattle.play.specs.Grammar.{command}
 use Rattle.protocol.specs.Events.{asClientAnswer}
@@ -32,20 +32,20 @@ use Rattle.play.specs.declared.world.World.{World}
 
 module _ (world : World) (store : List ℕ) (answer : ClientAnswer) (next : Log) (what : Said) (old : List ℕ) (kept : next ≡ loggedBy answer (world .log))
     (says : what ≡ saidOf (world .log .count) answer) where
-  module _ (id : ReplicaId) (m i : ℕ) (one : Replica) (stepped : ReplicaStepped) (saying : Saying) (at : i ≡ replicaSeat id) (first : one ≡ getD (world .replicas) i noReplica)
+  module _ (id : ReplicaId) (m i : ℕ) (one : RegisterReplica) (stepped : ReplicaStepped) (saying : Saying) (at : i ≡ replicaSeat id) (first : one ≡ getD (world .replicas) i noRegisterReplica)
       (given : answer ≡ asClientAnswer (stepped .answer)) (does : ReplicaLeaves (replicaDoes one (world .log) store m) (sentBefore (world .log) store) stepped old)
       (shown : Says what [] saying) where
     pub replica-plays : Plays (replicaTurn world store id m)
         (record { world = record { replicas = set (world .replicas) i (stepped .replica); clients = world .clients; log = next }; saying = saying }) old
     unfolding replicaTurn
     replica-plays =
-        let party : one ≡ getD (world .replicas) (replicaSeat id) noReplica = first ∙ ap (λ (k : ℕ). getD (world .replicas) k noReplica) at in
-        let d = subst (λ (r : Replica). ReplicaLeaves (replicaDoes r (world .log) store m) (sentBefore (world .log) store) stepped old) party does in
+        let party : one ≡ getD (world .replicas) (replicaSeat id) noRegisterReplica = first ∙ ap (λ (k : ℕ). getD (world .replicas) k noRegisterReplica) at in
+        let d = subst (λ (r : RegisterReplica). ReplicaLeaves (replicaDoes r (world .log) store m) (sentBefore (world .log) store) stepped old) party does in
         let said = given ∙ ap asClientAnswer (d .answer) in
         let log = kept ∙ ap (λ (a : ClientAnswer). loggedBy a (world .log)) said in
-        let replicas = ap₂ (λ (k : ℕ) (r : Replica). set (world .replicas) k r) at (d .replica) in
+        let replicas = ap₂ (λ (k : ℕ) (r : RegisterReplica). set (world .replicas) k r) at (d .replica) in
         record {
-          world-is = ap₂ (λ (rs : List Replica) (l : Log). record { replicas = rs; clients = world .clients; log = l }) replicas log;
+          world-is = ap₂ (λ (rs : List RegisterReplica) (l : Log). record { replicas = rs; clients = world .clients; log = l }) replicas log;
           says = record { what-is = shown .what-is ∙ (says ∙ ap (saidOf (world .log .count)) said); card-is = shown .card-is };
           store-is = d .store-is;
         }

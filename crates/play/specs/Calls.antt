@@ -9,12 +9,12 @@ use Rattle.wire.specs.Signatures.{signaturesTo}
 use Rattle.wire.specs.declared.message.Party.{Party}
 use Rattle.wire.specs.declared.message.Party.the-variants.{Replica as AtReplica, Client as AtClient}
 use Rattle.text.specs.Hex.{hexPairs}
-use Rattle.protocol.specs.Replica.{ReplicaCall, replicaCall}
+use Rattle.protocol.specs.RegisterReplica.{RegisterCall, registerCall}
 use Rattle.protocol.specs.Client.{ClientCall, beginWriteCall, beginReadCall, clientCall}
-use Rattle.protocol.specs.declared.replica.Replica.{Replica}
+use Rattle.protocol.specs.declared.replica.RegisterReplica.{RegisterReplica}
 use Rattle.protocol.specs.declared.client.Client.{Client}
 use Rattle.client.specs.declared.Stepped.{Stepped as ClientStepped}
-use Rattle.replica.specs.declared.Stepped.{Stepped as ReplicaStepped}
+use Rattle.register_replica.specs.declared.Stepped.{Stepped as ReplicaStepped}
 use Rattle.play.specs.Log.{start, message}
 use Rattle.play.specs.declared.calls.Call.{Call}
 use Rattle.play.specs.declared.calls.Call.the-variants.{Write, Read, Deliver}
@@ -45,8 +45,8 @@ clientDoes client log store text Read = beginReadCall client theRegister (free l
 clientDoes client log store text (Deliver m) = clientCall client (messageAt log store m) (verdicts AtClient (messageAt log store m)) (free log store)
 
 -- "`h H M` delivers message M to holder H"
-unfoldable pub replicaDoes : Replica → Log → List ℕ → ℕ → ReplicaCall
-replicaDoes replica log store m = replicaCall replica (messageAt log store m) (verdicts AtReplica (messageAt log store m)) (free log store)
+unfoldable pub replicaDoes : RegisterReplica → Log → List ℕ → ℕ → RegisterCall
+replicaDoes replica log store m = registerCall replica (messageAt log store m) (verdicts AtReplica (messageAt log store m)) (free log store)
 
 -- What a call leaves, with its output behind some bytes of the store.
 pub record ClientLeaves (call : ClientCall) (sent : List ℕ) (stepped : ClientStepped) (store : List ℕ) : Type 0 where
@@ -56,7 +56,7 @@ pub record ClientLeaves (call : ClientCall) (sent : List ℕ) (stepped : ClientS
   pub client : stepped .client ≡ call .client
   pub store-is : store ≡ sent ++ call .output
 
-pub record ReplicaLeaves (call : ReplicaCall) (sent : List ℕ) (stepped : ReplicaStepped) (store : List ℕ) : Type 0 where
+pub record ReplicaLeaves (call : RegisterCall) (sent : List ℕ) (stepped : ReplicaStepped) (store : List ℕ) : Type 0 where
   pub answer : stepped .answer ≡ call .answer
   pub replica : stepped .replica ≡ call .replica
   pub store-is : store ≡ sent ++ call .output

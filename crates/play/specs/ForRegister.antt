@@ -10,7 +10,7 @@ use Rattle.wire.specs.Decode.{registerIn}
 use Rattle.wire.specs.declared.message.Party.the-variants.{Replica as AtReplica}
 use Rattle.text.specs.Line.{lines}
 use Rattle.protocol.specs.Bank.{freshBank, noBank, BankCall, bankCall}
-use Rattle.protocol.specs.Replica.{noReplica}
+use Rattle.protocol.specs.RegisterReplica.{noRegisterReplica}
 use Rattle.protocol.specs.declared.replica.Bank.{Bank}
 use Rattle.play.specs.Calls.{theRegister, verdicts, free, messageAt}
 use Rattle.play.specs.Grammar.{command}
@@ -56,7 +56,7 @@ abbrev pub afterBank : List Bank → World → List ℕ → ReplicaId → BankCa
 afterBank banks world store id call =
     record {
       banks = set banks (replicaSeat id) (call .bank);
-      turn = afterReplica world store id (record { answer = call .answer; replica = noReplica; output = call .output });
+      turn = afterReplica world store id (record { answer = call .answer; replica = noRegisterReplica; output = call .output });
     }
 
 -- Only a message to a replica is another thing than in `Player.does`.

@@ -4,6 +4,6 @@ pub mod Grammar
 pub mod Log
 pub mod Output
 pub mod Player
-pub mod Script
+pub mod Input
 pub mod Session
 pub mod Worlds

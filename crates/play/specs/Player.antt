@@ -8,7 +8,7 @@ use Rattle.base.specs.Range.{within}
 use Rattle.base.specs.declared.party.ClientId.{ClientId}
 use Rattle.base.specs.declared.party.ReplicaId.{ReplicaId}
 use Rattle.protocol.specs.Parts.{cardKept}
-use Rattle.protocol.specs.Replica.{noReplica, ReplicaCall}
+use Rattle.protocol.specs.RegisterReplica.{noRegisterReplica, RegisterCall}
 use Rattle.protocol.specs.Client.{noClient, ClientCall}
 use Rattle.protocol.specs.Events.{asClientAnswer}
 use Rattle.protocol.specs.declared.client.ClientAnswer.{ClientAnswer}
@@ -67,7 +67,7 @@ afterClient world store id call =
       card = cardKept (call .card) (call .«card_length»);
     }
 
-abbrev pub afterReplica : World → List ℕ → ReplicaId → ReplicaCall → Turn
+abbrev pub afterReplica : World → List ℕ → ReplicaId → RegisterCall → Turn
 afterReplica world store id call =
     record {
       world =
@@ -85,7 +85,7 @@ unfoldable pub clientTurn : World → List ℕ → ClientId → Call → List �
 clientTurn world store id call text = afterClient world store id (clientDoes (getD (world .clients) (clientSeat id) noClient) (world .log) store text call)
 
 unfoldable pub replicaTurn : World → List ℕ → ReplicaId → ℕ → Turn
-replicaTurn world store id m = afterReplica world store id (replicaDoes (getD (world .replicas) (replicaSeat id) noReplica) (world .log) store m)
+replicaTurn world store id m = afterReplica world store id (replicaDoes (getD (world .replicas) (replicaSeat id) noRegisterReplica) (world .log) store m)
 
 abbrev pub ifSent : ℕ → ℕ → Addressee → Addressee
 ifSent count m party = cond (within 1 count m) party Nobody

@@ -5,7 +5,7 @@ use lib.ListN.{replicate}
 use Rattle.base.specs.Counting.{replica}
 use Rattle.base.specs.declared.party.ClientId.{ClientId}
 use Rattle.base.specs.declared.party.ReplicaId.{ReplicaId}
-use Rattle.protocol.specs.Replica.{freshReplica}
+use Rattle.protocol.specs.RegisterReplica.{freshRegisterReplica}
 use Rattle.protocol.specs.Client.{madeClient}
 use Rattle.play.specs.Log.{emptyLog}
 use Rattle.play.specs.declared.world.World.{World}
@@ -17,7 +17,7 @@ client i = record { 0 = i }
 unfoldable pub freshWorld : World
 freshWorld =
     record {
-      replicas = freshReplica 1 (replica 1) ∷ freshReplica 1 (replica 2) ∷ freshReplica 1 (replica 3) ∷ freshReplica 1 (replica 4) ∷ [];
+      replicas = freshRegisterReplica 1 (replica 1) ∷ freshRegisterReplica 1 (replica 2) ∷ freshRegisterReplica 1 (replica 3) ∷ freshRegisterReplica 1 (replica 4) ∷ [];
       clients = madeClient 1 (client 1) 1 ∷ madeClient 1 (client 2) 1 ∷ madeClient 1 (client 3) 1 ∷ madeClient 1 (client 4) 1 ∷ [];
       log = emptyLog;
     }

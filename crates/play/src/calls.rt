@@ -5,7 +5,7 @@ use base::slices::behind;
 use base::slices::front;
 use client::Stepped;
 use protocol::client::Client;
-use protocol::replica::Replica;
+use protocol::replica::RegisterReplica;
 use wire::layout::LONGEST_MESSAGE;
 use wire::message::Party;
 use wire::signatures::signature_count;
@@ -14,7 +14,7 @@ ghost use mathlib.Core.List.{[]};
 ghost use Prim.Native.Nat.{_-_};
 ghost use Rattle.text.specs.Hex.{hexPairs};
 ghost use Rattle.protocol.specs.Client.{beginWriteCall, clientCall};
-ghost use Rattle.protocol.specs.Replica.{replicaCall};
+ghost use Rattle.protocol.specs.RegisterReplica.{registerCall};
 ghost use Rattle.play.specs.Calls.{theRegister, verdicts, sentBefore, clientDoes, replicaDoes, ClientLeaves, ReplicaLeaves};
 
 // The register that every line is for.
@@ -43,12 +43,16 @@ fn hand_client(client: Client, message: &[u8], out: &mut [u8]) -> Stepped
     client::step(client, message, front(&verdicts, k), out)
 }
 
-fn hand_replica(replica: Replica, message: &[u8], out: &mut [u8]) -> replica::Stepped
-    ensures { λ r. ⌜ ReplicaLeaves (replicaCall replica (now (message .entry)) (verdicts Party.Replica (now (message .entry))) (now (out .entry))) [] r (now (out .exit)) ⌝ }
+fn hand_replica(
+    replica: RegisterReplica,
+    message: &[u8],
+    out: &mut [u8],
+) -> register_replica::Stepped
+    ensures { λ r. ⌜ ReplicaLeaves (registerCall replica (now (message .entry)) (verdicts Party.Replica (now (message .entry))) (now (out .entry))) [] r (now (out .exit)) ⌝ }
 {
     let verdicts = [1u8; 64];
     let k = signature_count(Party::Replica, message);
-    replica::step(replica, message, front(&verdicts, k), out)
+    register_replica::step(replica, message, front(&verdicts, k), out)
 }
 
 fn before(m: usize) -> usize
@@ -59,11 +63,11 @@ fn before(m: usize) -> usize
 
 // Message m is delivered to a replica.
 pub(super) fn replica_does(
-    replica: Replica,
+    replica: RegisterReplica,
     log: Log,
     m: usize,
     store: &mut [u8],
-) -> replica::Stepped
+) -> register_replica::Stepped
     ensures { λ r. ⌜ ReplicaLeaves (replicaDoes replica log (now (store .entry)) m) (sentBefore log (now (store .entry))) r (now (store .exit)) ⌝ }
 {
     let mut message = [0u8; LONGEST_MESSAGE];

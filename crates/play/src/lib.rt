@@ -2,9 +2,9 @@
 // it together.
 mod calls;
 mod grammar;
+pub mod input;
 mod log;
 mod output;
-pub mod script;
 pub mod session;
 mod turn;
 mod world;

@@ -3,16 +3,16 @@ use crate::log::Log;
 use base::party::ClientId;
 use base::party::ReplicaId;
 use protocol::client::Client;
-use protocol::replica::Replica;
-use replica::fresh_register;
+use protocol::replica::RegisterReplica;
+use register_replica::fresh_register;
 ghost use mathlib.Core.Path.{_≡_};
 ghost use Prim.Native.Nat.{_<_};
-ghost use Rattle.protocol.specs.Replica.{freshReplica};
+ghost use Rattle.protocol.specs.RegisterReplica.{freshRegisterReplica};
 ghost use Rattle.protocol.specs.Client.{madeClient};
 ghost use Rattle.play.specs.Worlds.{freshWorld, replicaSeat, clientSeat};
 
 pub struct World {
-    pub replicas: [Replica; 4],
+    pub replicas: [RegisterReplica; 4],
     pub clients: [Client; 4],
     pub log: Log,
 }
@@ -22,10 +22,10 @@ const FAULT_BOUND: u8 = 1;
 const FIRST_NONCE: u64 = 1;
 
 // A replica's part of the one register that is played on: no message of a session is for another.
-fn replica(id: ReplicaId) -> Replica
-    ensures { λ r. ⌜ r ≡ freshReplica 1 id ⌝ }
+fn replica(id: ReplicaId) -> RegisterReplica
+    ensures { λ r. ⌜ r ≡ freshRegisterReplica 1 id ⌝ }
 {
-    Replica {
+    RegisterReplica {
         f: FAULT_BOUND,
         id: id,
         register: fresh_register(),
@@ -38,7 +38,7 @@ fn client(id: ClientId) -> Client
     client::fresh(FAULT_BOUND, id, FIRST_NONCE).client
 }
 
-fn replicas() -> [Replica; 4]
+fn replicas() -> [RegisterReplica; 4]
     ensures { λ r. ⌜ r ≡ freshWorld .replicas ⌝ }
 {
     [

@@ -2,8 +2,8 @@
 use base::slices::front;
 use libc::STDIN_FILENO;
 use libc::STDOUT_FILENO;
-use play::script::is_full;
-use play::script::keep;
+use play::input::is_full;
+use play::input::keep;
 ghost use Rattle.io.specs.Counts.{Counts};
 
 // One read, so that nobody waits for what stands behind the lines that are played.
@@ -17,7 +17,7 @@ fn read_piece(piece: &mut [u8]) -> usize
 // What is kept of the input; answers how many bytes that are.
 // A proved loop has to end, and nothing says that the input does: it counts down from a number that no run uses up.
 fn read_script(script: &mut [u8]) -> usize {
-    let mut kept = play::script::nothing();
+    let mut kept = play::input::nothing();
     let mut turns = u64::MAX;
     while turns > 0 {
         if is_full(kept) {

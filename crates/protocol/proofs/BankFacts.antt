@@ -17,13 +17,13 @@ use Rattle.wire.specs.Decode.{registerIn}
 use Rattle.wire.specs.Message.{Message}
 use Rattle.wire.specs.Writing.{roomy}
 use Rattle.wire.specs.declared.message.Party.the-variants.{Replica as AtReplica}
-use Rattle.wire.proofs.Admitted.{admitted-passed}
-use Rattle.wire.proofs.Parsed.{decode-splits}
-use Rattle.protocol.specs.Bank.{noRegister, partAt, withPartAt, freshBank, placeIn, BankCall, putBack, bankCallAt, bankCall}
-use Rattle.protocol.specs.Replica.{Reply, freshRegister, freshReplica, replicaStep, ReplicaCall, replicaAnswers, withOutput, replicaCall}
+use Rattle.wire.proofs.AdmittedMessage.{admitted-passed}
+use Rattle.wire.proofs.ReadingByKind.{decode-splits}
+use Rattle.protocol.specs.Bank.{noRegister, bankPart, withBankPart, freshBank, placeIn, BankCall, putBack, bankCallAt, bankCall}
+use Rattle.protocol.specs.RegisterReplica.{Reply, freshRegister, freshRegisterReplica, registerStep, RegisterCall, registerAnswers, withOutput, registerCall}
 use Rattle.protocol.specs.declared.replica.Bank.{Bank}
 use Rattle.protocol.specs.declared.replica.Register.{Register}
-use Rattle.protocol.specs.declared.replica.Replica.{Replica}
+use Rattle.protocol.specs.declared.replica.RegisterReplica.{RegisterReplica}
 use Rattle.protocol.specs.declared.replica.ReplicaAnswer.the-variants.{Refused}
 use Rattle.wire.specs.Parts.{lastRegister}
 use Rattle.wire.proofs.LastRegister.{register-last}
@@ -31,21 +31,21 @@ use Rattle.wire.proofs.LastRegister.{register-last}
 -- ---- Parts
 
 -- Each part of a fresh bank is fresh.
-pub fresh-part : (f : ℕ) (id : ReplicaId) (at : ℕ) → at < 16 → partAt at (freshBank f id) ≡ freshReplica f id
+pub fresh-part : (f : ℕ) (id : ReplicaId) (at : ℕ) → at < 16 → bankPart at (freshBank f id) ≡ freshRegisterReplica f id
 fresh-part f id at inside = ap (λ (register : Register). record { f = f; id = id; register = register }) (getD-replicate 16 at freshRegister noRegister inside)
 
 module _ (bank : Bank) (at : ℕ) where
   -- A part that is put back leaves the bank,
-  pub part-itself : withPartAt at (partAt at bank) bank ≡ bank
+  pub part-itself : withBankPart at (bankPart at bank) bank ≡ bank
   part-itself = ap (λ (registers : List Register). record { f = bank .f; id = bank .id; registers = registers }) (set-getD (bank .registers) at noRegister)
 
   -- any other the parts at other places,
-  pub part-elsewhere : (part : Replica) (other : ℕ) → (other ≡ at → ⊥) → partAt other (withPartAt at part bank) ≡ partAt other bank
+  pub part-elsewhere : (part : RegisterReplica) (other : ℕ) → (other ≡ at → ⊥) → bankPart other (withBankPart at part bank) ≡ bankPart other bank
   part-elsewhere part other apart =
       ap (λ (register : Register). record { f = bank .f; id = bank .id; register = register }) (getD-set-other (bank .registers) at other (part .register) noRegister apart)
 
   -- and is there itself.
-  pub part-there : (part : Replica) → at < length (bank .registers) → partAt at (withPartAt at part bank) .register ≡ part .register
+  pub part-there : (part : RegisterReplica) → at < length (bank .registers) → bankPart at (withBankPart at part bank) .register ≡ part .register
   part-there part inside = getD-set-same (bank .registers) at (part .register) noRegister inside
 
 -- ---- Which register a message is for
@@ -60,8 +60,8 @@ module _ (bytes verdicts : List ℕ) where
       (ap isRegister is ∙ passed .registered, register-last AtReplica bytes register message (passed .decodes))
 
   -- One that is not is refused whatever the register holds.
-  pub refused-alike : (replica : Replica) (n : ℕ) → admitted AtReplica (replica .f) bytes verdicts ≡ refused n → replicaStep replica bytes verdicts ≡ refused n
-  unfolding replicaStep
+  pub refused-alike : (replica : RegisterReplica) (n : ℕ) → admitted AtReplica (replica .f) bytes verdicts ≡ refused n → registerStep replica bytes verdicts ≡ refused n
+  unfolding registerStep
   refused-alike replica n e = rw e
 
   -- 2 to 11 let a message through, or not.
@@ -89,14 +89,14 @@ refused-output old n = go (roomy old)
 
 module _ (bank : Bank) (bytes verdicts old : List ℕ) where
   -- A refusal leaves bank and output as they were, wherever it is judged.
-  refused-back : (at n : ℕ) → putBack at bank (replicaAnswers (registerIn bytes) (partAt at bank) old (refused n)) ≡ record { answer = Refused n; bank = bank; output = old }
+  refused-back : (at n : ℕ) → putBack at bank (registerAnswers (registerIn bytes) (bankPart at bank) old (refused n)) ≡ record { answer = Refused n; bank = bank; output = old }
   refused-back at n = ap (λ (left : Bank). record { answer = Refused n; bank = left; output = old }) (part-itself bank at)
 
-  refused-at : (at n : ℕ) → replicaStep (partAt at bank) bytes verdicts ≡ refused n → bankCallAt at bank bytes verdicts old ≡ record { answer = Refused (cond (roomy old) n 1); bank = bank; output = old }
-  unfolding replicaCall
+  refused-at : (at n : ℕ) → registerStep (bankPart at bank) bytes verdicts ≡ refused n → bankCallAt at bank bytes verdicts old ≡ record { answer = Refused (cond (roomy old) n 1); bank = bank; output = old }
+  unfolding registerCall
   refused-at at n e =
-      ap (λ (step : Outcome Reply). putBack at bank (replicaAnswers (registerIn bytes) (partAt at bank) old (withOutput old step))) e
-      ∙ ap (λ (step : Outcome Reply). putBack at bank (replicaAnswers (registerIn bytes) (partAt at bank) old step)) (refused-output old n)
+      ap (λ (step : Outcome Reply). putBack at bank (registerAnswers (registerIn bytes) (bankPart at bank) old (withOutput old step))) e
+      ∙ ap (λ (step : Outcome Reply). putBack at bank (registerAnswers (registerIn bytes) (bankPart at bank) old step)) (refused-output old n)
       ∙ refused-back at (cond (roomy old) n 1)
 
   -- So a bank may look for the register in the last byte before the signature, without a test: it makes the same call.
@@ -107,16 +107,16 @@ module _ (bank : Bank) (bytes verdicts old : List ℕ) where
       go : Judged bytes verdicts (bank .f) → bankCallAt (registerPlace (lastRegister bytes)) bank bytes verdicts old ≡ bankCallAt (placeIn bytes) bank bytes verdicts old
       go (passes registered last) = ap (λ (register : RegisterId). bankCallAt (registerPlace register) bank bytes verdicts old) (sym last)
       go (fails n e) =
-          refused-at (registerPlace (lastRegister bytes)) n (refused-alike bytes verdicts (partAt (registerPlace (lastRegister bytes)) bank) n e)
-          ∙ sym (refused-at (placeIn bytes) n (refused-alike bytes verdicts (partAt (placeIn bytes) bank) n e))
+          refused-at (registerPlace (lastRegister bytes)) n (refused-alike bytes verdicts (bankPart (registerPlace (lastRegister bytes)) bank) n e)
+          ∙ sym (refused-at (placeIn bytes) n (refused-alike bytes verdicts (bankPart (placeIn bytes) bank) n e))
 
   -- ---- What a call leaves
 
   abbrev left : Bank
   left = bankCall bank bytes verdicts old .bank
 
-  abbrev single : ReplicaCall
-  single = replicaCall (partAt (placeIn bytes) bank) bytes verdicts old
+  abbrev single : RegisterCall
+  single = registerCall (bankPart (placeIn bytes) bank) bytes verdicts old
 
   pub f-kept : left .f ≡ bank .f
   unfolding bankCall
@@ -132,22 +132,22 @@ module _ (bank : Bank) (bytes verdicts old : List ℕ) where
   length-kept = length-set (bank .registers) _ (single .replica .register)
 
   -- "A message for one set leaves the other fifteen registers as they were": all places but the message's,
-  pub others-kept : (at : ℕ) → (at ≡ placeIn bytes → ⊥) → partAt at left ≡ partAt at bank
+  pub others-kept : (at : ℕ) → (at ≡ placeIn bytes → ⊥) → bankPart at left ≡ bankPart at bank
   unfolding bankCall
   others-kept at other = part-elsewhere bank (placeIn bytes) (single .replica) at other
 
   -- and all registers but the message's, which may be for none.
-  pub other-registers-kept : (register : RegisterId) → isRegister register ≡ true → (register ≡ registerIn bytes → ⊥) → partAt (registerPlace register) left ≡ partAt (registerPlace register) bank
+  pub other-registers-kept : (register : RegisterId) → isRegister register ≡ true → (register ≡ registerIn bytes → ⊥) → bankPart (registerPlace register) left ≡ bankPart (registerPlace register) bank
   unfolding bankCall
   other-registers-kept register registered other = go (judged bytes verdicts (bank .f))
     where
-      go : Judged bytes verdicts (bank .f) → partAt (registerPlace register) left ≡ partAt (registerPlace register) bank
+      go : Judged bytes verdicts (bank .f) → bankPart (registerPlace register) left ≡ bankPart (registerPlace register) bank
       go (passes known last) = others-kept (registerPlace register) (λ e. other (place-injective register (registerIn bytes) registered known e))
       go (fails n e) =
-          ap (λ (call : BankCall). partAt (registerPlace register) (call .bank)) (refused-at (placeIn bytes) n (refused-alike bytes verdicts (partAt (placeIn bytes) bank) n e))
+          ap (λ (call : BankCall). bankPart (registerPlace register) (call .bank)) (refused-at (placeIn bytes) n (refused-alike bytes verdicts (bankPart (placeIn bytes) bank) n e))
 
   -- The message's register is what its own step says, and so are answer and output.
-  pub register-stepped : length (bank .registers) ≡ 16 → partAt (placeIn bytes) left .register ≡ single .replica .register
+  pub register-stepped : length (bank .registers) ≡ 16 → bankPart (placeIn bytes) left .register ≡ single .replica .register
   unfolding bankCall
   register-stepped sixteen = part-there bank (placeIn bytes) (single .replica) (subst (λ (n : ℕ). placeIn bytes < n) (sym sixteen) (place-below _))
 
@@ -161,11 +161,11 @@ module _ (bank : Bank) (bytes verdicts old : List ℕ) where
 
   -- A refusal leaves all as it was.
   pub refusal-keeps : (n : ℕ) → bankCall bank bytes verdicts old .answer ≡ Refused n → (left ≡ bank) × (bankCall bank bytes verdicts old .output ≡ old)
-  unfolding bankCall replicaCall
-  refusal-keeps n e = go (withOutput old (replicaStep (partAt (placeIn bytes) bank) bytes verdicts)) e
+  unfolding bankCall registerCall
+  refusal-keeps n e = go (withOutput old (registerStep (bankPart (placeIn bytes) bank) bytes verdicts)) e
     where
-      go : (o : Outcome Reply) → replicaAnswers (registerIn bytes) (partAt (placeIn bytes) bank) old o .answer ≡ Refused n
-          → (withPartAt (placeIn bytes) (replicaAnswers (registerIn bytes) (partAt (placeIn bytes) bank) old o .replica) bank ≡ bank)
-          × (replicaAnswers (registerIn bytes) (partAt (placeIn bytes) bank) old o .output ≡ old)
+      go : (o : Outcome Reply) → registerAnswers (registerIn bytes) (bankPart (placeIn bytes) bank) old o .answer ≡ Refused n
+          → (withBankPart (placeIn bytes) (registerAnswers (registerIn bytes) (bankPart (placeIn bytes) bank) old o .replica) bank ≡ bank)
+          × (registerAnswers (registerIn bytes) (bankPart (placeIn bytes) bank) old o .output ≡ old)
       go (accepted reply) e = apart (cc)
       go (refused k) e = (part-itself bank (placeIn bytes), refl)

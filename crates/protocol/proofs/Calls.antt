@@ -13,14 +13,14 @@ use Rattle.base.specs.declared.party.ClientId.{ClientId}
 use Rattle.base.specs.declared.party.RegisterId.{RegisterId}
 use Rattle.wire.specs.Decode.{registerIn}
 use Rattle.wire.specs.Message.{longest}
-use Rattle.protocol.specs.Bank.{partAt, placeIn, bankStep, BankCall, putBack, bankCall}
+use Rattle.protocol.specs.Bank.{bankPart, placeIn, bankStep, BankCall, putBack, bankCall}
 use Rattle.protocol.specs.Client.{Turn, given, ClientCall, clientAnswers, beginWrite, beginRead, clientStep, beginWriteCall, beginReadCall, clientCall}
 use Rattle.protocol.specs.Events.{ReplicaEvent, ClientEvent, request-handed, write-begun, read-begun, reply-handed, replicaEventRegister, BankTurn, bankTurn, onReplicaEvent, replicaEventCall, nextBank, bankAnswer, givenByReplica, onClientEvent, clientEventCall, nextClient, clientAnswer, givenByClient}
-use Rattle.protocol.specs.Replica.{Reply, replicaAnswers, withOutput, replicaStep, ReplicaCall, replicaCall}
+use Rattle.protocol.specs.RegisterReplica.{Reply, registerAnswers, withOutput, registerStep, RegisterCall, registerCall}
 use Rattle.protocol.specs.Viewer.{viewerStep, viewerCall}
 use Rattle.protocol.specs.declared.client.Client.{Client}
 use Rattle.protocol.specs.declared.replica.Bank.{Bank}
-use Rattle.protocol.specs.declared.replica.Replica.{Replica}
+use Rattle.protocol.specs.declared.replica.RegisterReplica.{RegisterReplica}
 use Rattle.protocol.specs.declared.replica.ReplicaAnswer.the-variants.{Refused}
 use Rattle.protocol.proofs.BankFacts.{part-itself}
 
@@ -33,15 +33,15 @@ module _ {A : Type 0} (old : List ℕ) (next : Outcome A) where
 
 -- ---- A replica
 
-module _ (replica : Replica) (bytes verdicts old : List ℕ) where
+module _ (replica : RegisterReplica) (bytes verdicts old : List ℕ) where
   -- A call whose output is long enough does what the step says.
-  pub replica-takes : longest ≤ length old → replicaCall replica bytes verdicts old ≡ replicaAnswers (registerIn bytes) replica old (replicaStep replica bytes verdicts)
-  unfolding replicaCall
-  replica-takes h = ap (replicaAnswers (registerIn bytes) replica old) (long-output old (replicaStep replica bytes verdicts) h)
+  pub register-takes : longest ≤ length old → registerCall replica bytes verdicts old ≡ registerAnswers (registerIn bytes) replica old (registerStep replica bytes verdicts)
+  unfolding registerCall
+  register-takes h = ap (registerAnswers (registerIn bytes) replica old) (long-output old (registerStep replica bytes verdicts) h)
 
-  pub replica-short : length old < longest → replicaCall replica bytes verdicts old ≡ record { answer = Refused 1; replica = replica; output = old }
-  unfolding replicaCall
-  replica-short h = ap (replicaAnswers (registerIn bytes) replica old) (short-output old (replicaStep replica bytes verdicts) h)
+  pub register-short : length old < longest → registerCall replica bytes verdicts old ≡ record { answer = Refused 1; replica = replica; output = old }
+  unfolding registerCall
+  register-short h = ap (registerAnswers (registerIn bytes) replica old) (short-output old (registerStep replica bytes verdicts) h)
 
 -- ---- A client, each of its three calls, and what a viewing client hears
 
@@ -84,7 +84,7 @@ pub record ClientSays (before : Client) (old : List ℕ) (step : Outcome Turn) (
   pub gives : (register : RegisterId) → ((turn : Turn) → step ≡ accepted turn → turn .next .register ≡ register) → givenByClient made ≡ given register old (clientAnswer step)
 
 replica-says : (at : ℕ) (register : RegisterId) (before : Bank) (old : List ℕ) (step : Outcome Reply)
-    → ReplicaSays register before old (bankTurn at before step) (putBack at before (replicaAnswers register (partAt at before) old step))
+    → ReplicaSays register before old (bankTurn at before step) (putBack at before (registerAnswers register (bankPart at before) old step))
 replica-says at register before old (accepted reply) = record { leaves = refl; gives = refl }
 replica-says at register before old (refused number) = record { leaves = part-itself before at; gives = refl }
 
@@ -96,9 +96,9 @@ module _ (old : List ℕ) (long : longest ≤ length old) where
   pub replica-called : (e : ReplicaEvent) (before : Bank) → ReplicaSays (replicaEventRegister e) before old (onReplicaEvent e before) (replicaEventCall e old before)
   unfolding bankCall bankStep
   replica-called (request-handed bytes verdicts) before =
-      let part = partAt (placeIn bytes) before in
-      subst (λ (made : ReplicaCall). ReplicaSays (registerIn bytes) before old (bankTurn (placeIn bytes) before (replicaStep part bytes verdicts)) (putBack (placeIn bytes) before made))
-      (sym (replica-takes part bytes verdicts old long)) (replica-says (placeIn bytes) (registerIn bytes) before old (replicaStep part bytes verdicts))
+      let part = bankPart (placeIn bytes) before in
+      subst (λ (made : RegisterCall). ReplicaSays (registerIn bytes) before old (bankTurn (placeIn bytes) before (registerStep part bytes verdicts)) (putBack (placeIn bytes) before made))
+      (sym (register-takes part bytes verdicts old long)) (replica-says (placeIn bytes) (registerIn bytes) before old (registerStep part bytes verdicts))
 
   pub client-called : (id : ClientId) (e : ClientEvent) (before : Client) → ClientSays before old (onClientEvent id e before) (clientEventCall id e old before)
   client-called id e before = rw (client-event-takes before old long id e) (client-says before old (onClientEvent id e before))

@@ -23,7 +23,7 @@ use Rattle.protocol.specs.declared.client.Phase.{Phase}
 use Rattle.protocol.specs.declared.client.Phase.the-variants.{Idle, Stamps, Prepareds, Writtens, Cards, WriteBack}
 use Rattle.protocol.proofs.Built.{Built}
 use Rattle.protocol.proofs.Fit.{ClientFits, TimestampFits, LegalMessage}
-use Rattle.wire.proofs.Passed.{Passed}
+use Rattle.wire.proofs.Tests7To11.{Passed}
 use Rattle.wire.specs.Parts.{preparedTimestamp, preparedSigners}
 
 -- The written proofs of other registers than the operation's are as they were.

@@ -29,7 +29,7 @@ use Rattle.wire.proofs.card.Digests.{card-short}
 use Rattle.protocol.proofs.ClientKept.{beginning-fits}
 use Rattle.protocol.proofs.ClientReplies.{stamp-facts, prepared-facts, written-facts, card-facts}
 use Rattle.protocol.proofs.Fit.{ClientFits, LegalMessage}
-use Rattle.wire.proofs.Passed.{Passed}
+use Rattle.wire.proofs.Tests7To11.{Passed}
 use Rattle.protocol.proofs.ClientCases.{Begun, PhaseFits, as-read, as-view, ClientFacts}
 
 idle-phase : (phase : Phase) → isIdle phase ≡ true → phase ≡ Idle

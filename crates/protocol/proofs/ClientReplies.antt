@@ -39,7 +39,7 @@ use Rattle.protocol.proofs.ClientArrays.{digest-fits, signature-put, bu
 use Rattle.protocol.proofs.ClientCases.{Leaves, SameCard, NewFrom, betterCard, ClientCase, stamp-counted, stamps-enough, stamps-ended, prepared-counted, prepareds-enough, written-counted, writtens-enough, card-counted, cards-agree, cards-viewed, cards-differ, back-counted, back-enough, LegalAnswer, PhaseFits, Follows, as-read, as-view, ClientFacts}
 use Rattle.protocol.proofs.ClientKept.{Kept, itself-kept, phase-kept, digest-changed, signatures-changed, signers-changed, written-changed, Best, better-kept, better-card-kept}
 use Rattle.protocol.proofs.Fit.{Array, TimestampFits, WrittenKeptFits, ClientFits, LegalMessage}
-use Rattle.wire.proofs.Passed.{Passed}
+use Rattle.wire.proofs.Tests7To11.{Passed}
 
 -- ---- Messages that a client sends
 

@@ -22,13 +22,13 @@ use Rattle.wire.specs.Message.{PREPARE, WRITE, PREPARED, WRITTEN}
 use Rattle.wire.specs.Proof.{PreparedProof, WrittenProof}
 use Rattle.protocol.specs.Examples.{two, 1·2, 2·2, SlotHolds, Closed, first, oneGenuine, handed, Passes, WrittenClientFits, Examples}
 use Rattle.protocol.specs.Parts.{cardStands}
-use Rattle.protocol.specs.Replica.{heldTimestamp, slotCount, slotTimestamp, withWritten, withSlot, raised, slotIs, slotTakes, afterPrepare, afterWrite, isOwn, isTimestamp, withSlots, withHeld, answering, onRequest}
+use Rattle.protocol.specs.RegisterReplica.{heldTimestamp, slotCount, slotTimestamp, withWritten, withSlot, raised, slotIs, slotTakes, afterPrepare, afterWrite, isOwn, isTimestamp, withSlots, withHeld, answering, onRequest}
 use Rattle.protocol.specs.declared.replica.Held.{Held}
-use Rattle.protocol.specs.declared.replica.Replica.{Replica}
+use Rattle.protocol.specs.declared.replica.RegisterReplica.{RegisterReplica}
 use Rattle.protocol.specs.declared.replica.Slots.{Slots}
 use Rattle.base.proofs.Same.{same-itself, same-differ}
-use Rattle.wire.proofs.Admitted.{passed-admits}
-use Rattle.protocol.proofs.ReplicaFacts.{raised-rises}
+use Rattle.wire.proofs.AdmittedMessage.{passed-admits}
+use Rattle.protocol.proofs.RegisterFacts.{raised-rises}
 use Rattle.wire.specs.Parts.{preparedTimestamp, preparedTimestamp}
 
 -- ---- A PREPARE and a WRITE that passed their tests
@@ -48,7 +48,7 @@ module _ (client : ClientId) (timestamp : ℕ) (digest : List ℕ) (last : Optio
   unfolding afterPrepare guard
   prepare-refused e t = rw (e, t) refl
 
-prepare-tested : (replica : Replica) (register : RegisterId) (verdicts : List ℕ) (client : ClientId) (timestamp : ℕ) (digest : List ℕ) (proof : Option PreparedProof) (last : Option WrittenProof)
+prepare-tested : (replica : RegisterReplica) (register : RegisterId) (verdicts : List ℕ) (client : ClientId) (timestamp : ℕ) (digest : List ℕ) (proof : Option PreparedProof) (last : Option WrittenProof)
     (after : Outcome Slots) → Passes replica register verdicts (PREPARE client timestamp digest proof last) → isOwn client last ≡ true
     → isTimestamp timestamp (successor (ofNumber (preparedTimestamp proof)) client) ≡ true → afterPrepare client timestamp digest last (replica .register .slots) ≡ after
     → handed replica register verdicts (PREPARE client timestamp digest proof last)
@@ -56,7 +56,7 @@ prepare-tested : (replica : Replica) (register : RegisterId) (verdicts : List �
 unfolding onRequest guard
 prepare-tested replica register verdicts client timestamp digest proof last after passed own next e = rw (passed, own, next, e)
 
-write-tested : (replica : Replica) (register : RegisterId) (verdicts : List ℕ) (client : ClientId) (card : List ℕ) (proof : PreparedProof)
+write-tested : (replica : RegisterReplica) (register : RegisterId) (verdicts : List ℕ) (client : ClientId) (card : List ℕ) (proof : PreparedProof)
     → Passes replica register verdicts (WRITE client card proof) → cardStands card (some proof) ≡ true
     → handed replica register verdicts (WRITE client card proof) ≡ answering (WRITTEN (replica .id) (proof .timestamp)) (withHeld replica (afterWrite card proof (replica .register .held)))
 unfolding onRequest guard
@@ -64,7 +64,7 @@ write-tested replica register verdicts client card proof passed stands = rw (pas
 
 -- ---- The slot 1.2 of client 2
 
-first-passed : (replica : Replica) (register : RegisterId) (digest : List ℕ) → isRegister register ≡ true → Passes replica register oneGenuine (first digest)
+first-passed : (replica : RegisterReplica) (register : RegisterId) (digest : List ℕ) → isRegister register ≡ true → Passes replica register oneGenuine (first digest)
 unfolding oneEach all entriesOf within
 first-passed replica register digest registered =
     passed-admits (replica .f) oneGenuine register (first digest) refl refl registered
@@ -79,12 +79,12 @@ first-passed replica register digest registered =
       written-issued = refl;
     })
 
-first-answered : (replica : Replica) (register : RegisterId) (digest : List ℕ) (after : Outcome Slots) → isRegister register ≡ true → afterPrepare two 1·2 digest none (replica .register .slots) ≡ after
+first-answered : (replica : RegisterReplica) (register : RegisterId) (digest : List ℕ) (after : Outcome Slots) → isRegister register ≡ true → afterPrepare two 1·2 digest none (replica .register .slots) ≡ after
     → handed replica register oneGenuine (first digest) ≡ (after >>= λ slots. answering (PREPARED (replica .id) 1·2 digest) (withSlots replica slots))
 unfolding within
 first-answered replica register digest after registered e = prepare-tested replica register oneGenuine two 1·2 digest none none after (first-passed replica register digest registered) refl refl e
 
-module _ (replica : Replica) (register : RegisterId) (registered : isRegister register ≡ true) (a : List ℕ) (holds : SlotHolds (replica .register .slots) a) where
+module _ (replica : RegisterReplica) (register : RegisterId) (registered : isRegister register ≡ true) (a : List ℕ) (holds : SlotHolds (replica .register .slots) a) where
   again : WrittenClientFits replica → handed replica register oneGenuine (first a) ≡ answering (PREPARED (replica .id) 1·2 a) replica
   again fits =
       let old = replica .register .slots in

@@ -11,7 +11,7 @@ use Rattle.protocol.specs.Client.{writtenAt}
 use Rattle.protocol.specs.declared.client.Client.{Client}
 use Rattle.protocol.specs.declared.client.Written.{Written}
 use Rattle.protocol.specs.declared.replica.Held.{Held}
-use Rattle.protocol.specs.declared.replica.Replica.{Replica}
+use Rattle.protocol.specs.declared.replica.RegisterReplica.{RegisterReplica}
 use Rattle.protocol.specs.declared.replica.Slots.{Slots}
 
 abbrev pub TimestampFits : Timestamp → Type 0
@@ -33,7 +33,7 @@ pub record HeldFits (held : Held) : Type 0 where
   pub digest-fits : IsDigest (held .digest)
   pub entries-fit : Array 715 (held .entries)
 
-pub record ReplicaFits (replica : Replica) : Type 0 where
+pub record RegisterReplicaFits (replica : RegisterReplica) : Type 0 where
   pub id-fits : replica .id .0 < 256
   pub slots-fit : SlotsFit (replica .register .slots)
   pub held-fits : HeldFits (replica .register .held)

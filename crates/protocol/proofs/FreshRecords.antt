@@ -7,10 +7,10 @@ use Rattle.base.specs.Timestamp.{start}
 use Rattle.base.specs.declared.party.ClientId.{ClientId}
 use Rattle.base.specs.declared.party.ReplicaId.{ReplicaId}
 use Rattle.protocol.specs.Client.{noWritten, freshClient}
-use Rattle.protocol.specs.Replica.{freshRegister, freshReplica}
+use Rattle.protocol.specs.RegisterReplica.{freshRegister, freshRegisterReplica}
 use Rattle.protocol.specs.declared.client.Written.{Written}
 use Rattle.protocol.proofs.ArrayLaws.{bytes-zeros, zeros-fit}
-use Rattle.protocol.proofs.Fit.{SlotsFit, HeldFits, ReplicaFits, WrittenKeptFits, ClientFits}
+use Rattle.protocol.proofs.Fit.{SlotsFit, HeldFits, RegisterReplicaFits, WrittenKeptFits, ClientFits}
 
 fresh-slots-fit : SlotsFit (freshRegister .slots)
 unfolding freshRegister
@@ -28,7 +28,7 @@ fresh-held-fits : HeldFits (freshRegister .held)
 unfolding freshRegister
 fresh-held-fits = record { timestamp-fits = omega arith; card-fits = zeros-fit 17; digest-fits = zeros-fit 32; entries-fit = zeros-fit 715 }
 
-pub fresh-replica-fits : (f : ℕ) (id : ReplicaId) → id .0 < 256 → ReplicaFits (freshReplica f id)
+pub fresh-replica-fits : (f : ℕ) (id : ReplicaId) → id .0 < 256 → RegisterReplicaFits (freshRegisterReplica f id)
 fresh-replica-fits f id low = record { id-fits = low; slots-fit = fresh-slots-fit; held-fits = fresh-held-fits }
 
 abbrev unwritten : Written

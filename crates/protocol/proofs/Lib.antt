@@ -14,5 +14,5 @@ pub mod FreshRecords
 pub mod LastWritten
 pub mod MessageBytes
 pub mod OperationMessages
-pub mod ReplicaFacts
+pub mod RegisterFacts
 pub mod Towards

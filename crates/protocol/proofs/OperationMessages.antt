@@ -24,7 +24,7 @@ use Rattle.protocol.specs.Client.{Answer, send, waits, done, ended, Turn
 use Rattle.protocol.specs.Events.{write-begun, read-begun, reply-handed}
 use Rattle.protocol.specs.Viewer.{afterView, onViewerReply, viewerStep, viewerCall}
 use Rattle.protocol.specs.OperationMessages.{Call, sentBy, unlessBegun, sentAfter, sentIn, OperationMessages}
-use Rattle.protocol.specs.Replica.{withOutput}
+use Rattle.protocol.specs.RegisterReplica.{withOutput}
 use Rattle.protocol.specs.declared.client.Client.{Client}
 use Rattle.protocol.specs.declared.client.ClientAnswer.the-variants.{Send}
 use Rattle.protocol.specs.declared.client.Phase.{Phase}

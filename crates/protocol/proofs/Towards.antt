@@ -10,7 +10,7 @@ use Rattle.base.specs.declared.party.RegisterId.{RegisterId}
 use Rattle.wire.specs.Layout.{signature}
 use Rattle.wire.specs.Message.{Message, READ-STAMP, PREPARE, WRITE, READ, STAMP, PREPARED, WRITTEN, CARD}
 use Rattle.wire.specs.declared.message.Party.the-variants.{Client as AtClient}
-use Rattle.wire.proofs.Admitted.{Admitted, admitted-then}
+use Rattle.wire.proofs.AdmittedMessage.{Admitted, admitted-then}
 use Rattle.protocol.specs.Client.{Turn, withPhase, onStamp, onPrepared, onWritten, onCard, onReply, towards, clientStep}
 use Rattle.protocol.specs.Viewer.{onViewerReply, viewerStep}
 use Rattle.protocol.specs.declared.client.Client.{Client}

@@ -9,10 +9,10 @@ use Rattle.base.specs.ReplicaSet.{empty}
 use Rattle.base.specs.Timestamp.{start}
 use Rattle.base.specs.declared.party.ReplicaId.{ReplicaId}
 use Rattle.wire.specs.Decode.{registerIn}
-use Rattle.protocol.specs.Replica.{Reply, freshRegister, replicaStep, ReplicaCall, replicaCall}
+use Rattle.protocol.specs.RegisterReplica.{Reply, freshRegister, registerStep, RegisterCall, registerCall}
 use Rattle.protocol.specs.declared.replica.Bank.{Bank}
 use Rattle.protocol.specs.declared.replica.Register.{Register}
-use Rattle.protocol.specs.declared.replica.Replica.{Replica}
+use Rattle.protocol.specs.declared.replica.RegisterReplica.{RegisterReplica}
 use Rattle.protocol.specs.declared.replica.ReplicaAnswer.{ReplicaAnswer}
 
 -- What stands past the end of a bank's registers, where nothing is read: numbers are 0 and arrays have no elements, as in the code's view.
@@ -24,11 +24,11 @@ noRegister =
     }
 
 -- One register's part of a bank, by its place, and the bank with another part there.
-abbrev pub partAt : ℕ → Bank → Replica
-partAt at bank = record { f = bank .f; id = bank .id; register = getD (bank .registers) at noRegister }
+abbrev pub bankPart : ℕ → Bank → RegisterReplica
+bankPart at bank = record { f = bank .f; id = bank .id; register = getD (bank .registers) at noRegister }
 
-abbrev pub withPartAt : ℕ → Replica → Bank → Bank
-withPartAt at part bank = record { f = bank .f; id = bank .id; registers = set (bank .registers) at (part .register) }
+abbrev pub withBankPart : ℕ → RegisterReplica → Bank → Bank
+withBankPart at part bank = record { f = bank .f; id = bank .id; registers = set (bank .registers) at (part .register) }
 
 -- Sixteen fresh registers.
 abbrev pub freshBank : ℕ → ReplicaId → Bank
@@ -53,7 +53,7 @@ placeIn bytes = registerPlace (registerIn bytes)
 
 -- A replica is handed bytes with verdicts.
 unfoldable pub bankStep : Bank → List ℕ → List ℕ → Outcome Reply
-bankStep bank bytes verdicts = replicaStep (partAt (placeIn bytes) bank) bytes verdicts
+bankStep bank bytes verdicts = registerStep (bankPart (placeIn bytes) bank) bytes verdicts
 
 -- ---- The call
 
@@ -64,11 +64,11 @@ pub record BankCall : Type 0 where
   pub output : List ℕ
 
 -- The call of one register's part, put back at its place.
-abbrev pub putBack : ℕ → Bank → ReplicaCall → BankCall
-putBack at bank call = record { answer = call .answer; bank = withPartAt at (call .replica) bank; output = call .output }
+abbrev pub putBack : ℕ → Bank → RegisterCall → BankCall
+putBack at bank call = record { answer = call .answer; bank = withBankPart at (call .replica) bank; output = call .output }
 
 abbrev pub bankCallAt : ℕ → Bank → List ℕ → List ℕ → List ℕ → BankCall
-bankCallAt at bank bytes verdicts old = putBack at bank (replicaCall (partAt at bank) bytes verdicts old)
+bankCallAt at bank bytes verdicts old = putBack at bank (registerCall (bankPart at bank) bytes verdicts old)
 
 unfoldable pub bankCall : Bank → List ℕ → List ℕ → List ℕ → BankCall
 bankCall bank bytes verdicts old = bankCallAt (placeIn bytes) bank bytes verdicts old

@@ -8,9 +8,9 @@ use Rattle.base.specs.Party.{isWriter}
 use Rattle.base.specs.declared.party.ClientId.{ClientId}
 use Rattle.base.specs.declared.party.RegisterId.{RegisterId}
 use Rattle.wire.specs.Decode.{registerIn}
-use Rattle.protocol.specs.Bank.{withPartAt, placeIn, bankStep, BankCall, bankCall}
+use Rattle.protocol.specs.Bank.{withBankPart, placeIn, bankStep, BankCall, bankCall}
 use Rattle.protocol.specs.Client.{Answer, send, Turn, madeClient, beginWrite, beginRead, clientStep, Given, giving, ClientCall, beginWriteCall, beginReadCall, clientCall}
-use Rattle.protocol.specs.Replica.{Reply}
+use Rattle.protocol.specs.RegisterReplica.{Reply}
 use Rattle.protocol.specs.Viewer.{madeViewer, viewerStep, viewerCall}
 use Rattle.protocol.specs.declared.client.Client.{Client}
 use Rattle.protocol.specs.declared.client.ClientAnswer.{ClientAnswer}
@@ -48,7 +48,7 @@ pub record BankTurn : Type 0 where
 
 -- A register's reply is to send, and its part goes back to its place.
 abbrev pub bankTurn : ℕ → Bank → Outcome Reply → Outcome BankTurn
-bankTurn at before (accepted reply) = accepted (record { answer = send (reply .message); next = withPartAt at (reply .next) before })
+bankTurn at before (accepted reply) = accepted (record { answer = send (reply .message); next = withBankPart at (reply .next) before })
 bankTurn at before (refused number) = refused number
 
 -- The step of an event, and its call.

@@ -16,8 +16,8 @@ use Rattle.wire.specs.Decode.{forRegister}
 use Rattle.wire.specs.Message.{Message, PREPARE, WRITE, PREPARED, WRITTEN}
 use Rattle.wire.specs.Proof.{PreparedProof, WrittenProof}
 use Rattle.protocol.specs.Parts.{cardStands}
-use Rattle.protocol.specs.Replica.{Reply, heldTimestamp, slotDigest, slotTimestamp, withWritten, withSlot, raised, isOwn, withSlots, answering, onRequest}
-use Rattle.protocol.specs.declared.replica.Replica.{Replica}
+use Rattle.protocol.specs.RegisterReplica.{Reply, heldTimestamp, slotDigest, slotTimestamp, withWritten, withSlot, raised, isOwn, withSlots, answering, onRequest}
+use Rattle.protocol.specs.declared.replica.RegisterReplica.{RegisterReplica}
 use Rattle.protocol.specs.declared.replica.Slots.{Slots}
 
 -- The timestamp written count.client.
@@ -53,15 +53,15 @@ abbrev pub oneGenuine : List ℕ
 oneGenuine = 1 ∷ []
 
 -- A replica is handed a message for a register: 6 to 11, and what follows.
-abbrev pub handed : Replica → RegisterId → List ℕ → Message → Outcome Reply
+abbrev pub handed : RegisterReplica → RegisterId → List ℕ → Message → Outcome Reply
 handed replica register verdicts message = admits (replica .f) verdicts (forRegister register message) >>= λ sent. onRequest replica (sent .1)
 
 -- A message that passes 6 to 11.
-abbrev pub Passes : Replica → RegisterId → List ℕ → Message → Type 0
+abbrev pub Passes : RegisterReplica → RegisterId → List ℕ → Message → Type 0
 Passes replica register verdicts message = admits (replica .f) verdicts (forRegister register message) ≡ accepted (forRegister register message)
 
 -- The written timestamp's client is a byte, as it is in the record of the code.
-abbrev pub WrittenClientFits : Replica → Type 0
+abbrev pub WrittenClientFits : RegisterReplica → Type 0
 WrittenClientFits replica = replica .register .slots .written .client .0 < 256
 
 pub record Examples : Type 0 where
@@ -83,17 +83,17 @@ pub record Examples : Type 0 where
   pub H : (isCard (0x00 ∷ 0x20 ∷ 0x04 ∷ []) ≡ true) × (isCard (0x00 ∷ 0x20 ∷ 0x05 ∷ []) ≡ false)
   -- I to K hold of each of the sixteen registers (document 02, #103).
   -- "line 1.2 open with digest a: 1.2 a PREPARED, 1.2 b refused 15."
-  pub I : (replica : Replica) (register : RegisterId) (a b : List ℕ) → isRegister register ≡ true → (a ≡ b → ⊥) → WrittenClientFits replica
+  pub I : (replica : RegisterReplica) (register : RegisterId) (a b : List ℕ) → isRegister register ≡ true → (a ≡ b → ⊥) → WrittenClientFits replica
       → SlotHolds (replica .register .slots) a → Open (replica .register .slots)
       → (handed replica register oneGenuine (first a) ≡ answering (PREPARED (replica .id) 1·2 a) replica) × (handed replica register oneGenuine (first b) ≡ refused 15)
   -- "the same line closed: 2.2 taken, 1.2 b still 15." 2.2 comes with a prepared proof of a timestamp of count 1, which passed 6 to 12.
-  pub J : (replica : Replica) (register : RegisterId) (a b : List ℕ) → isRegister register ≡ true → (a ≡ b → ⊥) → SlotHolds (replica .register .slots) a → Closed (replica .register .slots)
+  pub J : (replica : RegisterReplica) (register : RegisterId) (a b : List ℕ) → isRegister register ≡ true → (a ≡ b → ⊥) → SlotHolds (replica .register .slots) a → Closed (replica .register .slots)
       → ((digest : List ℕ) (proof : PreparedProof) (last : Option WrittenProof) (verdicts : List ℕ) → proof .timestamp / 256 ≡ 1
       → Passes replica register verdicts (PREPARE two 2·2 digest (some proof) last) → isOwn two last ≡ true
       → handed replica register verdicts (PREPARE two 2·2 digest (some proof) last)
       ≡ answering (PREPARED (replica .id) 2·2 digest) (withSlots replica (withWritten (raised last (replica .register .slots)) (withSlot two 2·2 digest (replica .register .slots)))))
       × (handed replica register oneGenuine (first b) ≡ refused 15)
   -- "WRITE of the held stamp: WRITTEN, record kept." From any client, with a proof and a card that passed 6 to 11 and 14.
-  pub K : (replica : Replica) (register : RegisterId) (client : ClientId) (card : List ℕ) (proof : PreparedProof) (verdicts : List ℕ)
+  pub K : (replica : RegisterReplica) (register : RegisterId) (client : ClientId) (card : List ℕ) (proof : PreparedProof) (verdicts : List ℕ)
       → Passes replica register verdicts (WRITE client card proof) → cardStands card (some proof) ≡ true → proof .timestamp ≡ heldTimestamp (replica .register .held)
       → handed replica register verdicts (WRITE client card proof) ≡ answering (WRITTEN (replica .id) (proof .timestamp)) replica

@@ -4,5 +4,5 @@ pub mod Events
 pub mod Examples
 pub mod OperationMessages
 pub mod Parts
-pub mod Replica
+pub mod RegisterReplica
 pub mod Viewer

@@ -10,7 +10,7 @@ use Rattle.wire.specs.Message.{Message, READ-STAMP, PREPARE, WRITE, READ, STAMP
 use Rattle.wire.specs.declared.message.Party.the-variants.{Client as AtClient}
 use Rattle.protocol.specs.Client.{freshClient, clientIfSetUp, done, Turn, turn, currentCard, withPhase, AfterCards, onCard, unawaited, towards, ClientCall, clientAnswers}
 use Rattle.protocol.specs.Parts.{cardStands}
-use Rattle.protocol.specs.Replica.{withOutput}
+use Rattle.protocol.specs.RegisterReplica.{withOutput}
 use Rattle.protocol.specs.declared.client.Client.{Client}
 use Rattle.protocol.specs.declared.client.Phase.the-variants.{Idle}
 

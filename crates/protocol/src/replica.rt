@@ -42,7 +42,7 @@ pub struct Register {
 
 // One register's part of a replica: what the single register's step works on.
 #[repr(C)]
-pub struct Replica {
+pub struct RegisterReplica {
     pub f: u8,
     pub id: ReplicaId,
     pub register: Register,

@@ -15,15 +15,15 @@ use Rattle.base.proofs.Registers.{place-below}
 use Rattle.wire.specs.Message.{Message, READ-STAMP, READ, STAMP, WRITTEN, CARD}
 use Rattle.wire.specs.Proof.{PreparedProof}
 use Rattle.protocol.specs.Client.{send}
-use Rattle.protocol.specs.Replica.{heldTimestamp, heldProof, freshRegister}
-use Rattle.protocol.specs.declared.replica.Replica.{Replica}
+use Rattle.protocol.specs.RegisterReplica.{heldTimestamp, heldProof, freshRegister}
+use Rattle.protocol.specs.declared.replica.RegisterReplica.{RegisterReplica}
 use Rattle.run.specs.Premises.{Premises}
 use Rattle.run.specs.Vouching.{SignersOfHeld}
 use Rattle.wire.specs.Acceptance.{replica, client}
 use Rattle.run.specs.Run.{Run, bankAt, registerAt, Said}
 use Rattle.protocol.proofs.BankFacts.{fresh-part}
-use Rattle.protocol.proofs.ReplicaFacts.{SignersHeld, held-shown}
-use Rattle.run.proofs.Turns.{ReplicaTurn, rests, steps, replica-turn, replica-step}
+use Rattle.protocol.proofs.RegisterFacts.{SignersHeld, held-shown}
+use Rattle.run.proofs.Turns.{RegisterTurn, rests, steps, register-turn, register-step}
 use Rattle.run.proofs.SentMessages.{said-answers, step-said}
 use Rattle.wire.specs.Parts.{preparedTimestamp}
 
@@ -34,9 +34,9 @@ module _ (R : Run) (x : RegisterId) where
 
   module _ (id : ReplicaId) (c : R .correct-replica id ≡ true) where
     held-step : (t : ℕ) → held id t ≤ held id (suc t)
-    held-step t = go (replica-turn R x id c t)
+    held-step t = go (register-turn R x id c t)
       where
-        go : ReplicaTurn R x id t → held id t ≤ held id (suc t)
+        go : RegisterTurn R x id t → held id t ≤ held id (suc t)
         go (rests same silent) = rw same (omega arith)
         go (steps s) = rw (s .next-is) (s .facts .held-rises)
 
@@ -50,7 +50,7 @@ module _ (R : Run) (x : RegisterId) where
     -- A replica that sent WRITTEN holds that timestamp or a later one.
     pub written-held : (t s : ℕ) → Said R x (replica id) (WRITTEN id s) t → s ≤ held id t
     written-held t s e =
-        let step = replica-step R x id c (e .time) (send (WRITTEN id s)) (said-answers R x id (WRITTEN id s) t e) in
+        let step = register-step R x id c (e .time) (send (WRITTEN id s)) (said-answers R x id (WRITTEN id s) t e) in
         let same : step .reply .message ≡ WRITTEN id s = cc (step .answer-is, e .answered) in
         let then : s ≤ held id (suc (e .time)) = rw (step .next-is) (step .facts .written-sent id s same .1) in
         let since = held-rises (suc (e .time)) t (e .earlier) in
@@ -59,10 +59,10 @@ module _ (R : Run) (x : RegisterId) where
   -- In every run, whatever verdicts were handed over.
   pub signers-of-held : SignersOfHeld R x
   unfolding bankAt freshRegister
-  signers-of-held id c zero = subst (λ (part : Replica). SignersHeld (part .register .held)) (sym (fresh-part (R .f) id (registerPlace x) (place-below x))) refl
-  signers-of-held id c (suc t) = go (replica-turn R x id c t) (signers-of-held id c t)
+  signers-of-held id c zero = subst (λ (part : RegisterReplica). SignersHeld (part .register .held)) (sym (fresh-part (R .f) id (registerPlace x) (place-below x))) refl
+  signers-of-held id c (suc t) = go (register-turn R x id c t) (signers-of-held id c t)
     where
-      go : ReplicaTurn R x id t → SignersHeld (registerAt R x id t .held) → SignersHeld (registerAt R x id (suc t) .held)
+      go : RegisterTurn R x id t → SignersHeld (registerAt R x id t .held) → SignersHeld (registerAt R x id (suc t) .held)
       go (rests same silent) was = rw same was
       go (steps s) was = rw (s .next-is) (s .facts .signers-held was)
 
@@ -80,7 +80,7 @@ module _ (R : Run) (x : RegisterId) where
     pub stamp-showed : Said R x (replica id) (STAMP id nonce proof by) t → Showed id t (READ-STAMP by nonce) by (preparedTimestamp proof)
     stamp-showed e =
         let a = said-answers R x id (STAMP id nonce proof by) t e in
-        let step = replica-step R x id c (e .time) (send (STAMP id nonce proof by)) a in
+        let step = register-step R x id c (e .time) (send (STAMP id nonce proof by)) a in
         let same : step .reply .message ≡ STAMP id nonce proof by = cc (step .answer-is, e .answered) in
         let q = step .facts .stamp-sent id nonce proof by same in
         record { time = e .time; earlier = e .earlier; shows = shown-held (e .time) (q .1); asked = step-said R P x id (e .time) step (send (STAMP id nonce proof by)) a (READ-STAMP by nonce) (q .2) c′ }
@@ -88,7 +88,7 @@ module _ (R : Run) (x : RegisterId) where
     pub card-showed : (card : List ℕ) → Said R x (replica id) (CARD id nonce card proof by) t → Showed id t (READ by nonce) by (preparedTimestamp proof)
     card-showed card e =
         let a = said-answers R x id (CARD id nonce card proof by) t e in
-        let step = replica-step R x id c (e .time) (send (CARD id nonce card proof by)) a in
+        let step = register-step R x id c (e .time) (send (CARD id nonce card proof by)) a in
         let same : step .reply .message ≡ CARD id nonce card proof by = cc (step .answer-is, e .answered) in
         let q = step .facts .card-sent id nonce card proof by same in
         record { time = e .time; earlier = e .earlier; shows = shown-held (e .time) (q .1); asked = step-said R P x id (e .time) step (send (CARD id nonce card proof by)) a (READ by nonce) (q .2) c′ }

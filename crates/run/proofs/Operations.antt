@@ -39,7 +39,7 @@ use Rattle.protocol.specs.declared.client.Phase.the-variants.{Idle, Stamps, Pre
 use Rattle.protocol.proofs.Built.{Built}
 use Rattle.protocol.proofs.ClientArrays.{best-least}
 use Rattle.protocol.proofs.Fit.{TimestampFits}
-use Rattle.wire.proofs.Passed.{Passed}
+use Rattle.wire.proofs.Tests7To11.{Passed}
 use Rattle.protocol.proofs.ClientCases.{Leaves, betterCard, betterSigners, PhaseFits, ClientCase, stamp-counted, stamps-enough, stamps-ended, prepared-counted, prepareds-enough, written-counted, writtens-enough, card-counted, cards-agree, cards-viewed, cards-differ, back-counted, back-enough}
 use Rattle.run.specs.Claims.{NotDone}
 use Rattle.run.specs.Premises.{CardOfRun, Premises}

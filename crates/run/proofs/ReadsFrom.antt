@@ -16,12 +16,12 @@ use Rattle.wire.specs.Acceptance.{client}
 use Rattle.wire.specs.Message.{PREPARE, PREPARED}
 use Rattle.wire.specs.Sha256.{sha256}
 use Rattle.protocol.specs.Client.{send}
-use Rattle.protocol.proofs.ReplicaFacts.{clientOf}
+use Rattle.protocol.proofs.RegisterFacts.{clientOf}
 use Rattle.run.specs.ReadsFrom.{Write, CarriesCorrect, ReadsFrom}
 use Rattle.run.specs.Claims.{Finished}
 use Rattle.run.specs.Premises.{Premises}
 use Rattle.run.specs.Run.{Run, Said}
-use Rattle.run.proofs.Turns.{same-client, correct-client-range, Answers, ReplicaStep, replica-step}
+use Rattle.run.proofs.Turns.{same-client, correct-client-range, Answers, RegisterStep, register-step}
 use Rattle.run.proofs.SentMessages.{said-answers, step-said}
 use Rattle.run.proofs.Slots.{Backed, meet}
 use Rattle.run.proofs.Operations.{Shown}
@@ -35,7 +35,7 @@ module _ (R : Run) (x : RegisterId) (P : Premises R) where
     time : ℕ
     earlier : time < t
     by : ReplicaId
-    step : ReplicaStep R x by time
+    step : RegisterStep R x by time
     answers : Answers R x by time (send (PREPARED by s d))
     sends : step .reply .message ≡ PREPARED by s d
 
@@ -44,7 +44,7 @@ module _ (R : Run) (x : RegisterId) (P : Premises R) where
       let one = meet R (P .few-faulty) (has who) (has who) (b .enough) (b .enough) in
       let said = b .signed (one .at) (one .in-p) (one .in-r) in
       let answers = said-answers R x (one .at) (PREPARED (one .at) s d) t said in
-      let step = replica-step R x (one .at) (one .in-r) (said .time) (send (PREPARED (one .at) s d)) answers in
+      let step = register-step R x (one .at) (one .in-r) (said .time) (send (PREPARED (one .at) s d)) answers in
       record { time = said .time; earlier = said .earlier; by = one .at; step = step; answers = answers; sends = cc (step .answer-is, said .answered) }
 
   backed-writer : (t s : ℕ) (d : List ℕ) (who : ReplicaSet) → Backed R x t s d who → isWriter (clientOf s) ≡ true

@@ -33,7 +33,7 @@ use Rattle.run.specs.Premises.{TrueVerdicts, TrueFor, TrueAt, Premises}
 use Rattle.wire.specs.Acceptance.{senderOf, Sender, replica, client}
 use Rattle.run.specs.Run.{Event, begins-write, begins-read, to-replica, to-client, registerOf, Run, event, clientAt, answerAt, At, Correct, Said, Sent}
 use Rattle.run.proofs.Bodies.{covered}
-use Rattle.run.proofs.Turns.{same-replica, Answers, ReplicaStep, replica-step, step-register, ClientTurn, rested, wrote, asked, heard, client-turn, Heard}
+use Rattle.run.proofs.Turns.{same-replica, Answers, RegisterStep, register-step, step-register, ClientTurn, rested, wrote, asked, heard, client-turn, Heard}
 
 module _ (R : Run) where
   pub said-later : (x : RegisterId) (party : Sender) (message : Message) (t t′ : ℕ) → t ≤ t′ → Said R x party message t → Said R x party message t′
@@ -49,7 +49,7 @@ module _ (R : Run) where
   -- What a correct party sends is legal, for the register of its event.
   pub sent-legal : (party : Sender) → Correct R party → (t : ℕ) (message : Message) (at : At R t party) → answerAt R t ≡ accepted (send message) → Legal (registerOf (at .0)) message
   sent-legal (replica id) c t m at a =
-      let s = replica-step R (registerOf (at .0)) id c t (send m) (at, refl, a) in
+      let s = register-step R (registerOf (at .0)) id c t (send m) (at, refl, a) in
       let same : s .reply .message ≡ m = cc (s .answer-is) in
       let small = decoded-register AtReplica (s .bytes) (registerIn (s .bytes)) (s .message) (s .admitted .decodes) (R .have-bytes t (to-replica id (s .bytes) (s .verdicts)) (s .event-is)) in
       subst LegalMessage same (s .facts .legal) (registerOf (at .0)) (subst (λ (x : RegisterId). x .0 < 256) (step-register R (registerOf (at .0)) id t s (send m) (at, refl, a)) small)
@@ -145,7 +145,7 @@ module _ (R : Run) where
             (subst (λ (b : List ℕ). Sent R (senderOf (h .message)) b t) (covered AtClient (h .bytes) (clientAt R id t .register) (h .message) small (h .admitted .decodes)) sent)
 
     -- So was the message that a replica takes, for the register that it is for.
-    pub step-said : (x : RegisterId) (id : ReplicaId) (t : ℕ) (s : ReplicaStep R x id t) (answer : Answer) → Answers R x id t answer → (m : Message) → s .message ≡ m
+    pub step-said : (x : RegisterId) (id : ReplicaId) (t : ℕ) (s : RegisterStep R x id t) (answer : Answer) → Answers R x id t answer → (m : Message) → s .message ≡ m
         → Correct R (senderOf m) → Said R x (senderOf m) m t
     unfolding TrueAt
     step-said x id t s answer a m e c =

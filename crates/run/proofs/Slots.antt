@@ -33,15 +33,15 @@ use Rattle.wire.specs.Signatures.{Signature, signedBy, preparedSignatures, sign
 use Rattle.wire.proofs.ProofBytes.{proof-rewritten}
 use Rattle.wire.proofs.SignerSets.{shaped-signers, shaped-count}
 use Rattle.protocol.specs.Client.{send}
-use Rattle.protocol.specs.Replica.{slotCount, slotDigest}
+use Rattle.protocol.specs.RegisterReplica.{slotCount, slotDigest}
 use Rattle.protocol.specs.declared.replica.Slots.{Slots}
-use Rattle.wire.proofs.Passed.{Passed}
-use Rattle.protocol.proofs.ReplicaFacts.{clientOf, SlotRises, prepared-legal}
+use Rattle.wire.proofs.Tests7To11.{Passed}
+use Rattle.protocol.proofs.RegisterFacts.{clientOf, SlotRises, prepared-legal}
 use Rattle.run.specs.Claims.{Genuine, OneDigest}
 use Rattle.run.specs.Premises.{TrueVerdicts, FewFaulty, Premises}
 use Rattle.wire.specs.Acceptance.{replica}
 use Rattle.run.specs.Run.{Run, registerAt, clientAt, answerAt, Said, Sent}
-use Rattle.run.proofs.Turns.{correct-replica-range, Answers, ReplicaTurn, rests, steps, replica-turn, ReplicaStep, replica-step, Heard}
+use Rattle.run.proofs.Turns.{correct-replica-range, Answers, RegisterTurn, rests, steps, register-turn, RegisterStep, register-step, Heard}
 use Rattle.run.proofs.SentMessages.{said-later, said-answers, said, front-true, rest-true, entry-sent, heard-true, heard-legal}
 
 -- An event before the next one is this one or an earlier one.
@@ -88,7 +88,7 @@ carried-signatures x s d (entry ∷ entries) =
 
 module _ (R : Run) (x : RegisterId) where
   -- What a step that sent PREPARED left in the slot.
-  prepared-step : (id : ReplicaId) (t s : ℕ) (d : List ℕ) (step : ReplicaStep R x id t) → answerAt R t ≡ accepted (send (PREPARED id s d))
+  prepared-step : (id : ReplicaId) (t s : ℕ) (d : List ℕ) (step : RegisterStep R x id t) → answerAt R t ≡ accepted (send (PREPARED id s d))
       → (isWriter (clientOf s) ≡ true) × (slotCount (registerAt R x id (suc t) .slots) (clientOf s) ≡ s / 256) × (slotDigest (registerAt R x id (suc t) .slots) (clientOf s) ≡ d)
   prepared-step id t s d step a =
       let same : step .reply .message ≡ PREPARED id s d = cc (step .answer-is) in
@@ -98,12 +98,12 @@ module _ (R : Run) (x : RegisterId) where
   -- A replica's slot keeps what it sent PREPARED for, or a later timestamp.
   slots : (id : ReplicaId) → R .correct-replica id ≡ true → (t s : ℕ) (d : List ℕ) → isWriter (clientOf s) ≡ true → Said R x (replica id) (PREPARED id s d) t → Has (registerAt R x id t .slots) s d
   slots id c zero s d own e = let l = e .earlier in absurd (omega arith)
-  slots id c (suc t) s d own e = go (λ k. slots id c t s d own k) (replica-turn R x id c t)
+  slots id c (suc t) s d own e = go (λ k. slots id c t s d own k) (register-turn R x id c t)
     where
       before : e .time < t → Said R x (replica id) (PREPARED id s d) t
       before l = record { time = e .time; earlier = l; by = e .by; register-is = e .register-is; answered = e .answered }
 
-      go : (Said R x (replica id) (PREPARED id s d) t → Has (registerAt R x id t .slots) s d) → ReplicaTurn R x id t → Has (registerAt R x id (suc t) .slots) s d
+      go : (Said R x (replica id) (PREPARED id s d) t → Has (registerAt R x id t .slots) s d) → RegisterTurn R x id t → Has (registerAt R x id (suc t) .slots) s d
       go ih (rests same silent) =
           split-last (e .time) t (e .earlier)
           (λ z. absurd (silent (send (PREPARED id s d)) (subst (λ (u : ℕ). Answers R x id u (send (PREPARED id s d))) z (said-answers R x id (PREPARED id s d) (suc t) e))))
@@ -117,7 +117,7 @@ module _ (R : Run) (x : RegisterId) where
   module _ (id : ReplicaId) (c : R .correct-replica id ≡ true) (s : ℕ) (d d′ : List ℕ) where
     one-ordered : (t : ℕ) (e : Said R x (replica id) (PREPARED id s d) t) (e′ : Said R x (replica id) (PREPARED id s d′) t) → e .time ≤ e′ .time → d ≡ d′
     one-ordered t e e′ l =
-        let step = replica-step R x id c (e′ .time) (send (PREPARED id s d′)) (said-answers R x id (PREPARED id s d′) t e′) in
+        let step = register-step R x id c (e′ .time) (send (PREPARED id s d′)) (said-answers R x id (PREPARED id s d′) t e′) in
         let left = prepared-step id (e′ .time) s d′ step (e′ .answered) in
         go left (slots id c (suc (e′ .time)) s d (left .0) (record { time = e .time; earlier = omega arith; by = e .by; register-is = e .register-is; answered = e .answered }))
       where

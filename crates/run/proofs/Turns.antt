@@ -21,32 +21,32 @@ use Rattle.base.proofs.Registers.{place-below}
 use Rattle.wire.specs.Decode.{registerIn}
 use Rattle.wire.specs.Layout.{signature}
 use Rattle.wire.specs.Message.{Message, READ-STAMP, READ}
-use Rattle.wire.proofs.Admitted.{Admitted, admitted-then}
+use Rattle.wire.proofs.AdmittedMessage.{Admitted, admitted-then}
 use Rattle.wire.proofs.OneForm.{found-register, decoded-fits, decoded-signature}
 use Rattle.wire.specs.declared.message.Party.the-variants.{Replica as AtReplica, Client as AtClient}
 use Rattle.base.specs.ReplicaSet.{empty}
 use Rattle.base.specs.Timestamp.{start}
 use Rattle.protocol.specs.Parts.{startCard}
-use Rattle.protocol.specs.Bank.{partAt, withPartAt, freshBank, placeIn, bankStep}
+use Rattle.protocol.specs.Bank.{bankPart, withBankPart, freshBank, placeIn, bankStep}
 use Rattle.protocol.specs.Client.{Answer, send, Turn, beginWrite, beginRead, onReply, clientStep}
-use Rattle.protocol.specs.Replica.{Reply, freshRegister, onRequest, replicaStep}
+use Rattle.protocol.specs.RegisterReplica.{Reply, freshRegister, onRequest, registerStep}
 use Rattle.protocol.specs.Viewer.{onViewerReply, viewerStep}
 use Rattle.protocol.specs.declared.client.Client.{Client}
 use Rattle.protocol.specs.declared.client.Phase.{Phase}
 use Rattle.protocol.specs.declared.client.Phase.the-variants.{Stamps, Cards}
 use Rattle.protocol.specs.declared.replica.Bank.{Bank}
 use Rattle.protocol.specs.declared.replica.Register.{Register}
-use Rattle.protocol.specs.declared.replica.Replica.{Replica}
+use Rattle.protocol.specs.declared.replica.RegisterReplica.{RegisterReplica}
 use Rattle.protocol.proofs.BankFacts.{fresh-part, part-elsewhere, part-there}
-use Rattle.protocol.proofs.Fit.{SlotsFit, HeldFits, ReplicaFits, ClientFits}
+use Rattle.protocol.proofs.Fit.{SlotsFit, HeldFits, RegisterReplicaFits, ClientFits}
 use Rattle.protocol.proofs.FreshRecords.{fresh-replica-fits, fresh-client-fits}
-use Rattle.protocol.proofs.ReplicaFacts.{ReplicaFacts, replica-facts}
+use Rattle.protocol.proofs.RegisterFacts.{RegisterFacts, register-facts}
 use Rattle.protocol.proofs.ClientCases.{Begun, PhaseFits, ClientFacts}
 use Rattle.protocol.proofs.ClientFacts.{begins-write as begins-write-facts, begins-read as begins-read-facts, client-facts, viewer-facts}
 use Rattle.protocol.proofs.Towards.{client-takes, viewer-takes}
 use Rattle.wire.specs.Acceptance.{Sender, replica, client}
 use Rattle.protocol.specs.Events.{ClientEvent, request-handed, write-begun, read-begun, reply-handed, bankTurn, nextBank, bankAnswer, handedStep, onClientEvent, nextClient, clientAnswer}
-use Rattle.run.specs.Run.{Event, at-replica, at-client, begins-write, begins-read, to-replica, to-client, Run, partyOf, registerOf, event, bankAt, replicaAt, registerAt, clientAt, answerTo, answerAt, At}
+use Rattle.run.specs.Run.{Event, at-replica, at-client, begins-write, begins-read, to-replica, to-client, Run, partyOf, registerOf, event, bankAt, registerReplicaAt, registerAt, clientAt, answerTo, answerAt, At}
 
 -- Ids are told by their numbers.
 pub same-replica : (a b : ReplicaId) → a .0 ≡ b .0 → a ≡ b
@@ -80,7 +80,7 @@ module _ (R : Run) where
     pub f-is : before .f ≡ R .f
     pub id-is : before .id ≡ id
     pub long : length (before .registers) ≡ 16
-    pub fit : (at : ℕ) → at < 16 → ReplicaFits (partAt at before)
+    pub fit : (at : ℕ) → at < 16 → RegisterReplicaFits (bankPart at before)
 
   -- A replica takes a message: its register steps, and is put back.
   record BankStep (id : ReplicaId) (t : ℕ) : Type 0 where
@@ -90,9 +90,9 @@ module _ (R : Run) where
     reply : Reply
     event-is : event R t ≡ some (to-replica id bytes verdicts)
     admitted : Admitted AtReplica (bankAt R id t .f) bytes verdicts (registerIn bytes) message
-    stepped : onRequest (partAt (placeIn bytes) (bankAt R id t)) message ≡ accepted reply
-    facts : ReplicaFacts (partAt (placeIn bytes) (bankAt R id t)) verdicts message reply
-    next-is : bankAt R id (suc t) ≡ withPartAt (placeIn bytes) (reply .next) (bankAt R id t)
+    stepped : onRequest (bankPart (placeIn bytes) (bankAt R id t)) message ≡ accepted reply
+    facts : RegisterFacts (bankPart (placeIn bytes) (bankAt R id t)) verdicts message reply
+    next-is : bankAt R id (suc t) ≡ withBankPart (placeIn bytes) (reply .next) (bankAt R id t)
     answer-is : answerAt R t ≡ accepted (send (reply .message))
 
   data WholeTurn (id : ReplicaId) (t : ℕ) : Type 0 where
@@ -105,9 +105,9 @@ module _ (R : Run) where
   bank-outcome id t bytes verdicts out e q = (rw (e, eq-eqb (id .0) (id .0) refl, q), rw (e, q))
 
   bank-parts : (before : Bank) (bytes verdicts : List ℕ) (reply : Reply) → bankStep before bytes verdicts ≡ accepted reply
-      → (register : RegisterId) × (message : Message) × Admitted AtReplica (before .f) bytes verdicts register message × (onRequest (partAt (placeIn bytes) before) message ≡ accepted reply)
-  unfolding bankStep replicaStep
-  bank-parts before bytes verdicts reply e = admitted-then AtReplica (before .f) bytes verdicts (λ sent. onRequest (partAt (placeIn bytes) before) (sent .1)) reply e
+      → (register : RegisterId) × (message : Message) × Admitted AtReplica (before .f) bytes verdicts register message × (onRequest (bankPart (placeIn bytes) before) message ≡ accepted reply)
+  unfolding bankStep registerStep
+  bank-parts before bytes verdicts reply e = admitted-then AtReplica (before .f) bytes verdicts (λ sent. onRequest (bankPart (placeIn bytes) before) (sent .1)) reply e
 
   bank-here : (id : ReplicaId) (t : ℕ) (bytes verdicts : List ℕ) → GoodBank id (bankAt R id t) → event R t ≡ some (to-replica id bytes verdicts) → WholeTurn id t
   bank-here id t bytes verdicts good e = go (bankStep (bankAt R id t) bytes verdicts) refl
@@ -127,7 +127,7 @@ module _ (R : Run) where
             event-is = e;
             admitted = subst (λ (x : RegisterId). Admitted AtReplica (bankAt R id t .f) bytes verdicts x message) (sym is) passed;
             stepped = taken;
-            facts = replica-facts (partAt (placeIn bytes) (bankAt R id t)) verdicts message reply (good .fit (placeIn bytes) (place-below (registerIn bytes))) message-fits (passed .may-send) (passed .passed) taken;
+            facts = register-facts (bankPart (placeIn bytes) (bankAt R id t)) verdicts message reply (good .fit (placeIn bytes) (place-below (registerIn bytes))) message-fits (passed .may-send) (passed .passed) taken;
             next-is = both .0;
             answer-is = both .1;
           })
@@ -147,10 +147,10 @@ module _ (R : Run) where
           (λ p. let same : at ≡ id = cc in eqb-false (at .0) (id .0) k (ap (λ (i : ReplicaId). i .0) same)))
 
   -- The part that stepped fits, and so do the others.
-  step-fit : (id : ReplicaId) (t : ℕ) → GoodBank id (bankAt R id t) → (s : BankStep id t) → (at : ℕ) → at < 16 → ReplicaFits (partAt at (withPartAt (placeIn (s .bytes)) (s .reply .next) (bankAt R id t)))
+  step-fit : (id : ReplicaId) (t : ℕ) → GoodBank id (bankAt R id t) → (s : BankStep id t) → (at : ℕ) → at < 16 → RegisterReplicaFits (bankPart at (withBankPart (placeIn (s .bytes)) (s .reply .next) (bankAt R id t)))
   step-fit id t good s at inside = go (eqb at (placeIn (s .bytes))) refl
     where
-      stepped : ReplicaFits (partAt (placeIn (s .bytes)) (withPartAt (placeIn (s .bytes)) (s .reply .next) (bankAt R id t)))
+      stepped : RegisterReplicaFits (bankPart (placeIn (s .bytes)) (withBankPart (placeIn (s .bytes)) (s .reply .next) (bankAt R id t)))
       stepped =
           let fits = s .facts .fits in
           let is = part-there (bankAt R id t) (placeIn (s .bytes)) (s .reply .next) (omega (arith, good .long, place-below (registerIn (s .bytes)))) in
@@ -160,15 +160,15 @@ module _ (R : Run) where
             held-fits = subst (λ (register : Register). HeldFits (register .held)) (sym is) (fits .held-fits);
           }
 
-      go : (b : Bool) → eqb at (placeIn (s .bytes)) ≡ b → ReplicaFits (partAt at (withPartAt (placeIn (s .bytes)) (s .reply .next) (bankAt R id t)))
-      go true e = subst (λ (p : ℕ). ReplicaFits (partAt p (withPartAt (placeIn (s .bytes)) (s .reply .next) (bankAt R id t)))) (sym (eqb-true at (placeIn (s .bytes)) e)) stepped
-      go false e = subst ReplicaFits (sym (part-elsewhere (bankAt R id t) (placeIn (s .bytes)) (s .reply .next) at (eqb-false at (placeIn (s .bytes)) e))) (good .fit at inside)
+      go : (b : Bool) → eqb at (placeIn (s .bytes)) ≡ b → RegisterReplicaFits (bankPart at (withBankPart (placeIn (s .bytes)) (s .reply .next) (bankAt R id t)))
+      go true e = subst (λ (p : ℕ). RegisterReplicaFits (bankPart p (withBankPart (placeIn (s .bytes)) (s .reply .next) (bankAt R id t)))) (sym (eqb-true at (placeIn (s .bytes)) e)) stepped
+      go false e = subst RegisterReplicaFits (sym (part-elsewhere (bankAt R id t) (placeIn (s .bytes)) (s .reply .next) at (eqb-false at (placeIn (s .bytes)) e))) (good .fit at inside)
 
   fresh-bank : (id : ReplicaId) → R .correct-replica id ≡ true → GoodBank id (freshBank (R .f) id)
   fresh-bank id c =
       let range = correct-replica-range id c in
       let low : id .0 < 256 = omega arith in
-      record { f-is = refl; id-is = refl; long = length-replicate 16 freshRegister; fit = λ at inside. subst ReplicaFits (sym (fresh-part (R .f) id at inside)) (fresh-replica-fits (R .f) id low) }
+      record { f-is = refl; id-is = refl; long = length-replicate 16 freshRegister; fit = λ at inside. subst RegisterReplicaFits (sym (fresh-part (R .f) id at inside)) (fresh-replica-fits (R .f) id low) }
 
   pub good-bank : (id : ReplicaId) → R .correct-replica id ≡ true → (t : ℕ) → GoodBank id (bankAt R id t)
   unfolding bankAt
@@ -193,7 +193,7 @@ module _ (R : Run) where
     abbrev pub Answers : ReplicaId → ℕ → Answer → Type 0
     Answers id t answer = (at : At R t (replica id)) × (registerOf (at .0) ≡ x) × (answerAt R t ≡ accepted answer)
 
-    pub record ReplicaStep (id : ReplicaId) (t : ℕ) : Type 0 where
+    pub record RegisterStep (id : ReplicaId) (t : ℕ) : Type 0 where
       pub bytes : List ℕ
       pub verdicts : List ℕ
       pub message : Message
@@ -201,17 +201,17 @@ module _ (R : Run) where
       pub event-is : event R t ≡ some (to-replica id bytes verdicts)
       pub admitted : Admitted AtReplica (bankAt R id t .f) bytes verdicts (registerIn bytes) message
       pub placed : placeIn bytes ≡ registerPlace x
-      pub stepped : onRequest (replicaAt R x id t) message ≡ accepted reply
-      pub facts : ReplicaFacts (replicaAt R x id t) verdicts message reply
+      pub stepped : onRequest (registerReplicaAt R x id t) message ≡ accepted reply
+      pub facts : RegisterFacts (registerReplicaAt R x id t) verdicts message reply
       pub next-is : registerAt R x id (suc t) ≡ reply .next .register
       pub answer-is : answerAt R t ≡ accepted (send (reply .message))
 
-    pub data ReplicaTurn (id : ReplicaId) (t : ℕ) : Type 0 where
-      rests : registerAt R x id (suc t) ≡ registerAt R x id t → ((answer : Answer) → Answers id t answer → ⊥) → ReplicaTurn id t
-      steps : ReplicaStep id t → ReplicaTurn id t
+    pub data RegisterTurn (id : ReplicaId) (t : ℕ) : Type 0 where
+      rests : registerAt R x id (suc t) ≡ registerAt R x id t → ((answer : Answer) → Answers id t answer → ⊥) → RegisterTurn id t
+      steps : RegisterStep id t → RegisterTurn id t
 
     -- The step of a message at this register's place, and of one at another.
-    here : (id : ReplicaId) (t : ℕ) → GoodBank id (bankAt R id t) → (s : BankStep id t) → placeIn (s .bytes) ≡ registerPlace x → ReplicaStep id t
+    here : (id : ReplicaId) (t : ℕ) → GoodBank id (bankAt R id t) → (s : BankStep id t) → placeIn (s .bytes) ≡ registerPlace x → RegisterStep id t
     here id t good s e = record {
       bytes = s .bytes;
       verdicts = s .verdicts;
@@ -220,45 +220,45 @@ module _ (R : Run) where
       event-is = s .event-is;
       admitted = s .admitted;
       placed = e;
-      stepped = subst (λ (at : ℕ). onRequest (partAt at (bankAt R id t)) (s .message) ≡ accepted (s .reply)) e (s .stepped);
-      facts = subst (λ (at : ℕ). ReplicaFacts (partAt at (bankAt R id t)) (s .verdicts) (s .message) (s .reply)) e (s .facts);
+      stepped = subst (λ (at : ℕ). onRequest (bankPart at (bankAt R id t)) (s .message) ≡ accepted (s .reply)) e (s .stepped);
+      facts = subst (λ (at : ℕ). RegisterFacts (bankPart at (bankAt R id t)) (s .verdicts) (s .message) (s .reply)) e (s .facts);
       next-is =
-          ap (λ (bank : Bank). partAt (registerPlace x) bank .register) (s .next-is)
-          ∙ subst (λ (at : ℕ). partAt (registerPlace x) (withPartAt at (s .reply .next) (bankAt R id t)) .register ≡ s .reply .next .register) (sym e)
+          ap (λ (bank : Bank). bankPart (registerPlace x) bank .register) (s .next-is)
+          ∙ subst (λ (at : ℕ). bankPart (registerPlace x) (withBankPart at (s .reply .next) (bankAt R id t)) .register ≡ s .reply .next .register) (sym e)
           (part-there (bankAt R id t) (registerPlace x) (s .reply .next) (omega (arith, good .long, place-below x)));
       answer-is = s .answer-is;
     }
 
-    away : (id : ReplicaId) (t : ℕ) (s : BankStep id t) → (placeIn (s .bytes) ≡ registerPlace x → ⊥) → ReplicaTurn id t
+    away : (id : ReplicaId) (t : ℕ) (s : BankStep id t) → (placeIn (s .bytes) ≡ registerPlace x → ⊥) → RegisterTurn id t
     away id t s other =
         rests
-        (ap (λ (bank : Bank). partAt (registerPlace x) bank .register) (s .next-is)
-        ∙ ap (λ (part : Replica). part .register) (part-elsewhere (bankAt R id t) (placeIn (s .bytes)) (s .reply .next) (registerPlace x) (λ e. other (sym e))))
+        (ap (λ (bank : Bank). bankPart (registerPlace x) bank .register) (s .next-is)
+        ∙ ap (λ (part : RegisterReplica). part .register) (part-elsewhere (bankAt R id t) (placeIn (s .bytes)) (s .reply .next) (registerPlace x) (λ e. other (sym e))))
         (λ answer (at, is, a).
         let one : at .0 ≡ to-replica id (s .bytes) (s .verdicts) = cc (at .1, s .event-is) in
         other (ap registerPlace (sym (ap registerOf one) ∙ is)))
 
-    pub replica-turn : (id : ReplicaId) → R .correct-replica id ≡ true → (t : ℕ) → ReplicaTurn id t
-    replica-turn id c t = go (bank-turn-of id t (good-bank id c t) (event R t) refl)
+    pub register-turn : (id : ReplicaId) → R .correct-replica id ≡ true → (t : ℕ) → RegisterTurn id t
+    register-turn id c t = go (bank-turn-of id t (good-bank id c t) (event R t) refl)
       where
-        go : WholeTurn id t → ReplicaTurn id t
-        go (all-rest same silent) = rests (ap (λ (bank : Bank). partAt (registerPlace x) bank .register) same) (λ answer (at, is, a). silent at answer a)
+        go : WholeTurn id t → RegisterTurn id t
+        go (all-rest same silent) = rests (ap (λ (bank : Bank). bankPart (registerPlace x) bank .register) same) (λ answer (at, is, a). silent at answer a)
         go (one-steps s) = by (eqb (placeIn (s .bytes)) (registerPlace x)) refl
           where
-            by : (b : Bool) → eqb (placeIn (s .bytes)) (registerPlace x) ≡ b → ReplicaTurn id t
+            by : (b : Bool) → eqb (placeIn (s .bytes)) (registerPlace x) ≡ b → RegisterTurn id t
             by true e = steps (here id t (good-bank id c t) s (eqb-true (placeIn (s .bytes)) (registerPlace x) e))
             by false e = away id t s (eqb-false (placeIn (s .bytes)) (registerPlace x) e)
 
     -- A replica that answers for the register has stepped with it,
-    pub replica-step : (id : ReplicaId) → R .correct-replica id ≡ true → (t : ℕ) (answer : Answer) → Answers id t answer → ReplicaStep id t
-    replica-step id c t answer a = go (replica-turn id c t)
+    pub register-step : (id : ReplicaId) → R .correct-replica id ≡ true → (t : ℕ) (answer : Answer) → Answers id t answer → RegisterStep id t
+    register-step id c t answer a = go (register-turn id c t)
       where
-        go : ReplicaTurn id t → ReplicaStep id t
+        go : RegisterTurn id t → RegisterStep id t
         go (rests same silent) = absurd (silent answer a)
         go (steps s) = s
 
     -- with a message for it.
-    pub step-register : (id : ReplicaId) (t : ℕ) (s : ReplicaStep id t) (answer : Answer) → Answers id t answer → registerIn (s .bytes) ≡ x
+    pub step-register : (id : ReplicaId) (t : ℕ) (s : RegisterStep id t) (answer : Answer) → Answers id t answer → registerIn (s .bytes) ≡ x
     step-register id t s answer (at, is, a) = let one : at .0 ≡ to-replica id (s .bytes) (s .verdicts) = cc (at .1, s .event-is) in sym (ap registerOf one) ∙ is
 
   -- ---- Clients
@@ -323,12 +323,12 @@ module _ (R : Run) where
   by-outcome id t (accepted turn) left next = next turn refl (record { next-is = left .next-is; answer-is = left .answer-is })
 
   -- What a client takes, at either engine: the message, the step itself, and its facts.
-  abbrev pub Takes : (List ℕ → Message → Outcome Turn) → Client → List ℕ → List ℕ → Turn → Type 0
-  Takes engine before bytes verdicts turn =
+  abbrev pub TakesMessage : (List ℕ → Message → Outcome Turn) → Client → List ℕ → List ℕ → Turn → Type 0
+  TakesMessage engine before bytes verdicts turn =
       (message : Message) × Admitted AtClient (before .f) bytes verdicts (before .register) message × (engine (signature bytes) message ≡ accepted turn) × ClientFacts before verdicts message turn
 
   writer-takes : (before : Client) (bytes verdicts : List ℕ) (turn : Turn) → ClientFits before → PhaseFits (before .phase) → Bytes bytes → clientStep before bytes verdicts ≡ accepted turn
-      → Takes (onReply before) before bytes verdicts turn
+      → TakesMessage (onReply before) before bytes verdicts turn
   writer-takes before bytes verdicts turn fits phase-fits small e =
       let (message, a, taken) = client-takes before bytes verdicts turn e in (
         message,
@@ -339,7 +339,7 @@ module _ (R : Run) where
       )
 
   view-takes : (before : Client) (bytes verdicts : List ℕ) (turn : Turn) → ClientFits before → PhaseFits (before .phase) → Bytes bytes → isWriter (before .id) ≡ false
-      → viewerStep before bytes verdicts ≡ accepted turn → Takes (λ own. onViewerReply before) before bytes verdicts turn
+      → viewerStep before bytes verdicts ≡ accepted turn → TakesMessage (λ own. onViewerReply before) before bytes verdicts turn
   view-takes before bytes verdicts turn fits phase-fits small no-writer e =
       let (message, a, taken) = viewer-takes before bytes verdicts turn e in (
         message,
@@ -349,11 +349,11 @@ module _ (R : Run) where
       )
 
   pub handed-takes : (id : ClientId) (before : Client) (bytes verdicts : List ℕ) (turn : Turn) → GoodClient id before → Bytes bytes → handedStep id before bytes verdicts ≡ accepted turn
-      → Takes (clientTakes id before) before bytes verdicts turn
+      → TakesMessage (clientTakes id before) before bytes verdicts turn
   handed-takes id before bytes verdicts turn good small e = go (isWriter id) refl e
     where
       go : (w : Bool) → isWriter id ≡ w → cond w (clientStep before bytes verdicts) (viewerStep before bytes verdicts) ≡ accepted turn
-          → Takes (λ own message. cond w (onReply before own message) (onViewerReply before message)) before bytes verdicts turn
+          → TakesMessage (λ own message. cond w (onReply before own message) (onViewerReply before message)) before bytes verdicts turn
       go true q e = writer-takes before bytes verdicts turn (good .fits) (good .phase-fits) small e
       go false q e = view-takes before bytes verdicts turn (good .fits) (good .phase-fits) small (subst (λ (i : ClientId). isWriter i ≡ false) (sym (good .id-is)) q) e
 

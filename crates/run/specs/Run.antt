@@ -12,13 +12,13 @@ use Rattle.base.specs.Party.{isFaultBound, isReplica, isClient, isWriter, regis
 use Rattle.base.specs.declared.party.ClientId.{ClientId}
 use Rattle.base.specs.declared.party.RegisterId.{RegisterId}
 use Rattle.base.specs.declared.party.ReplicaId.{ReplicaId}
-use Rattle.protocol.specs.Bank.{partAt, freshBank}
+use Rattle.protocol.specs.Bank.{bankPart, freshBank}
 use Rattle.protocol.specs.Client.{Answer, send, freshClient}
 use Rattle.protocol.specs.Events.{ReplicaEvent, ClientEvent, request-handed, write-begun, read-begun, reply-handed, replicaEventRegister, clientEventRegister, onReplicaEvent, nextBank, bankAnswer, onClientEvent, nextClient, clientAnswer}
 use Rattle.protocol.specs.declared.client.Client.{Client}
 use Rattle.protocol.specs.declared.replica.Bank.{Bank}
 use Rattle.protocol.specs.declared.replica.Register.{Register}
-use Rattle.protocol.specs.declared.replica.Replica.{Replica}
+use Rattle.protocol.specs.declared.replica.RegisterReplica.{RegisterReplica}
 use Rattle.wire.specs.Acceptance.{Sender, replica, client}
 use Rattle.wire.specs.Message.{Message, body}
 
@@ -116,11 +116,11 @@ module _ (R : Run) where
   Correct party = CorrectIn (R .correct-replica) (R .correct-client) party
 
   -- One register of a replica before event t, with the replica's f and number, and alone.
-  abbrev pub replicaAt : RegisterId → ReplicaId → ℕ → Replica
-  replicaAt x id t = partAt (registerPlace x) (bankAt id t)
+  abbrev pub registerReplicaAt : RegisterId → ReplicaId → ℕ → RegisterReplica
+  registerReplicaAt x id t = bankPart (registerPlace x) (bankAt id t)
 
   abbrev pub registerAt : RegisterId → ReplicaId → ℕ → Register
-  registerAt x id t = replicaAt x id t .register
+  registerAt x id t = registerReplicaAt x id t .register
 
   -- "one of its earlier events was answered with it": the party said this message, for this register, before event t.
   pub record Said (x : RegisterId) (party : Sender) (message : Message) (t : ℕ) : Type 0 where

@@ -10,7 +10,7 @@ use Rattle.base.specs.declared.party.RegisterId.{RegisterId}
 use Rattle.base.specs.declared.party.ReplicaId.{ReplicaId}
 use Rattle.base.specs.declared.replica_set.ReplicaSet.{ReplicaSet}
 use Rattle.base.specs.declared.timestamp.Timestamp.{Timestamp}
-use Rattle.protocol.specs.Replica.{heldProof}
+use Rattle.protocol.specs.RegisterReplica.{heldProof}
 use Rattle.wire.specs.Acceptance.{replica}
 use Rattle.wire.specs.Message.{PREPARED}
 use Rattle.wire.specs.Parts.{preparedSigners}

@@ -7,7 +7,7 @@ ghost use lib.ListN.{getD};
 ghost use Rattle.text.specs.Hex.{hexValue, pairValue, HexRead, WordRead, digitOf, DigitBelow, hexDigit, hexPair, hex};
 ghost use Rattle.text.specs.Put.{Puts};
 
-// The value of a digit or of a pair of digits, which other bytes lack.
+// A byte that a hex digit, a pair of them or a decimal number writes, which other text lacks.
 pub enum Digit {
     Value(u8),
     Nothing,

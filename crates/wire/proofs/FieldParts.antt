@@ -16,7 +16,7 @@ use Rattle.wire.specs.Layout.{fixed, extent, rules, mapIn, place, field}
 use Rattle.wire.specs.Places.{Room, placesIn}
 use Rattle.wire.specs.declared.frame.Places.{Places}
 use Rattle.wire.specs.declared.message.Fields.{Fields}
-use Rattle.wire.proofs.Framed.{Framed, place-present, place-absent, place-rises, place-within, place-one, place-two, first-bits}
+use Rattle.wire.proofs.FieldPlaces.{Framed, place-present, place-absent, place-rises, place-within, place-one, place-two, first-bits}
 use Rattle.wire.proofs.Windows.{front, front-some}
 
 -- A field, if it is there, has at least so many bytes.

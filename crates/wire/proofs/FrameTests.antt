@@ -21,7 +21,7 @@ use Rattle.wire.specs.Places.{placesIn, frameOutcome}
 use Rattle.wire.specs.declared.frame.Framing.{Framing}
 use Rattle.wire.specs.declared.frame.Framing.the-variants.{Whole, Refused}
 use Rattle.wire.specs.declared.frame.Places.{Places}
-use Rattle.wire.proofs.Framed.{Framed, framed-accepted}
+use Rattle.wire.proofs.FieldPlaces.{Framed, framed-accepted}
 
 -- The bit map is the number of the first two bytes.
 pub map-at : (s : List ℕ) → 2 ≤ length s → mapIn s ≡ fromBytes (getD s 0 0 ∷ getD s 1 0 ∷ [])

@@ -17,7 +17,7 @@ use Rattle.wire.specs.Places.{placesIn}
 use Rattle.wire.specs.declared.message.Party.{Party}
 use Rattle.wire.specs.declared.message.Party.the-variants.{Replica, Client}
 use Rattle.wire.proofs.FieldParts.{kind-at}
-use Rattle.wire.proofs.Framed.{Framed, framed-passes}
+use Rattle.wire.proofs.FieldPlaces.{Framed, framed-passes}
 use Rattle.wire.proofs.FrameTests.{refuses}
 
 -- What follows test 5 is the same for each kind, so one test says all.

@@ -14,8 +14,8 @@ use Rattle.wire.specs.Layout.{rules, place, field}
 use Rattle.wire.specs.Message.{Message}
 use Rattle.wire.specs.Parts.{lastRegister}
 use Rattle.wire.specs.declared.message.Party.{Party}
-use Rattle.wire.proofs.Framed.{place-present}
-use Rattle.wire.proofs.Parsed.{decode-tested}
+use Rattle.wire.proofs.FieldPlaces.{place-present}
+use Rattle.wire.proofs.ReadingByKind.{decode-tested}
 use Rattle.wire.proofs.Rows.{has-register}
 
 one-byte : (bytes : List ℕ) (at : ℕ) → at < length bytes → fromBytes (take 1 (drop at bytes)) ≡ getD bytes at 0

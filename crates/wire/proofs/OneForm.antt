@@ -19,8 +19,8 @@ use Rattle.wire.specs.Layout.{Rule, fixed, extent, rules, mapIn, place, 
 use Rattle.wire.specs.Message.{Message, proofField, fields, joined, body, encode, IsDigest, IsSignature, ProofFits, IfThere, CardFits, Fits, Legal, size}
 use Rattle.wire.specs.Proof.{proofBytes, proofFrom}
 use Rattle.wire.specs.declared.message.Party.{Party}
-use Rattle.wire.proofs.Framed.{Framed, Headed, place-next, field-absent, field-whole, bytes-field, map-small, first-bits}
-use Rattle.wire.proofs.Parsed.{ProofBit, prepared-bit, written-bit, proofAt, proof-ends, messageOf, Tested, message-tested, decode-splits, decode-tested}
+use Rattle.wire.proofs.FieldPlaces.{Framed, Headed, place-next, field-absent, field-whole, bytes-field, map-small, first-bits}
+use Rattle.wire.proofs.ReadingByKind.{ProofBit, prepared-bit, written-bit, proofAt, proof-ends, messageOf, Tested, message-tested, decode-splits, decode-tested}
 use Rattle.base.proofs.BigEndian.{bytes-take, bytes-drop}
 use Rattle.wire.proofs.Widths.{rewritten, below}
 use Rattle.wire.proofs.ProofBytes.{proof-back, proof-fits}

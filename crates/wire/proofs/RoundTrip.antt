@@ -16,10 +16,10 @@ use Rattle.wire.specs.Layout.{mapIn, place, field, signature}
 use Rattle.wire.specs.Message.{Message, READ-STAMP, PREPARE, WRITE, READ, STAMP, PREPARED, WRITTEN, CARD, kindOf, proofField, fields, joined, body, encode, IsSignature, ProofFits, IfThere, Fits, Legal, size}
 use Rattle.wire.specs.Proof.{Proof, readProof}
 use Rattle.wire.specs.declared.message.Party.{Party}
-use Rattle.wire.proofs.Framed.{Framed, framed-passes}
-use Rattle.wire.proofs.Parsed.{decode-joins}
+use Rattle.wire.proofs.FieldPlaces.{Framed, framed-passes}
+use Rattle.wire.proofs.ReadingByKind.{decode-joins}
 use Rattle.wire.proofs.Rows.{row, own-row, good-map}
-use Rattle.wire.proofs.Places.{there, content, written, map-written, bit-written, place-written, field-written}
+use Rattle.wire.proofs.WrittenPlaces.{isThere, content, written, map-written, bit-written, place-written, field-written}
 use Rattle.wire.proofs.ProofBytes.{read-proof}
 use Rattle.wire.proofs.Size.{fields-obey, encode-size}
 
@@ -44,7 +44,7 @@ module _ (x : RegisterId) (m : Message) (s : List ℕ) (fits : Fits m) where
   map-encoded : mapIn (encode x m s) ≡ mapOf (fields x m)
   map-encoded = rw (encode-written x m s) (map-written (fields x m) s (fields-obey x m fits))
 
-  bit-encoded : (b : ℕ) → bit (mapIn (encode x m s)) b ≡ there (getD (fields x m) b none)
+  bit-encoded : (b : ℕ) → bit (mapIn (encode x m s)) b ≡ isThere (getD (fields x m) b none)
   bit-encoded b = rw (encode-written x m s) (bit-written (fields x m) s (fields-obey x m fits) b)
 
   field-encoded : (b : ℕ) → field (encode x m s) b ≡ content (getD (fields x m) b none)
@@ -64,7 +64,7 @@ module _ (x : RegisterId) (m : Message) (s : List ℕ) (fits : Fits m) where
   proof-encoded : {d : ℕ} (b : ℕ) (proof : Option (Proof d)) → getD (fields x m) b none ≡ proofField proof → IfThere ProofFits proof → proofIn d b (encode x m s) ≡ accepted proof
   proof-encoded {d} b proof e f = rw (bit-encoded b, field-encoded b, e) (go proof f)
     where
-      go : (proof : Option (Proof d)) → IfThere ProofFits proof → optional (there (proofField proof)) (readProof d (content (proofField proof))) ≡ accepted proof
+      go : (proof : Option (Proof d)) → IfThere ProofFits proof → optional (isThere (proofField proof)) (readProof d (content (proofField proof))) ≡ accepted proof
       go none f = refl
       go (some p) f = rw (read-proof p f)
 

@@ -143,13 +143,13 @@ module _ (party : Party) (map number : ℕ) where
       go ih false same e = inr (ih e)
 
   -- A row let through: the outcome is that row's.
-  pub record Passed : Type 1 where
+  pub record HasRow : Type 1 where
     pub taken : Taken map number party
     pub passes : (A : Type 0) (next : Kind → Outcome A) → ofKind party map number kinds next ≡ next (row number)
 
   pass : (k : ℕ) → (number ≡ k) × (suits party map (row k) ≡ true)
       → ((A : Type 0) (next : Kind → Outcome A) → ofKind party map k kinds next ≡ guard 5 (suits party map (row k)) (next (row k)))
-      → (without (row k .may) map ≡ mapWith (row k .must) → Taken map k (row k .taker)) → Passed
+      → (without (row k .may) map ≡ mapWith (row k .must) → Taken map k (row k .taker)) → HasRow
   pass k h table take =
       let r = row k in
       let fit = and-true-both (sameParty party (r .taker)) (eqb (without (r .may) map) (mapWith (r .must))) (h .1) in
@@ -159,7 +159,7 @@ module _ (party : Party) (map number : ℕ) where
             ap (λ (n : ℕ). ofKind party map n kinds next) (h .0) ∙ table A next ∙ guard-passes 5 (suits party map r) (next r) (h .1) ∙ ap (λ (n : ℕ). next (row n)) (sym (h .0));
       }
 
-  passed : Among kinds → Passed
+  passed : Among kinds → HasRow
   unfolding kinds row ofKind
   passed (inl h) = pass 1 h (λ A next. refl) (λ e. read-stamp (ap bits e))
   passed (inr (inl h)) = pass 2 h (λ A next. refl) (λ e. prepare (prepare-bits map e))
@@ -171,5 +171,5 @@ module _ (party : Party) (map number : ℕ) where
   passed (inr (inr (inr (inr (inr (inr (inr (inl h)))))))) = pass 8 h (λ A next. refl) (λ e. card (card-bits map e))
   passed (inr (inr (inr (inr (inr (inr (inr (inr h)))))))) = absurd h
 
-  pub accepted-passed : {A : Type 0} (next : Kind → Outcome A) (a : A) → ofKind party map number kinds next ≡ accepted a → Passed
+  pub accepted-passed : {A : Type 0} (next : Kind → Outcome A) (a : A) → ofKind party map number kinds next ≡ accepted a → HasRow
   accepted-passed next a e = passed (among kinds next a e)

@@ -14,7 +14,7 @@ use Rattle.wire.specs.Checks.{preparedOf, writtenOf, entriesOf, all, one
 use Rattle.wire.specs.Layout.{fixed, repeated, proofRule, rules}
 use Rattle.wire.specs.Message.{Message, READ-STAMP, PREPARE, WRITE, READ, STAMP, PREPARED, WRITTEN, CARD, numberField, sized, proofField, fields, joined, body, encode, IsSignature, ProofFits, IfThere, Fits, proofSize, EachFits, Legal, size, longest}
 use Rattle.wire.specs.Proof.{Entry, Proof, PreparedProof, WrittenProof}
-use Rattle.wire.proofs.Places.{content, Obeys, AllObey}
+use Rattle.wire.proofs.WrittenPlaces.{content, Obeys, AllObey}
 use Rattle.wire.proofs.ProofBytes.{length-proof, proof-obeys}
 
 number-obeys : (width n : ℕ) → Obeys (fixed width) (numberField width n)

@@ -1,4 +1,4 @@
 pub mod Digests
-pub mod Parsed
-pub mod Reading
+pub mod FieldsAndMap
+pub mod BitByBit
 pub mod RoundTrip

@@ -12,9 +12,9 @@ use Rattle.wire.specs.declared.frame.Taken.{Taken}
 use Rattle.wire.specs.declared.frame.Taken.the-variants.{Next, Cut}
 
 -- A field from a place on that ends at another, which is not far; or the message ends before it does.
-abbrev pub Takes : List ℕ → ℕ → ℕ → Taken → Type 0
-Takes bytes at end (Next next) = (next ≡ end) × (end ≤ at + 20_000)
-Takes bytes at end Cut = length bytes < end
+abbrev pub TakesField : List ℕ → ℕ → ℕ → Taken → Type 0
+TakesField bytes at end (Next next) = (next ≡ end) × (end ≤ at + 20_000)
+TakesField bytes at end Cut = length bytes < end
 
 -- Where the fields up to the digest stand, and that it is not far.
 pub record Fronted (bytes : List ℕ) (nonce timestamp digest card : ℕ) : Type 0 where

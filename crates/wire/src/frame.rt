@@ -18,7 +18,7 @@ ghost use lib.ListN.{length, drop};
 ghost use Rattle.base.specs.Outcome.{accepted, guard};
 ghost use Rattle.wire.specs.Layout.{repeated, extent, fieldBits, mapIn, place, signaturePlace};
 ghost use Rattle.wire.specs.Decode.{framed};
-ghost use Rattle.wire.specs.Places.{Takes, Fronted, placesIn, frameOutcome};
+ghost use Rattle.wire.specs.Places.{TakesField, Fronted, placesIn, frameOutcome};
 
 // The bit map, and where each field starts, or would start if it were there.
 pub struct Places {
@@ -48,7 +48,7 @@ enum Taken {
 // A field whose head ends with the number of units that follow it.
 fn take_repeated(bytes: &[u8], head: usize, unit: usize, at: usize) -> Taken
     requires { ⌜ (1 ≤ head) × (head ≤ 38) × (unit ≤ 65) × (at ≤ 200_000) ⌝ }
-    ensures { λ r. ⌜ Takes (now (bytes .entry)) at (at + extent (repeated head unit) (drop at (now (bytes .entry)))) r ⌝ }
+    ensures { λ r. ⌜ TakesField (now (bytes .entry)) at (at + extent (repeated head unit) (drop at (now (bytes .entry)))) r ⌝ }
 {
     let end = at + head;
     if bytes.len() < end {
@@ -63,7 +63,7 @@ fn take_repeated(bytes: &[u8], head: usize, unit: usize, at: usize) -> Taken
 // where one is cut, the test of the end fails, since places only rise.
 fn take_field(bytes: &[u8], map: u16, bit: usize, at: usize) -> Taken
     requires { ⌜ (map ≡ mapIn (now bytes)) × (bit < fieldBits) × (at ≡ place (now bytes) bit) × (at ≤ 200_000) ⌝ }
-    ensures { λ r. ⌜ Takes (now (bytes .entry)) at (place (now (bytes .entry)) (suc bit)) r ⌝ }
+    ensures { λ r. ⌜ TakesField (now (bytes .entry)) at (place (now (bytes .entry)) (suc bit)) r ⌝ }
 {
     if (map >> bit) % 2 == 0 {
         return Taken::Next(at);

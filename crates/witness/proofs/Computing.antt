@@ -8,7 +8,7 @@ use Rattle.base.specs.Rising.{rising}
 use Rattle.base.specs.Same.{same}
 use Rattle.protocol.specs.Client.{gathered, beginWrite, beginRead, afterStamp, onStamp, afterPrepared, onPrepared, afterWritten, afterWriteBack, onWritten, afterCard, countCard, onCard, clientStep, onReply}
 use Rattle.protocol.specs.Bank.{noRegister, bankStep}
-use Rattle.protocol.specs.Replica.{freshRegister, afterPrepare, afterWrite, replicaStep, onRequest}
+use Rattle.protocol.specs.RegisterReplica.{freshRegister, afterPrepare, afterWrite, registerStep, onRequest}
 use Rattle.protocol.specs.Viewer.{afterView, viewerStep, onViewerReply}
 use Rattle.run.specs.Run.{bankAt, clientAt, answerTo}
 use Rattle.wire.specs.Card.{table, readFields, goodCardMap, readCard}
@@ -25,7 +25,7 @@ unfolding fromBytes toBytes guard within same rules place field kinds ofKind fra
 messages = tt
 
 unfoldable pub steps : Unit {0}
-unfolding messages count has with withAll rising entriesOf all oneEach shaped proven checked admits admitted proofOutcome table readFields goodCardMap readCard freshRegister afterPrepare afterWrite onRequest replicaStep noRegister bankStep gathered beginWrite beginRead afterStamp onStamp afterPrepared onPrepared afterWritten afterWriteBack onWritten afterCard countCard onCard onReply clientStep afterView onViewerReply viewerStep bankAt clientAt answerTo
+unfolding messages count has with withAll rising entriesOf all oneEach shaped proven checked admits admitted proofOutcome table readFields goodCardMap readCard freshRegister afterPrepare afterWrite onRequest registerStep noRegister bankStep gathered beginWrite beginRead afterStamp onStamp afterPrepared onPrepared afterWritten afterWriteBack onWritten afterCard countCard onCard onReply clientStep afterView onViewerReply viewerStep bankAt clientAt answerTo
 steps = tt
 
 unfoldable pub digests : Unit {0}

@@ -48,11 +48,11 @@ use Rattle.base.specs.declared.party.ReplicaId.{ReplicaId}
 use Rattle.base.proofs.Registers.{place-below}
 use Rattle.base.proofs.party.ReplicaId as I
 use Rattle.base.proofs.party.ReplicaId.Laws as I′
-use Rattle.protocol.specs.Bank.{noRegister, partAt, withPartAt}
-use Rattle.protocol.specs.Replica.{replicaCall}
+use Rattle.protocol.specs.Bank.{noRegister, bankPart, withBankPart}
+use Rattle.protocol.specs.RegisterReplica.{registerCall}
 use Rattle.protocol.specs.declared.replica.Bank.{Bank}
 use Rattle.protocol.specs.declared.replica.Register.{Register}
-use Rattle.protocol.specs.declared.replica.Replica.{Replica}
+use Rattle.protocol.specs.declared.replica.RegisterReplica.{RegisterReplica}
 use Rattle.protocol.specs.declared.replica.ReplicaAnswer.{ReplicaAnswer}
 use Rattle.wire.specs.Parts.{lastRegister}
 use Rattle.protocol.proofs.replica.Bank as B
@@ -60,12 +60,12 @@ use Rattle.protocol.proofs.replica.Bank.Laws as B′
 use Rattle.protocol.proofs.replica.Register as G
 use Rattle.protocol.proofs.replica.ReplicaAnswer as N
 use Rattle.protocol.proofs.replica.ReplicaAnswer.Laws as N′
-use Rattle.replica.specs.Stepping.{partOf, Steps}
-use Rattle.replica.proofs.Cells.{cell-out, cell-in}
-use Rattle.replica.proofs.register_in_place as one
-use Rattle.replica.proofs.register_in_place.Symbol as one-def
-use Rattle.replica.proofs.register_in_place.Symbol.{name as #replica·register-in-place}
-use Rattle.replica.proofs.register_in_place.Met as one-thm
+use Rattle.register_replica.specs.Stepping.{registerReplica, Steps}
+use Rattle.register_replica.proofs.Cells.{cell-out, cell-in}
+use Rattle.register_replica.proofs.register_in_place as one
+use Rattle.register_replica.proofs.register_in_place.Symbol as one-def
+use Rattle.register_replica.proofs.register_in_place.Symbol.{name as #register-replica·register-in-place}
+use Rattle.register_replica.proofs.register_in_place.Met as one-thm
 use Rattle.bank.specs.Stepping.{BankSteps}
 use Rattle.bank.proofs.Calls.{bank-steps}
 use Rattle.bank.proofs.Item.{spot, Back, item-out, big-lit}
@@ -85,10 +85,10 @@ stayed = (stay-ref (0 ∷ []) tt (plain (λ _. B.the-row)), (stay-none-slice (1 
 
 -- What the two callees' contracts say together, i being the place and `left` the register afterwards.
 lent-steps : (bank : Bank) (bytes verdicts old : List ℕ) (i : ℕ) (answered : ReplicaAnswer) (left : Register) (new : List ℕ) → i ≡ registerPlace (lastRegister bytes)
-    → Steps (partAt i bank) bytes verdicts old answered (partOf (bank .f) (bank .id) left) new
-    → BankSteps bank bytes verdicts old answered (withPartAt i (replicaCall (partAt i bank) bytes verdicts old .replica) bank) new
+    → Steps (bankPart i bank) bytes verdicts old answered (registerReplica (bank .f) (bank .id) left) new
+    → BankSteps bank bytes verdicts old answered (withBankPart i (registerCall (bankPart i bank) bytes verdicts old .replica) bank) new
 lent-steps bank bytes verdicts old i answered left new at steps =
-    subst (λ (part : Replica). BankSteps bank bytes verdicts old answered (withPartAt i part bank) new) (steps .next) (bank-steps bank bytes verdicts old i answered (partOf (bank .f) (bank .id) left) new at steps)
+    subst (λ (part : RegisterReplica). BankSteps bank bytes verdicts old answered (withBankPart i part bank) new) (steps .next) (bank-steps bank bytes verdicts old i answered (registerReplica (bank .f) (bank .id) left) new at steps)
 
 module _ {M : Type 1} (𝓤 : URA M) (H : Heap 𝓤) (A : Atoms 𝓤) (mem : Memory → SProp 𝓤) (run : Routine → Fun 𝓤) where
   abbrev Place : Contract 𝓤
@@ -154,8 +154,8 @@ module _ {M : Type 1} (𝓤 : URA M) (H : Heap 𝓤) (A : Atoms 𝓤) (W : Given
     abbrev register : Register
     register = getD (bank .registers) i noRegister
 
-    abbrev next : Replica
-    next = replicaCall (partAt i bank) (message .now) (verdicts .now) (out .now) .replica
+    abbrev next : RegisterReplica
+    next = registerCall (bankPart i bank) (message .now) (verdicts .now) (out .now) .replica
 
     lt : i < 16
     lt = subst (λ (j : ℕ). j < 16) (sym is-place) (place-below (lastRegister (message .now)))
@@ -187,11 +187,11 @@ module _ {M : Type 1} (𝓤 : URA M) (H : Heap 𝓤) (A : Atoms 𝓤) (W : Given
         owned ! I.the-row (Is I.the-row) (LL.makes I.the-type I′.the-plain 𝓤 H A) (bank .id) _ (are .1 .0) $ fjoin ! $ owned ! u8 (Is u8) (uint-makes 𝓤 H A W w8) (bank .f) _ (are .0) $ fjoin ! $
         move ! (1 ∷ 0 ∷ []) $ join ! $ frame ! $ done !
 
-    exits : (answered : ReplicaAnswer) (left : Register) (new : List ℕ) (v : Val) → Steps (partAt i bank) (message .now) (verdicts .now) (out .now) answered (partOf (bank .f) (bank .id) left) new → length new ≡ length (out .now) → Is N.the-row answered (v ∷ [])
-        → ent 𝓤 (⋆ 𝓤 H A (‵ (fobs γ (B.the-row .coded .code (withPartAt i next bank))) ∷ ‵ (fbor κ₀ (Body (mem B.the-row) b o γ)) ∷ ‵ (flft κ₀ q₀) ∷ Tokens ∷ ‵ (finally u8 (out .name) new) ∷ Shared ∷ [])) (Post v)
+    exits : (answered : ReplicaAnswer) (left : Register) (new : List ℕ) (v : Val) → Steps (bankPart i bank) (message .now) (verdicts .now) (out .now) answered (registerReplica (bank .f) (bank .id) left) new → length new ≡ length (out .now) → Is N.the-row answered (v ∷ [])
+        → ent 𝓤 (⋆ 𝓤 H A (‵ (fobs γ (B.the-row .coded .code (withBankPart i next bank))) ∷ ‵ (fbor κ₀ (Body (mem B.the-row) b o γ)) ∷ ‵ (flft κ₀ q₀) ∷ Tokens ∷ ‵ (finally u8 (out .name) new) ∷ Shared ∷ [])) (Post v)
     exits answered left new v steps long is =
-        qed W (‵ (fobs γ (B.the-row .coded .code (withPartAt i next bank))) ∷ ‵ (fbor κ₀ (Body (mem B.the-row) b o γ)) ∷ ‵ (flft κ₀ q₀) ∷ Tokens ∷ ‵ (finally u8 (out .name) new) ∷ Shared ∷ []) ∵
-        suffices ! _ (ends-at 𝓤 H A thin.ended stayed (thin.clauses 𝓤 H A at-mem run) W (((κ₀, (κ₁, (κ₂, (κ₃, tt)))), (q₀, (q₁, (q₂, (q₃, tt)))), bounds, a, vals), tt) v answered (withPartAt i next bank, (tt, (tt, (new, tt)))) (tt, (tt, (tt, (long, tt))))) $
+        qed W (‵ (fobs γ (B.the-row .coded .code (withBankPart i next bank))) ∷ ‵ (fbor κ₀ (Body (mem B.the-row) b o γ)) ∷ ‵ (flft κ₀ q₀) ∷ Tokens ∷ ‵ (finally u8 (out .name) new) ∷ Shared ∷ []) ∵
+        suffices ! _ (ends-at 𝓤 H A thin.ended stayed (thin.clauses 𝓤 H A at-mem run) W (((κ₀, (κ₁, (κ₂, (κ₃, tt)))), (q₀, (q₁, (q₂, (q₃, tt)))), bounds, a, vals), tt) v answered (withBankPart i next bank, (tt, (tt, (new, tt)))) (tt, (tt, (tt, (long, tt))))) $
         says ! (lent-steps bank (message .now) (verdicts .now) (out .now) i answered left new is-place steps) $
         move ! (2 ∷ 3 ∷ []) $ join ! $ frame ! $
         feqI ! (List Val) (vptr b o ∷ []) (vptr b o ∷ []) refl $ fjoin3 ! $
@@ -199,7 +199,7 @@ module _ {M : Type 1} (𝓤 : URA M) (H : Heap 𝓤) (A : Atoms 𝓤) (W : Given
         move ! (1 ∷ 0 ∷ []) $ fjoin ! $
         owned ! N.the-row (Is N.the-row) (EL.makes N.the-type N′.the-plain 𝓤 H A) answered _ is $ move ! (1 ∷ 0 ∷ []) $ done !
 
-  module _ (C : Calls 𝓤 H) (Λ : Loops 𝓤 H) (fm : FmC 𝓤 H (W .laws) C) (known-place : Triple 𝓤 (C #bank·place-of) (Place 𝓤 H A at-mem run)) (known-one : Triple 𝓤 (C #replica·register-in-place) (One 𝓤 H A at-mem run)) where
+  module _ (C : Calls 𝓤 H) (Λ : Loops 𝓤 H) (fm : FmC 𝓤 H (W .laws) C) (known-place : Triple 𝓤 (C #bank·place-of) (Place 𝓤 H A at-mem run)) (known-one : Triple 𝓤 (C #register-replica·register-in-place) (One 𝓤 H A at-mem run)) where
     walk : Is (ShrSlice (named 1) κ₁ u8) message (mv ∷ []) → Is (ShrSlice (named 2) κ₂ u8) verdicts (vv ∷ []) → Is (MutSlice (named 3) κ₃ u8) out (ov ∷ [])
         → ent 𝓤 (onEntry 𝓤 H A thin.signature (κ₀, (κ₁, (κ₂, (κ₃, tt)))) (q₀, (q₁, (q₂, (q₃, tt)))) a vals) (WpFn 𝓤 H C Λ code.function (vptr b o ∷ mv ∷ vv ∷ ov ∷ []) Post)
     walk is-message is-verdicts is-out =
@@ -241,8 +241,8 @@ module _ {M : Type 1} (𝓤 : URA M) (H : Heap 𝓤) (A : Atoms 𝓤) (W : Given
         assigns ! (addr ! (from ! (fld ! refl (hop ! (look-in ! 23 (sub ! 0 refl (whole !))) (stop !))))) (from ! (stop !)) (init ! 7 refl (tt, tt)) $
         assigns ! (agg ! (and-then ! (load ! (from ! (stop !)) (look ! 7 refl)) (and-then ! (load ! (from ! (fld ! refl (stop !))) (look-in ! 23 (sub ! 1 refl (whole !)))) (no-more !)))) (from ! (stop !)) (init ! 5 refl (mut-slice-lawful 𝓤 H A W (named 3) κ₃ u8 .typed out (ov ∷ []) is-out .0)) $
         -- the register is taken out of the bank, and lent for a new lifetime
-        use1 W (‵ (lies G.the-row fullShare (register i is-place) b (spot G.the-row i (o + 4))) ⊛ raw (Back 𝓤 H A W B.the-row G.the-row 16 tt 4 (bank .registers) i noRegister b o (withPartAt i (next i is-place) bank) (next i is-place .register)))
-        (item-out 𝓤 H A W B.the-row G.the-row 16 tt 4 (bank .registers) i noRegister b o bank (withPartAt i (next i is-place) bank) (next i is-place .register) (lt i is-place) (bank-put 𝓤 H A W bank b o i (next i is-place))) $ split ! $
+        use1 W (‵ (lies G.the-row fullShare (register i is-place) b (spot G.the-row i (o + 4))) ⊛ raw (Back 𝓤 H A W B.the-row G.the-row 16 tt 4 (bank .registers) i noRegister b o (withBankPart i (next i is-place) bank) (next i is-place .register)))
+        (item-out 𝓤 H A W B.the-row G.the-row 16 tt 4 (bank .registers) i noRegister b o bank (withBankPart i (next i is-place) bank) (next i is-place .register) (lt i is-place) (bank-put 𝓤 H A W bank b o i (next i is-place))) $ split ! $
         lft-new ! tt (λ α. move ! (1 ∷ []) $
         use1 W (later (some (λ (δ : GName). ‵ (Lent i is-place α δ) ⊛ ‵ (flent (α ∷ []) (Body (mem G.the-row) b (spot G.the-row i (o + 4)) δ))))) (lends-ref 𝓤 H A W G.the-row (named 0) (α ∷ []) (register i is-place) b (spot G.the-row i (o + 4))) $ await ! tt $ pick ! (λ δ. split ! $
         -- [the register's reference; the lender's part; α's token; the way back; the open borrow; obs; auth; message's token; _13; …; _0; …; the other two tokens; output; shared slices, twice; true]
@@ -253,8 +253,8 @@ module _ {M : Type 1} (𝓤 : URA M) (H : Heap 𝓤) (A : Atoms 𝓤) (W : Given
         -- [what the callee asks; the lender's part; the way back; the open borrow; obs; auth; _13; …; _0; …; shared slices; true]
         calls-at ! fm (One 𝓤 H A at-mem run) known-one (to-one i is-place α δ) (and-then ! (load ! (from ! (stop !)) (look ! 20 refl)) (and-then ! (load ! (from ! (stop !)) (look ! 18 refl)) (and-then ! (load ! (from ! (stop !)) (look ! 10 refl)) (and-then ! (load ! (from ! (stop !)) (look ! 28 refl)) (and-then ! (load ! (from ! (stop !)) (look ! 26 refl)) (and-then ! (load ! (from ! (stop !)) (look ! 6 refl)) (no-more !))))))) (λ w.
         use1 W (later (some (λ (answered : ReplicaAnswer). ((‵ (flft (α ∷ []) fullShare) ⊛ Tokens) ⊛ ‵ (N.the-row .own answered (w ∷ []))) ⊛ raw (ensured 𝓤 H A one.ended (one.clauses 𝓤 H A at-mem run) (α ∷ [], (κ₁, (κ₂, (κ₃, tt)))) (args i is-place δ) tt answered)))) (id⊢ 𝓤 _) $ await ! tt $ pick ! (λ answered.
-        split ! $ move ! (1 ∷ []) $ use1 W (some (λ (zs : Unit {0} × (Unit {0} × (Register × (Unit {0} × (Unit {0} × (List ℕ × Unit {0})))))). ‵ (lasts one.ended (α ∷ [], (κ₁, (κ₂, (κ₃, tt)))) (args i is-place δ) zs) ⊛ raw (fact 𝓤 (Steps (partAt i bank) (message .now) (verdicts .now) (out .now) answered (partOf (bank .f) (bank .id) (zs .1 .1 .0)) (zs .1 .1 .1 .1 .1 .0))))) (id⊢ 𝓤 _) $ pick ! (λ zs.
-        split ! $ move ! (1 ∷ []) $ heard ! (Steps (partAt i bank) (message .now) (verdicts .now) (out .now) answered (partOf (bank .f) (bank .id) (zs .1 .1 .0)) (zs .1 .1 .1 .1 .1 .0)) (λ steps.
+        split ! $ move ! (1 ∷ []) $ use1 W (some (λ (zs : Unit {0} × (Unit {0} × (Register × (Unit {0} × (Unit {0} × (List ℕ × Unit {0})))))). ‵ (lasts one.ended (α ∷ [], (κ₁, (κ₂, (κ₃, tt)))) (args i is-place δ) zs) ⊛ raw (fact 𝓤 (Steps (bankPart i bank) (message .now) (verdicts .now) (out .now) answered (registerReplica (bank .f) (bank .id) (zs .1 .1 .0)) (zs .1 .1 .1 .1 .1 .0))))) (id⊢ 𝓤 _) $ pick ! (λ zs.
+        split ! $ move ! (1 ∷ []) $ heard ! (Steps (bankPart i bank) (message .now) (verdicts .now) (out .now) answered (registerReplica (bank .f) (bank .id) (zs .1 .1 .0)) (zs .1 .1 .1 .1 .1 .0)) (λ steps.
         fsplit ! $ move ! (1 ∷ []) $ fsplit ! $ move ! (1 ∷ []) $ fsplit ! $ move ! (1 ∷ []) $ fsplit ! $ move ! (1 ∷ []) $ fsplit ! $ move ! (1 ∷ []) $ fsplit ! $ fsplit ! $ move ! (1 ∷ []) $ feqL ! (λ long.
         -- [the output's last list; true; of verdicts; of message; the register's last value; of id; of f; tokens and answer; the lender's part; the way back; the open borrow; obs; auth; _13; …]
         move ! (7 ∷ []) $ split ! $ move ! (1 ∷ []) $ facts ! N.the-row (Is N.the-row) (shows 𝓤 H A N.the-row) answered (w ∷ []) (λ is-answered. split ! $
@@ -262,17 +262,17 @@ module _ {M : Type 1} (𝓤 : URA M) (H : Heap 𝓤) (A : Atoms 𝓤) (W : Given
         land ! (from ! (stop !)) (init ! 40 refl (EL.lawful N.the-type N′.the-laws 𝓤 H A W tt .typed answered _ is-answered .0)) $
         -- the lifetime is ended, and the register comes back
         lft-end ! tt $ move ! (0 ∷ 9 ∷ 6 ∷ []) $ use3 W (later (‵ (lies G.the-row fullShare (zs .1 .1 .0) b (spot G.the-row i (o + 4))))) (ref-back 𝓤 H A W G.the-row (α ∷ []) δ (zs .1 .1 .0) b (spot G.the-row i (o + 4))) $ await ! tt $
-        rewrite ! 0 (λ (z : Register). ‵ (lies G.the-row fullShare z b (spot G.the-row i (o + 4)))) (ap (λ (part : Replica). part .register) (steps .next)) refl $
+        rewrite ! 0 (λ (z : Register). ‵ (lies G.the-row fullShare z b (spot G.the-row i (o + 4)))) (ap (λ (part : RegisterReplica). part .register) (steps .next)) refl $
         -- [the register; the other tokens; the output's last list; true; …; …; …; …; the way back; the open borrow; obs; auth; _13; …]
-        move ! (0 ∷ 8 ∷ 9 ∷ 10 ∷ 11 ∷ []) $ use2 W (‵ (lies B.the-row fullShare (withPartAt i (next i is-place) bank) b o)) (apply∗ 𝓤 (sem 𝓤 H A (lies G.the-row fullShare (next i is-place .register) b (spot G.the-row i (o + 4)))) (sem 𝓤 H A (lies B.the-row fullShare (withPartAt i (next i is-place) bank) b o))) $
-        close-ref ! tt (mem B.the-row) (withPartAt i (next i is-place) bank) {b = b} {o = o} $
+        move ! (0 ∷ 8 ∷ 9 ∷ 10 ∷ 11 ∷ []) $ use2 W (‵ (lies B.the-row fullShare (withBankPart i (next i is-place) bank) b o)) (apply∗ 𝓤 (sem 𝓤 H A (lies G.the-row fullShare (next i is-place .register) b (spot G.the-row i (o + 4)))) (sem 𝓤 H A (lies B.the-row fullShare (withBankPart i (next i is-place) bank) b o))) $
+        close-ref ! tt (mem B.the-row) (withBankPart i (next i is-place) bank) {b = b} {o = o} $
         -- [obs; the borrow; the bank's token; the other tokens; the output's last list; true; …; …; …; …; _13; …; _0; …; shared slices; true]
         returns ! (look ! 36 refl) $ forget ! 10 refl $ forget ! 12 refl $ forget ! 14 refl $ forget ! 16 refl $ forget ! 18 refl $ forget ! 20 refl $ forget ! 22 refl $ forget ! 24 refl $ forget ! 26 refl $ forget ! 28 refl $ forget ! 30 refl $ forget ! 32 refl $ forget ! 34 refl $ forget ! 36 refl $
         move ! (36 ∷ 37 ∷ []) $ free1 ! $ move ! (34 ∷ 35 ∷ []) $ free1 ! $ move ! (32 ∷ 33 ∷ []) $ free1 ! $ move ! (30 ∷ 31 ∷ []) $ free1 ! $ move ! (28 ∷ 29 ∷ []) $ free1 ! $ move ! (26 ∷ 27 ∷ []) $ free1 ! $ move ! (24 ∷ 25 ∷ []) $ free1 ! $ move ! (22 ∷ 23 ∷ []) $ free1 ! $ move ! (20 ∷ 21 ∷ []) $ free1 ! $ move ! (18 ∷ 19 ∷ []) $ free1 ! $ move ! (16 ∷ 17 ∷ []) $ free1 ! $ move ! (14 ∷ 15 ∷ []) $ free1 ! $ move ! (12 ∷ 13 ∷ []) $ free1 ! $ move ! (10 ∷ 11 ∷ []) $ free1 ! $ free0 ! $
         keep ! (0 ∷ 1 ∷ 2 ∷ 3 ∷ 4 ∷ 10 ∷ []) $ by ! (exits i is-place answered (zs .1 .1 .0) (zs .1 .1 .1 .1 .1 .0) _ steps long is-answered))))))))))))))))))))))))))))
 
 module _ {M : Type 1} (𝓤 : URA M) (H : Heap 𝓤) (A : Atoms 𝓤) (W : Given 𝓤 H A) (mem : Memory → SProp 𝓤) (run : Routine → Fun 𝓤) where
-  step-in-place-walks : (C : Calls 𝓤 H) (Λ : Loops 𝓤 H) → FmC 𝓤 H (W .laws) C → Triple 𝓤 (C #bank·place-of) (Place 𝓤 H A mem run) → Triple 𝓤 (C #replica·register-in-place) (One 𝓤 H A mem run) → Walks 𝓤 H A thin.ended stayed (WpFn 𝓤 H C Λ code.function) (thin.clauses 𝓤 H A mem run)
+  step-in-place-walks : (C : Calls 𝓤 H) (Λ : Loops 𝓤 H) → FmC 𝓤 H (W .laws) C → Triple 𝓤 (C #bank·place-of) (Place 𝓤 H A mem run) → Triple 𝓤 (C #register-replica·register-in-place) (One 𝓤 H A mem run) → Walks 𝓤 H A thin.ended stayed (WpFn 𝓤 H C Λ code.function) (thin.clauses 𝓤 H A mem run)
   step-in-place-walks C Λ fm known-place known-one = walked 𝓤 H A thin.ended stayed (thin.clauses 𝓤 H A mem run) (WpFn 𝓤 H C Λ code.function)
       (λ κs. (ptr-vals, (slice-vals, (slice-vals, (slice-vals, tt)))))
       (λ κs. (mut-tells (named 0) (κs .0) B.the-row, (shr-slice-tells (named 1) (κs .1 .0) u8, (shr-slice-tells (named 2) (κs .1 .1 .0) u8, (mut-slice-tells (named 3) (κs .1 .1 .1 .0) u8, tt)))))
@@ -282,7 +282,7 @@ module _ {M : Type 1} (𝓤 : URA M) (H : Heap 𝓤) (A : Atoms 𝓤) (W : Given
   all-go : AllGo 𝓤 H A W 4 (thin.signature .params) (thin.ended .kept) stayed
   all-go = (goes-ref 𝓤 H A W 4 0 tt (plain (λ _. B.the-row)), (goes-none-slice 𝓤 H A W 4 (1 ∷ []) tt (plain (λ _. u8)) yes, (goes-none-slice 𝓤 H A W 4 (2 ∷ []) tt (plain (λ _. u8)) yes, (goes-gave-slice 𝓤 H A W 4 3 tt (plain (λ _. u8)), tt))))
 
-step-in-place-meets : {M : Type 1} (𝓤 : URA M) (H : Heap 𝓤) (A : Atoms 𝓤) → Given 𝓤 H A → (mem : Memory → SProp 𝓤) (run : Routine → Fun 𝓤) (𝓣 : Tables 𝓤 H) → Triple 𝓤 (𝓣 .C #bank·place-of) (Place 𝓤 H A mem run) → Triple 𝓤 (𝓣 .C #replica·register-in-place) (One 𝓤 H A mem run)
+step-in-place-meets : {M : Type 1} (𝓤 : URA M) (H : Heap 𝓤) (A : Atoms 𝓤) → Given 𝓤 H A → (mem : Memory → SProp 𝓤) (run : Routine → Fun 𝓤) (𝓣 : Tables 𝓤 H) → Triple 𝓤 (𝓣 .C #bank·place-of) (Place 𝓤 H A mem run) → Triple 𝓤 (𝓣 .C #register-replica·register-in-place) (One 𝓤 H A mem run)
     → Meets 𝓤 H A thin.signature (WpFn 𝓤 H (𝓣 .C) (𝓣 .Λ) code.function) (thin.spec 𝓤 H A mem run)
 step-in-place-meets 𝓤 H A W mem run 𝓣 known-place known-one =
     walk-meets 𝓤 H A thin.ended stayed W (all-go 𝓤 H A W mem run) (thin.clauses 𝓤 H A mem run)
@@ -295,4 +295,4 @@ step-in-place-spec 𝓤 H 𝓜 𝓖 𝓡 =
     (tables 𝓤 H 𝓜 𝓡 code.env .C) (tables 𝓤 H 𝓜 𝓡 code.env .Λ) #bank·step-in-place code.function (code.unfolded 𝓤 H 𝓜 𝓡)
     (step-in-place-meets 𝓤 H (𝓖 .A) (givenOf 𝓤 H 𝓜 𝓖) (𝓜 .mem) (𝓡 .run) (tablesOf 𝓤 H 𝓜 (tables 𝓤 H 𝓜 𝓡 code.env))
     (cited 𝓤 H (Place 𝓤 H (𝓖 .A) (𝓜 .mem) (𝓡 .run)) 𝓜 𝓡 code.env #bank·place-of place-def.routine code.calls-bank·place-of (place-thm.met 𝓤 H 𝓜 𝓖 𝓡))
-    (cited 𝓤 H (One 𝓤 H (𝓖 .A) (𝓜 .mem) (𝓡 .run)) 𝓜 𝓡 code.env #replica·register-in-place one-def.routine code.calls-replica·register-in-place (one-thm.met 𝓤 H 𝓜 𝓖 𝓡)))
+    (cited 𝓤 H (One 𝓤 H (𝓖 .A) (𝓜 .mem) (𝓡 .run)) 𝓜 𝓡 code.env #register-replica·register-in-place one-def.routine code.calls-register-replica·register-in-place (one-thm.met 𝓤 H 𝓜 𝓖 𝓡)))

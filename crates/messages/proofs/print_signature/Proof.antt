@@ -4,7 +4,7 @@ use Prim.Native.Nat.{_≤_}
 use native.Mathlib.Omega.{arith}
 use lib.ListN.{length}
 use lib.Seq.{length-take-le}
-use Rattle.wire.proofs.Signing.{covered-inside}
+use Rattle.wire.proofs.MessageSignatures.{covered-inside}
 use borrow.Author.Needs.{needs}
 use Rattle.messages.proofs.print_signature.Statement.{statement}
 use Rattle.messages.proofs.print_signature.Tie as tie

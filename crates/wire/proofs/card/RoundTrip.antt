@@ -18,7 +18,7 @@ use Rattle.base.specs.BitMap.{mapOf}
 use Rattle.base.proofs.Apart.{apart}
 use Rattle.wire.specs.declared.card.Row.{Row}
 use Rattle.wire.specs.Card.{table, Fields, standing, readFields, goodCardMap, readCard, writeFields, writeCard, inRange, legalFields, fieldsRecord, fieldsOf, cardRead}
-use Rattle.wire.proofs.card.Parsed.{ReadAs, ended, missing, present, read-as, mapped, stood, stands, field-missing, field-present, good-small, with-good-map}
+use Rattle.wire.proofs.card.FieldsAndMap.{ReadAs, ended, missing, present, read-as, mapped, stood, stands, field-missing, field-present, good-small, with-good-map}
 
 -- Each row's values fit its bytes.
 abbrev Fitting : List Row → Type 0

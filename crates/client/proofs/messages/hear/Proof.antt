@@ -2,7 +2,7 @@
 use mathlib.Core.Path.{sym, ap, _∙_}
 use Rattle.wire.specs.Acceptance.{acceptingOutcome}
 use Rattle.wire.specs.declared.message.Party.the-variants.{Client as AtClient}
-use Rattle.wire.proofs.Handed.{signers-are}
+use Rattle.wire.proofs.MessageParts.{signers-are}
 use Rattle.client.specs.Roles.{roleStep}
 use Rattle.client.proofs.Calling.{step-calls, too-short, is-refused, behind-output}
 use Rattle.client.proofs.Parting.{step-refused, passed-step}

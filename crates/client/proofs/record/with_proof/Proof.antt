@@ -4,7 +4,7 @@ use borrow.Author.Needs.{needs}
 use Rattle.base.specs.Bytes.{filled}
 use Rattle.base.proofs.Filling.{filled-whole}
 use Rattle.wire.specs.Parts.{digestPart, entriesPart}
-use Rattle.wire.proofs.Handed.{by-parts}
+use Rattle.wire.proofs.MessageParts.{by-parts}
 use Rattle.client.proofs.record.with_proof.Statement.{statement}
 use Rattle.client.proofs.record.with_proof.Tie as tie
 

@@ -1,6 +1,6 @@
 -- `client::replies::best_of` meets its contract. Assumes nothing.
 use mathlib.Core.Path.{_∙_}
-use Rattle.wire.proofs.Handed.{shown}
+use Rattle.wire.proofs.MessageParts.{shown}
 use Rattle.client.proofs.ProofPart.{compared}
 use borrow.Author.Needs.{needs}
 use Rattle.client.proofs.replies.best_of.Statement.{statement}

@@ -3,8 +3,8 @@ use mathlib.Core.Path.{_≡_}
 use borrow.Author.Needs.{needs}
 use Rattle.base.specs.Outcome.{accepted}
 use Rattle.wire.specs.Accepting.{opened}
-use Rattle.wire.proofs.Accepted.{opened-accepted, both-good, second-refuses, first-refuses}
-use Rattle.wire.proofs.Accepting.{answered, turned-down}
+use Rattle.wire.proofs.AcceptanceInHalves.{opened-accepted, both-good, second-refuses, first-refuses}
+use Rattle.wire.proofs.Tests6To11.{answered, turned-down}
 use Rattle.wire.proofs.acceptance.accept.Statement.{statement}
 use Rattle.wire.proofs.acceptance.accept.Tie as tie
 

@@ -4,7 +4,7 @@ use Prim.Native.Nat.{_+_, _≤_}
 use native.Mathlib.Omega.{arith}
 use borrow.Author.Tests.{eq-eqb}
 use Rattle.wire.specs.Accepting.{proofBetween}
-use Rattle.wire.proofs.Accepting.{there}
+use Rattle.wire.proofs.Tests6To11.{checked-there}
 use borrow.Author.Needs.{needs}
 use Rattle.wire.proofs.acceptance.check_between.Statement.{statement}
 use Rattle.wire.proofs.acceptance.check_between.Tie as tie
@@ -38,7 +38,7 @@ returns-2 c =
     let a = b .args in
     let inside = whole (c .before .before .before) in
     c .check-proof .ensures
-    ∙ there (a .f) (a .bytes .now) (a .at .start) (a .head) (a .at .end) (a .verdicts .now) (c .before .before .timestamp-in .result) (c .before .before .before .if1 .left) (b .pre .1) inside (b .pre .0 .inside) (c .before .before .timestamp-in .ensures)
+    ∙ checked-there (a .f) (a .bytes .now) (a .at .start) (a .head) (a .at .end) (a .verdicts .now) (c .before .before .timestamp-in .result) (c .before .before .before .if1 .left) (b .pre .1) inside (b .pre .0 .inside) (c .before .before .timestamp-in .ensures)
 
 pub check-between-spec : {M : Type 1} → statement M
 check-between-spec =

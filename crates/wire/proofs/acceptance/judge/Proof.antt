@@ -5,13 +5,13 @@ use native.Mathlib.Omega.{arith}
 use lib.ListN.{length}
 use Rattle.wire.specs.Accepting.{signatureCount}
 use Rattle.wire.specs.Decode.{fieldsIn}
-use Rattle.wire.proofs.Accepting.{Placed, placed, judged-parts}
+use Rattle.wire.proofs.Tests6To11.{Placed, fields-placed, judged-parts}
 use borrow.Author.Needs.{needs}
 use Rattle.wire.proofs.acceptance.judge.Statement.{statement}
 use Rattle.wire.proofs.acceptance.judge.Tie as tie
 
 at-places : (c : tie.Start) → Placed (c .args .bytes .now) (c .args .fields)
-at-places c = placed (c .args .bytes .now) (c .args .fields) (c .pre .whole)
+at-places c = fields-placed (c .args .bytes .now) (c .args .fields) (c .pre .whole)
 
 enough : (c : tie.After-entry-count) → 1 + c .entry-count .result ≤ length (c .before .before .before .before .before .args .verdicts .now)
 unfolding signatureCount fieldsIn

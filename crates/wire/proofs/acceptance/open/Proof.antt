@@ -14,7 +14,7 @@ use Rattle.wire.specs.Acceptance.{numbered, inItsRange, maySend}
 use Rattle.wire.specs.Accepting.{opened, signatureCount}
 use Rattle.wire.specs.Checks.{ownGenuine, all}
 use Rattle.wire.specs.Decode.{reading}
-use Rattle.wire.proofs.Accepting.{Placed, placed-reading, all-signatures, opened-read, opened-unread, answered, turned-down}
+use Rattle.wire.proofs.Tests6To11.{Placed, placed-reading, all-signatures, opened-read, opened-unread, answered, turned-down}
 use borrow.Author.Needs.{needs}
 use Rattle.wire.proofs.acceptance.open.Statement.{statement}
 use Rattle.wire.proofs.acceptance.open.Tie as tie

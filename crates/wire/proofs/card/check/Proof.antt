@@ -2,7 +2,7 @@
 use mathlib.Core.Path.{ap, _∙_}
 use Rattle.wire.specs.Card.{cardOutcome, readCard}
 use Rattle.wire.specs.declared.card.CardRead.{CardRead}
-use Rattle.wire.proofs.card.Parsed.{outcome-read}
+use Rattle.wire.proofs.card.FieldsAndMap.{outcome-read}
 use borrow.Author.Needs.{needs}
 use Rattle.wire.proofs.card.check.Statement.{statement}
 use Rattle.wire.proofs.card.check.Tie as tie

@@ -4,7 +4,7 @@ use native.Mathlib.Omega.{arith}
 use borrow.Author.Tests.{not-true, not-false}
 use lib.Seq.{length-take-le}
 use Rattle.wire.specs.Card.{readAnswer}
-use Rattle.wire.proofs.card.Parsed.{good-small, without-map, with-bad-map, with-good-map}
+use Rattle.wire.proofs.card.FieldsAndMap.{good-small, without-map, with-bad-map, with-good-map}
 use borrow.Author.Needs.{needs}
 use Rattle.wire.proofs.card.read.Statement.{statement}
 use Rattle.wire.proofs.card.read.Tie as tie

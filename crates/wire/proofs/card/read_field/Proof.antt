@@ -5,7 +5,7 @@ use native.Mathlib.Omega.{arith}
 use lib.ListN.{length, take, drop, length-drop}
 use Rattle.base.specs.BigEndian.{fromBytes}
 use Rattle.base.proofs.Range.{inside, below, above}
-use Rattle.wire.proofs.card.Parsed.{too-short, stands, stands-not}
+use Rattle.wire.proofs.card.FieldsAndMap.{too-short, stands, stands-not}
 use borrow.Author.Needs.{needs}
 use Rattle.wire.proofs.card.read_field.Statement.{statement}
 use Rattle.wire.proofs.card.read_field.Tie as tie

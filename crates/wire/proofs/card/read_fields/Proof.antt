@@ -5,7 +5,7 @@ use Prim.Native.Nat.{_-_}
 use native.Mathlib.Omega.{arith}
 use borrow.Author.Needs.{needs}
 use Rattle.wire.specs.Card.{fieldOf, readAnswer}
-use Rattle.wire.proofs.card.Reading.{Reading, begun, passed-missing, passed-present, refused-present, refused-longer, finished}
+use Rattle.wire.proofs.card.BitByBit.{Reading, begun, passed-missing, passed-present, refused-present, refused-longer, finished}
 use Rattle.wire.proofs.card.read_fields.Statement.{statement}
 use Rattle.wire.proofs.card.read_fields.Tie as tie
 

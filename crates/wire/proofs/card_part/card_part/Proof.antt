@@ -4,7 +4,7 @@ use native.Mathlib.Omega.{arith}
 use borrow.Author.Needs.{needs}
 use Rattle.wire.specs.CardPart.{cardPart, cardStart}
 use Rattle.wire.specs.Found.{Carries}
-use Rattle.wire.proofs.Carrying.{found, not-found}
+use Rattle.wire.proofs.CarriedCard.{found, not-found}
 use Rattle.wire.proofs.card_part.card_part.Statement.{statement}
 use Rattle.wire.proofs.card_part.card_part.Tie as tie
 

@@ -7,10 +7,10 @@ use Rattle.wire.specs.Decode.{framed}
 use Rattle.wire.specs.Layout.{place}
 use Rattle.wire.specs.Places.{placesIn}
 use Rattle.wire.specs.declared.frame.Places.{Places}
-use Rattle.wire.proofs.Carrying.{no-frame, no-card, with-card}
+use Rattle.wire.proofs.CarriedCard.{no-frame, no-card, with-card}
 use Rattle.wire.proofs.FieldParts.{rooms}
 use Rattle.wire.proofs.FrameTests.{framing-whole, framing-refused, known}
-use Rattle.wire.proofs.Framed.{place-rises}
+use Rattle.wire.proofs.FieldPlaces.{place-rises}
 use Rattle.wire.proofs.card_part.find.Statement.{statement}
 use Rattle.wire.proofs.card_part.find.Tie as tie
 

@@ -5,7 +5,7 @@ use borrow.Author.Needs.{needs}
 use borrow.Author.Tests.{lt-ltb, le-ltb}
 use Rattle.wire.specs.CardPart.{cardStart, laterCard, secondLater, laterStart}
 use Rattle.wire.specs.Found.{Carries}
-use Rattle.wire.proofs.Carrying.{found, not-found}
+use Rattle.wire.proofs.CarriedCard.{found, not-found}
 use Rattle.wire.proofs.card_part.later_card.Statement.{statement}
 use Rattle.wire.proofs.card_part.later_card.Tie as tie
 

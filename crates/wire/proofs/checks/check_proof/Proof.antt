@@ -8,7 +8,7 @@ use Rattle.base.proofs.Outcome.{guard-passes, guard-refuses}
 use Rattle.base.proofs.Timestamps.{ofNumber-number}
 use Rattle.wire.specs.Checks.{genuine, issued, proofOutcome}
 use Rattle.wire.specs.Judging.{entriesIn, proofCheckOutcome}
-use Rattle.wire.proofs.Proven.{shape-passed, shape-refused}
+use Rattle.wire.proofs.FirstRefusal.{shape-passed, shape-refused}
 use borrow.Author.Needs.{needs}
 use Rattle.wire.proofs.checks.check_proof.Statement.{statement}
 use Rattle.wire.proofs.checks.check_proof.Tie as tie

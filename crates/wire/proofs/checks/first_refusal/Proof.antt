@@ -3,7 +3,7 @@ use mathlib.Core.Path.{sym, ap, _∙_}
 use Rattle.base.specs.Outcome.{Outcome, refused, guard}
 use Rattle.base.specs.declared.replica_set.ReplicaSet.{ReplicaSet}
 use Rattle.wire.specs.Judging.{smallest}
-use Rattle.wire.proofs.Proven.{smallest-good}
+use Rattle.wire.proofs.FirstRefusal.{smallest-good}
 use borrow.Author.Needs.{needs}
 use Rattle.wire.proofs.checks.first_refusal.Statement.{statement}
 use Rattle.wire.proofs.checks.first_refusal.Tie as tie

@@ -4,7 +4,7 @@ use Prim.Native.Nat.{_≤_}
 use native.Mathlib.Omega.{arith}
 use borrow.Author.Needs.{needs}
 use Rattle.wire.specs.Layout.{place}
-use Rattle.wire.proofs.Reading.{taken, cut}
+use Rattle.wire.proofs.FieldEnds.{taken, cut}
 use Rattle.wire.proofs.frame.lay.Statement.{statement}
 use Rattle.wire.proofs.frame.lay.Tie as tie
 

@@ -8,7 +8,7 @@ use lib.ListN.{length}
 use Rattle.base.specs.Outcome.{accepted}
 use Rattle.base.proofs.Outcome.{guard-passes, guard-refuses}
 use Rattle.wire.specs.Layout.{place}
-use Rattle.wire.proofs.Reading.{taken, cut, placed}
+use Rattle.wire.proofs.FieldEnds.{taken, cut, places-found}
 use Rattle.wire.proofs.frame.lay_back.Statement.{statement}
 use Rattle.wire.proofs.frame.lay_back.Tie as tie
 
@@ -89,7 +89,7 @@ returns-7 c =
     let b = start5 c₁₀ in
     let s = b .args .bytes .now in
     let ends : place s 10 + 64 ≡ length s = omega arith in
-    ap accepted (placed s _ _ _ _ _ _ _ _ _ _ (b .pre .0) (b .pre .1) (at6 c₆ .0) (at7 c₇ .0) (at8 c₈ .0) (at9 c₉ .0) (h .0)) ∙ sym (guard-passes 4 _ _ (eq-eqb _ _ ends))
+    ap accepted (places-found s _ _ _ _ _ _ _ _ _ _ (b .pre .0) (b .pre .1) (at6 c₆ .0) (at7 c₇ .0) (at8 c₈ .0) (at9 c₉ .0) (h .0)) ∙ sym (guard-passes 4 _ _ (eq-eqb _ _ ends))
 
 pub lay-back-spec : {M : Type 1} → statement M
 lay-back-spec =

@@ -8,8 +8,8 @@ use borrow.Author.Tests.{ne-eqb, eq-eqb}
 use Rattle.base.specs.BitMap.{bit}
 use Rattle.wire.specs.Layout.{fixed, repeated, preparedRule, writtenRule, rules, mapIn}
 use Rattle.wire.specs.declared.frame.Taken.the-variants.{Next}
-use Rattle.wire.proofs.Framed.{place-absent}
-use Rattle.wire.proofs.Reading.{field-taken, one-byte}
+use Rattle.wire.proofs.FieldPlaces.{place-absent}
+use Rattle.wire.proofs.FieldEnds.{field-taken, one-byte}
 use Rattle.wire.proofs.frame.take_field.Statement.{statement}
 use Rattle.wire.proofs.frame.take_field.Tie as tie
 

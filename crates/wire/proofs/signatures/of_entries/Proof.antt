@@ -2,7 +2,7 @@
 use mathlib.Core.Path.{ap}
 use native.Mathlib.Omega.{arith}
 use Rattle.base.specs.Outcome.{accepted}
-use Rattle.wire.proofs.Signing.{of-first, of-second, of-neither, found-so, no-answer}
+use Rattle.wire.proofs.MessageSignatures.{of-first, of-second, of-neither, found-so, no-answer}
 use borrow.Author.Needs.{needs}
 use Rattle.wire.proofs.signatures.of_entries.Statement.{statement}
 use Rattle.wire.proofs.signatures.of_entries.Tie as tie

@@ -2,8 +2,8 @@
 use mathlib.Core.Path.{_≡_, sym, _∙_}
 use Prim.Native.Nat.{suc, _-_}
 use native.Mathlib.Omega.{arith}
-use Rattle.wire.proofs.Parsed.{parsed}
-use Rattle.wire.proofs.Signing.{own-at, entry-at, prepared-stand, written-stand, found-so}
+use Rattle.wire.proofs.ReadingByKind.{parsed}
+use Rattle.wire.proofs.MessageSignatures.{own-at, entry-at, prepared-stand, written-stand, found-so}
 use borrow.Author.Needs.{needs}
 use Rattle.wire.proofs.signatures.of_fields.Statement.{statement}
 use Rattle.wire.proofs.signatures.of_fields.Tie as tie

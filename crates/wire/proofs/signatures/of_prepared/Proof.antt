@@ -1,7 +1,7 @@
 -- `wire::signatures::of_prepared` meets its contract. Assumes nothing.
 use mathlib.Core.Path.{refl, ap}
 use Rattle.base.specs.Outcome.{accepted}
-use Rattle.wire.proofs.Signing.{inside, prepared-at, answers}
+use Rattle.wire.proofs.MessageSignatures.{inside, prepared-at, answers}
 use borrow.Author.Needs.{needs}
 use Rattle.wire.proofs.signatures.of_prepared.Statement.{statement}
 use Rattle.wire.proofs.signatures.of_prepared.Tie as tie

@@ -1,7 +1,7 @@
 -- `wire::signatures::of_written` meets its contract. Assumes nothing.
 use mathlib.Core.Path.{refl, ap}
 use Rattle.base.specs.Outcome.{accepted}
-use Rattle.wire.proofs.Signing.{inside, written-at, answers}
+use Rattle.wire.proofs.MessageSignatures.{inside, written-at, answers}
 use borrow.Author.Needs.{needs}
 use Rattle.wire.proofs.signatures.of_written.Statement.{statement}
 use Rattle.wire.proofs.signatures.of_written.Tie as tie

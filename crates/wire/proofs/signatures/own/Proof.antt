@@ -5,7 +5,7 @@ use native.Mathlib.Omega.{arith}
 use lib.ListN.{length, take}
 use lib.Seq.{length-take-le}
 use Rattle.base.proofs.Stored.{stored-fits}
-use Rattle.wire.proofs.Signing.{answers}
+use Rattle.wire.proofs.MessageSignatures.{answers}
 use borrow.Author.Needs.{needs}
 use Rattle.wire.proofs.signatures.own.Statement.{statement}
 use Rattle.wire.proofs.signatures.own.Tie as tie

@@ -8,8 +8,8 @@ use Rattle.wire.specs.Decode.{reading}
 use Rattle.wire.specs.Message.{longest}
 use Rattle.wire.specs.Signatures.{signatureTo}
 use Rattle.wire.specs.Writing.{roomy}
-use Rattle.wire.proofs.Accepting.{answered, turned-down}
-use Rattle.wire.proofs.Signing.{unread-at, found-so, refuses}
+use Rattle.wire.proofs.Tests6To11.{answered, turned-down}
+use Rattle.wire.proofs.MessageSignatures.{unread-at, found-so, refuses}
 use borrow.Author.Needs.{needs}
 use Rattle.wire.proofs.signatures.signature.Statement.{statement}
 use Rattle.wire.proofs.signatures.signature.Tie as tie

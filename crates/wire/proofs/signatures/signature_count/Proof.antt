@@ -4,8 +4,8 @@ use native.Mathlib.Omega.{arith}
 use borrow.Author.Needs.{needs}
 use Rattle.base.specs.Outcome.{accepted, refused}
 use Rattle.wire.specs.Decode.{reading}
-use Rattle.wire.proofs.Accepting.{placed-reading, answered, turned-down}
-use Rattle.wire.proofs.Signing.{signatures-counted, no-signatures}
+use Rattle.wire.proofs.Tests6To11.{placed-reading, answered, turned-down}
+use Rattle.wire.proofs.MessageSignatures.{signatures-counted, no-signatures}
 use Rattle.wire.proofs.signatures.signature_count.Statement.{statement}
 use Rattle.wire.proofs.signatures.signature_count.Tie as tie
 

@@ -2,7 +2,7 @@
 use native.Mathlib.Omega.{arith}
 use Rattle.base.specs.Timestamp.{number}
 use Rattle.wire.proofs.Stores.{then, restated}
-use Rattle.wire.proofs.Unsigned.{prepared-body}
+use Rattle.wire.proofs.WrittenParts.{prepared-body}
 use borrow.Author.Needs.{needs}
 use Rattle.wire.proofs.writer.put_prepared_body.Statement.{statement}
 use Rattle.wire.proofs.writer.put_prepared_body.Tie as tie

@@ -2,7 +2,7 @@
 use native.Mathlib.Omega.{arith}
 use Rattle.base.specs.Timestamp.{number}
 use Rattle.wire.proofs.Stores.{then, restated}
-use Rattle.wire.proofs.Unsigned.{written-body}
+use Rattle.wire.proofs.WrittenParts.{written-body}
 use borrow.Author.Needs.{needs}
 use Rattle.wire.proofs.writer.put_written_body.Statement.{statement}
 use Rattle.wire.proofs.writer.put_written_body.Tie as tie

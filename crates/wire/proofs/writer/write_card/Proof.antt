@@ -3,7 +3,7 @@ use Prim.Native.Nat.{_+_}
 use native.Mathlib.Omega.{arith}
 use Rattle.wire.specs.Writing.{keptCard, missing, keptPrepared}
 use Rattle.wire.proofs.Stores.{then, wrote, turned-down}
-use Rattle.wire.proofs.Unsigned.{card-parts}
+use Rattle.wire.proofs.WrittenParts.{card-parts}
 use borrow.Author.Needs.{needs}
 use Rattle.wire.proofs.writer.write_card.Statement.{statement}
 use Rattle.wire.proofs.writer.write_card.Tie as tie

@@ -4,7 +4,7 @@ use native.Mathlib.Omega.{arith}
 use Rattle.base.specs.Timestamp.{number}
 use Rattle.wire.specs.Writing.{missing, keptPrepared, keptWritten}
 use Rattle.wire.proofs.Stores.{then, wrote, turned-down}
-use Rattle.wire.proofs.Unsigned.{prepare-parts}
+use Rattle.wire.proofs.WrittenParts.{prepare-parts}
 use borrow.Author.Needs.{needs}
 use Rattle.wire.proofs.writer.write_prepare.Statement.{statement}
 use Rattle.wire.proofs.writer.write_prepare.Tie as tie

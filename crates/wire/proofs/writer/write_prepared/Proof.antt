@@ -3,7 +3,7 @@ use native.Mathlib.Omega.{arith}
 use Rattle.base.specs.Timestamp.{number}
 use Rattle.wire.specs.Message.{PREPARED}
 use Rattle.wire.proofs.Stores.{then, wrote, turned-down}
-use Rattle.wire.proofs.Unsigned.{body-unsigned}
+use Rattle.wire.proofs.WrittenParts.{body-unsigned}
 use borrow.Author.Needs.{needs}
 use Rattle.wire.proofs.writer.write_prepared.Statement.{statement}
 use Rattle.wire.proofs.writer.write_prepared.Tie as tie

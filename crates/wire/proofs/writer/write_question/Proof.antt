@@ -1,7 +1,7 @@
 -- `wire::writer::write_question` meets its contract. Assumes nothing.
 use native.Mathlib.Omega.{arith}
 use Rattle.wire.proofs.Stores.{then, wrote, turned-down}
-use Rattle.wire.proofs.Unsigned.{question-parts}
+use Rattle.wire.proofs.WrittenParts.{question-parts}
 use borrow.Author.Needs.{needs}
 use Rattle.wire.proofs.writer.write_question.Statement.{statement}
 use Rattle.wire.proofs.writer.write_question.Tie as tie

@@ -1,5 +1,5 @@
 -- `wire::writer::write_read` meets its contract. Assumes nothing.
-use Rattle.wire.proofs.Unsigned.{read-bytes}
+use Rattle.wire.proofs.WrittenParts.{read-bytes}
 use borrow.Author.Needs.{needs}
 use Rattle.wire.proofs.writer.write_read.Statement.{statement}
 use Rattle.wire.proofs.writer.write_read.Tie as tie

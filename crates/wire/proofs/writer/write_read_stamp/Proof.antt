@@ -1,5 +1,5 @@
 -- `wire::writer::write_read_stamp` meets its contract. Assumes nothing.
-use Rattle.wire.proofs.Unsigned.{read-stamp-bytes}
+use Rattle.wire.proofs.WrittenParts.{read-stamp-bytes}
 use borrow.Author.Needs.{needs}
 use Rattle.wire.proofs.writer.write_read_stamp.Statement.{statement}
 use Rattle.wire.proofs.writer.write_read_stamp.Tie as tie

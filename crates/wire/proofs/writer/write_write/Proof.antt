@@ -2,7 +2,7 @@
 use native.Mathlib.Omega.{arith}
 use Rattle.wire.specs.Writing.{keptCard, keptPrepared}
 use Rattle.wire.proofs.Stores.{then, wrote, turned-down}
-use Rattle.wire.proofs.Unsigned.{write-parts}
+use Rattle.wire.proofs.WrittenParts.{write-parts}
 use borrow.Author.Needs.{needs}
 use Rattle.wire.proofs.writer.write_write.Statement.{statement}
 use Rattle.wire.proofs.writer.write_write.Tie as tie

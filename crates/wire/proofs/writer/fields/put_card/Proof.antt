@@ -1,6 +1,6 @@
 -- `wire::writer::fields::put_card` meets its contract. Assumes nothing.
 use native.Mathlib.Omega.{arith}
-use Rattle.wire.proofs.Kept.{card-kept}
+use Rattle.wire.proofs.RecordBytes.{card-kept}
 use Rattle.wire.proofs.Stores.{then, restated}
 use borrow.Author.Needs.{needs}
 use Rattle.wire.proofs.writer.fields.put_card.Statement.{statement}

@@ -1,6 +1,6 @@
 -- `wire::writer::proof::put_entries` meets its contract. Assumes nothing.
 use native.Mathlib.Omega.{arith}
-use Rattle.wire.proofs.Kept.{entries-kept}
+use Rattle.wire.proofs.RecordBytes.{entries-kept}
 use Rattle.wire.proofs.Stores.{then, restated}
 use borrow.Author.Needs.{needs}
 use Rattle.wire.proofs.writer.proof.put_entries.Statement.{statement}
