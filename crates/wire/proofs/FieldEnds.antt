@@ -11,7 +11,10 @@ use Rattle.base.specs.BitMap.{bit}
 use Rattle.base.specs.Outcome.{Outcome, refused, guard}
 use Rattle.base.proofs.Outcome.{guard-refuses}
 use Rattle.wire.specs.Layout.{Rule, fixed, extent, rules, mapIn, place}
-use Rattle.wire.specs.Places.{TakesField, Fronted, placesIn}
+use Rattle.wire.specs.Places.{TakesField, Lays, placesIn, backIn}
+use Rattle.wire.specs.declared.frame.BackPlaces.{BackPlaces}
+use Rattle.wire.specs.declared.frame.Laid.{Laid}
+use Rattle.wire.specs.declared.frame.Laid.the-variants.{Back, Refused as BackRefused}
 use Rattle.wire.specs.declared.frame.Places.{Places}
 use Rattle.wire.specs.declared.frame.Taken.{Taken}
 use Rattle.wire.specs.declared.frame.Taken.the-variants.{Next, Cut}
@@ -21,12 +24,16 @@ use Rattle.wire.proofs.FieldPlaces.{place-present, place-rises}
 pub taken : (s : List ℕ) (at end next near : ℕ) (r : Taken) → TakesField s at end r → r ≡ Next next → at ≤ near → (next ≡ end) × (next ≤ near + 20_000)
 taken s at end next near r h e low = let k : (next ≡ end) × (end ≤ at + 20_000) = rw e at h in (k .0, omega arith)
 
--- Where a field's length cannot be read, test 4 fails.
-pub cut : {A : Type 0} (s : List ℕ) (at b : ℕ) (r : Taken) (next : Outcome A) → b ≤ 10 → TakesField s at (place s b) r → r ≡ Cut → refused 4 ≡ guard 4 (eqb (place s 10 + 64) (length s)) next
-cut s at b r next low h e =
+-- Where a field's length cannot be read, the signature does not end where the message does, since places only rise:
+pub cut-short : (s : List ℕ) (at b : ℕ) (r : Taken) → b ≤ 10 → TakesField s at (place s b) r → r ≡ Cut → place s 10 + 64 ≡ length s → ⊥
+cut-short s at b r low h e ends =
     let past : length s < place s b = rw e at h in
     let more = place-rises s b 10 low in
-    sym (guard-refuses 4 (eqb (place s 10 + 64) (length s)) next (ne-eqb (place s 10 + 64) (length s) (λ k. omega arith)))
+    omega arith
+
+-- and then test 4 fails.
+pub misfit : {A : Type 0} (s : List ℕ) (next : Outcome A) → (place s 10 + 64 ≡ length s → ⊥) → refused 4 ≡ guard 4 (eqb (place s 10 + 64) (length s)) next
+misfit s next h = sym (guard-refuses 4 (eqb (place s 10 + 64) (length s)) next (ne-eqb (place s 10 + 64) (length s) h))
 
 -- Bits 0, 1, 8 and 9 are the fields of one byte.
 pub one-byte : (b : ℕ) → b < 10 → (b ≡ 2 → ⊥) → (b ≡ 3 → ⊥) → (b ≡ 4 → ⊥) → (b ≡ 5 → ⊥) → (b ≡ 6 → ⊥) → (b ≡ 7 → ⊥) → getD rules b (fixed 0) ≡ fixed 1
@@ -51,21 +58,33 @@ field-taken s b at rule r set here same h = subst (λ (end : ℕ). TakesField s 
     ends : at + extent rule (drop at s) ≡ place s (suc b)
     ends = rw (place-present s b set, same, ← here)
 
+-- What was laid behind the card, by the answer.
+pub laid : (s : List ℕ) (back : BackPlaces) (r : Laid) → Lays s r → r ≡ Back back → (back ≡ backIn s) × (place s 10 + 64 ≡ length s)
+laid s back r h e = rw e at h
+
+pub not-laid : (s : List ℕ) (r : Laid) → Lays s r → r ≡ BackRefused → place s 10 + 64 ≡ length s → ⊥
+not-laid s r h e = rw e at h
+
 -- The places that were found are those of the message.
-pub places-found : (s : List ℕ) (map nonce timestamp digest card prepared written addressed register signature : ℕ) → map ≡ mapIn s → Fronted s nonce timestamp digest card
+pub back-found : (s : List ℕ) (prepared written addressed register signature : ℕ)
     → prepared ≡ place s 6 → written ≡ place s 7 → addressed ≡ place s 8 → register ≡ place s 9 → signature ≡ place s 10
+    → _≡_ {A = BackPlaces} (record { prepared = prepared; written = written; addressed = addressed; register = register; signature = signature }) (backIn s)
+unfolding backIn
+back-found s prepared written addressed register signature e6 e7 e8 e9 e10 = rw (e6, e7, e8, e9, e10)
+
+pub places-found : (s : List ℕ) (map nonce timestamp digest card : ℕ) (back : BackPlaces)
+    → map ≡ mapIn s → nonce ≡ place s 2 → timestamp ≡ place s 3 → digest ≡ place s 4 → card ≡ place s 5 → back ≡ backIn s
     → _≡_ {A = Places} (record {
       map = map;
       nonce = nonce;
       timestamp = timestamp;
       digest = digest;
       card = card;
-      prepared = prepared;
-      written = written;
-      addressed = addressed;
-      register = register;
-      signature = signature;
+      prepared = back .prepared;
+      written = back .written;
+      addressed = back .addressed;
+      register = back .register;
+      signature = back .signature;
     }) (placesIn s)
-unfolding placesIn
-places-found s map nonce timestamp digest card prepared written addressed register signature m q e6 e7 e8 e9 e10 =
-    rw (m, q .nonce-at, q .timestamp-at, q .digest-at, q .card-at, e6, e7, e8, e9, e10)
+unfolding placesIn backIn
+places-found s map nonce timestamp digest card back m e2 e3 e4 e5 b = rw (m, e2, e3, e4, e5, b)

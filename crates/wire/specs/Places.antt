@@ -5,8 +5,11 @@ use Prim.Native.Nat.{ℕ, _+_, _≤_, _<_}
 use lib.ListN.{length}
 use Rattle.base.specs.Outcome.{Outcome, accepted, refused}
 use Rattle.wire.specs.Layout.{mapIn, place, signaturePlace}
+use Rattle.wire.specs.declared.frame.BackPlaces.{BackPlaces}
 use Rattle.wire.specs.declared.frame.Framing.{Framing}
 use Rattle.wire.specs.declared.frame.Framing.the-variants.{Whole, Refused}
+use Rattle.wire.specs.declared.frame.Laid.{Laid}
+use Rattle.wire.specs.declared.frame.Laid.the-variants.{Back, Refused as BackRefused}
 use Rattle.wire.specs.declared.frame.Places.{Places}
 use Rattle.wire.specs.declared.frame.Taken.{Taken}
 use Rattle.wire.specs.declared.frame.Taken.the-variants.{Next, Cut}
@@ -15,14 +18,6 @@ use Rattle.wire.specs.declared.frame.Taken.the-variants.{Next, Cut}
 abbrev pub TakesField : List ℕ → ℕ → ℕ → Taken → Type 0
 TakesField bytes at end (Next next) = (next ≡ end) × (end ≤ at + 20_000)
 TakesField bytes at end Cut = length bytes < end
-
--- Where the fields up to the digest stand, and that it is not far.
-pub record Fronted (bytes : List ℕ) (nonce timestamp digest card : ℕ) : Type 0 where
-  pub nonce-at : nonce ≡ place bytes 2
-  pub timestamp-at : timestamp ≡ place bytes 3
-  pub digest-at : digest ≡ place bytes 4
-  pub card-at : card ≡ place bytes 5
-  pub near : card ≤ 100_002
 
 unfoldable pub placesIn : List ℕ → Places
 placesIn bytes =
@@ -38,6 +33,15 @@ placesIn bytes =
       register = place bytes 9;
       signature = signaturePlace bytes;
     }
+
+-- The places behind the card, if the signature ends where the message does.
+unfoldable pub backIn : List ℕ → BackPlaces
+backIn bytes =
+    record { prepared = place bytes 6; written = place bytes 7; addressed = place bytes 8; register = place bytes 9; signature = signaturePlace bytes }
+
+abbrev pub Lays : List ℕ → Laid → Type 0
+Lays bytes (Back back) = (back ≡ backIn bytes) × (signaturePlace bytes + 64 ≡ length bytes)
+Lays bytes BackRefused = signaturePlace bytes + 64 ≡ length bytes → ⊥
 
 -- What an answer of the code stands for.
 abbrev pub frameOutcome : Framing → Outcome Places

@@ -18,7 +18,7 @@ ghost use lib.ListN.{length, drop};
 ghost use Rattle.base.specs.Outcome.{accepted, guard};
 ghost use Rattle.wire.specs.Layout.{repeated, extent, fieldBits, mapIn, place, signaturePlace};
 ghost use Rattle.wire.specs.Decode.{framed};
-ghost use Rattle.wire.specs.Places.{TakesField, Fronted, placesIn, frameOutcome};
+ghost use Rattle.wire.specs.Places.{TakesField, Lays, placesIn, frameOutcome};
 
 // The bit map, and where each field starts, or would start if it were there.
 pub struct Places {
@@ -34,9 +34,24 @@ pub struct Places {
     pub signature: usize,
 }
 
+// Those of them behind the card.
+struct BackPlaces {
+    prepared: usize,
+    written: usize,
+    addressed: usize,
+    register: usize,
+    signature: usize,
+}
+
 pub enum Framing {
     Whole(Places),
     Refused(u8),
+}
+
+// The places behind the card; refused if the fields and the signature do not end where the message does (4).
+enum Laid {
+    Back(BackPlaces),
+    Refused,
 }
 
 // Where a field ends; or that the message ends before the field's own length can be read.
@@ -80,41 +95,29 @@ fn take_field(bytes: &[u8], map: u16, bit: usize, at: usize) -> Taken
 }
 
 // Test 4 from the card on.
-fn lay_back(
-    bytes: &[u8],
-    map: u16,
-    nonce: usize,
-    timestamp: usize,
-    digest: usize,
-    card: usize,
-) -> Framing
-    requires { ⌜ (map ≡ mapIn (now bytes)) × Fronted (now bytes) nonce timestamp digest card ⌝ }
-    ensures { λ r. ⌜ frameOutcome r ≡ guard 4 (eqb (signaturePlace (now (bytes .entry)) + 64) (length (now (bytes .entry)))) (accepted (placesIn (now (bytes .entry)))) ⌝ }
+fn lay_back(bytes: &[u8], map: u16, card: usize) -> Laid
+    requires { ⌜ (map ≡ mapIn (now bytes)) × (card ≡ place (now bytes) 5) × (card ≤ 100_002) ⌝ }
+    ensures { λ r. ⌜ Lays (now (bytes .entry)) r ⌝ }
 {
     let Taken::Next(prepared) = take_field(bytes, map, 5, card) else {
-        return Framing::Refused(FIELD_LENGTHS);
+        return Laid::Refused;
     };
     let Taken::Next(written) = take_field(bytes, map, 6, prepared) else {
-        return Framing::Refused(FIELD_LENGTHS);
+        return Laid::Refused;
     };
     let Taken::Next(addressed) = take_field(bytes, map, 7, written) else {
-        return Framing::Refused(FIELD_LENGTHS);
+        return Laid::Refused;
     };
     let Taken::Next(register) = take_field(bytes, map, 8, addressed) else {
-        return Framing::Refused(FIELD_LENGTHS);
+        return Laid::Refused;
     };
     let Taken::Next(signature) = take_field(bytes, map, 9, register) else {
-        return Framing::Refused(FIELD_LENGTHS);
+        return Laid::Refused;
     };
     if signature + SIGNATURE != bytes.len() {
-        return Framing::Refused(FIELD_LENGTHS);
+        return Laid::Refused;
     }
-    Framing::Whole(Places {
-        map: map,
-        nonce: nonce,
-        timestamp: timestamp,
-        digest: digest,
-        card: card,
+    Laid::Back(BackPlaces {
         prepared: prepared,
         written: written,
         addressed: addressed,
@@ -143,7 +146,21 @@ fn lay(bytes: &[u8], map: u16) -> Framing
     let Taken::Next(card) = take_field(bytes, map, 4, digest) else {
         return Framing::Refused(FIELD_LENGTHS);
     };
-    lay_back(bytes, map, nonce, timestamp, digest, card)
+    let Laid::Back(back) = lay_back(bytes, map, card) else {
+        return Framing::Refused(FIELD_LENGTHS);
+    };
+    Framing::Whole(Places {
+        map: map,
+        nonce: nonce,
+        timestamp: timestamp,
+        digest: digest,
+        card: card,
+        prepared: back.prepared,
+        written: back.written,
+        addressed: back.addressed,
+        register: back.register,
+        signature: back.signature,
+    })
 }
 
 // Tests 2 and 3 before it.

@@ -122,11 +122,7 @@ fn last_rounds(middle: WorkingVariables, k: &[u32; 64], w: &[u32; 64]) -> Workin
         v = round_at(v, k, w, t + 1);
         v = round_at(v, k, w, t + 2);
         v = round_at(v, k, w, t + 3);
-        v = round_at(v, k, w, t + 4);
-        v = round_at(v, k, w, t + 5);
-        v = round_at(v, k, w, t + 6);
-        v = round_at(v, k, w, t + 7);
-        t += 8;
+        t += 4;
     }
     v
 }

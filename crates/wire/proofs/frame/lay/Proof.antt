@@ -1,10 +1,13 @@
 -- `wire::frame::lay` meets its contract. Assumes nothing.
-use mathlib.Core.Path.{_≡_}
+use mathlib.Core.Path.{_≡_, sym, ap, _∙_}
 use Prim.Native.Nat.{_≤_}
 use native.Mathlib.Omega.{arith}
 use borrow.Author.Needs.{needs}
+use borrow.Author.Tests.{eq-eqb}
+use Rattle.base.specs.Outcome.{accepted}
+use Rattle.base.proofs.Outcome.{guard-passes}
 use Rattle.wire.specs.Layout.{place}
-use Rattle.wire.proofs.FieldEnds.{taken, cut}
+use Rattle.wire.proofs.FieldEnds.{taken, cut-short, misfit, laid, not-laid, places-found}
 use Rattle.wire.proofs.frame.lay.Statement.{statement}
 use Rattle.wire.proofs.frame.lay.Tie as tie
 
@@ -43,39 +46,47 @@ unfolding place
 take-field-requires c κs = let q = c .before .pre in omega arith
 
 returns : tie.Need-returns
-returns c = cut _ _ 1 _ _ (omega arith) (c .before .before .take-field .ensures) (c .enum-told .given .1)
+returns c = misfit _ _ (cut-short _ _ 1 _ (omega arith) (c .before .before .take-field .ensures) (c .enum-told .given .1))
 
 take-field-requires-2 : tie.Need-take-field-requires-2
 take-field-requires-2 c κs = let h = at1 c in let q = start1 c .pre in omega arith
 
 returns-2 : tie.Need-returns-2
-returns-2 c = cut _ _ 2 _ _ (omega arith) (c .before .before .take-field2 .ensures) (c .enum-told2 .given .1)
+returns-2 c = misfit _ _ (cut-short _ _ 2 _ (omega arith) (c .before .before .take-field2 .ensures) (c .enum-told2 .given .1))
 
 take-field-requires-3 : tie.Need-take-field-requires-3
 take-field-requires-3 c κs = let h = at2 c in let q = start2 c .pre in omega arith
 
 returns-3 : tie.Need-returns-3
-returns-3 c = cut _ _ 3 _ _ (omega arith) (c .before .before .take-field3 .ensures) (c .enum-told3 .given .1)
+returns-3 c = misfit _ _ (cut-short _ _ 3 _ (omega arith) (c .before .before .take-field3 .ensures) (c .enum-told3 .given .1))
 
 take-field-requires-4 : tie.Need-take-field-requires-4
 take-field-requires-4 c κs = let h = at3 c in let q = start3 c .pre in omega arith
 
 returns-4 : tie.Need-returns-4
-returns-4 c = cut _ _ 4 _ _ (omega arith) (c .before .before .take-field4 .ensures) (c .enum-told4 .given .1)
+returns-4 c = misfit _ _ (cut-short _ _ 4 _ (omega arith) (c .before .before .take-field4 .ensures) (c .enum-told4 .given .1))
 
 take-field-requires-5 : tie.Need-take-field-requires-5
 take-field-requires-5 c κs = let h = at4 c in let q = start4 c .pre in omega arith
 
 returns-5 : tie.Need-returns-5
-returns-5 c = cut _ _ 5 _ _ (omega arith) (c .before .before .take-field5 .ensures) (c .enum-told5 .given .1)
+returns-5 c = misfit _ _ (cut-short _ _ 5 _ (omega arith) (c .before .before .take-field5 .ensures) (c .enum-told5 .given .1))
 
 lay-back-requires : tie.Need-lay-back-requires
-lay-back-requires c κs =
-    let c₄ = c .before .before .before .before in
+lay-back-requires c κs = let h = at5 c in (start5 c .pre .0, h .0, h .1)
+
+returns-6 : tie.Need-returns-6
+returns-6 c = misfit _ _ (not-laid _ _ (c .before .before .lay-back .ensures) (c .enum-told6 .given .1))
+
+returns-7 : tie.Need-returns-7
+returns-7 c =
+    let c₅ = c .before .before .before .before in
+    let c₄ = c₅ .before .before .before .before in
     let c₃ = c₄ .before .before .before .before in
     let c₂ = c₃ .before .before .before .before in
-    let h = at5 c in
-    (start5 c .pre .0, record { nonce-at = at2 c₂ .0; timestamp-at = at3 c₃ .0; digest-at = at4 c₄ .0; card-at = h .0; near = h .1 })
+    let b = start5 c₅ in
+    let back = laid _ _ _ (c .before .before .before .lay-back .ensures) (c .before .back .given .1) in
+    ap accepted (places-found (b .args .bytes .now) _ _ _ _ _ _ (b .pre .0) (at2 c₂ .0) (at3 c₃ .0) (at4 c₄ .0) (at5 c₅ .0) (back .0)) ∙ sym (guard-passes 4 _ _ (eq-eqb _ _ (back .1)))
 
 pub lay-spec : {M : Type 1} → statement M
 lay-spec =
@@ -102,4 +113,7 @@ lay-spec =
     (λ c. search needs)
     returns-5
     lay-back-requires
-    (λ c. search needs))
+    (λ c. search needs)
+    (λ c. search needs)
+    returns-6
+    returns-7)

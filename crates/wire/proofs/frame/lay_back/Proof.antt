@@ -1,14 +1,10 @@
 -- `wire::frame::lay_back` meets its contract. Assumes nothing.
-use mathlib.Core.Path.{_≡_, sym, ap, _∙_}
-use Prim.Native.Nat.{_+_, _≤_}
+use mathlib.Core.Path.{_≡_}
+use Prim.Native.Nat.{_≤_}
 use native.Mathlib.Omega.{arith}
 use borrow.Author.Needs.{needs}
-use borrow.Author.Tests.{ne-eqb, eq-eqb}
-use lib.ListN.{length}
-use Rattle.base.specs.Outcome.{accepted}
-use Rattle.base.proofs.Outcome.{guard-passes, guard-refuses}
 use Rattle.wire.specs.Layout.{place}
-use Rattle.wire.proofs.FieldEnds.{taken, cut, places-found}
+use Rattle.wire.proofs.FieldEnds.{taken, cut-short, back-found}
 use Rattle.wire.proofs.frame.lay_back.Statement.{statement}
 use Rattle.wire.proofs.frame.lay_back.Tie as tie
 
@@ -16,7 +12,7 @@ abbrev start1 : tie.After-known-told → tie.Start
 start1 c = c .before .before .before .before .before
 
 at6 : (c : tie.After-known-told) → (c .before .prepared .given .0 .0 ≡ place (start1 c .args .bytes .now) 6) × (c .before .prepared .given .0 .0 ≤ 120_002)
-at6 c = taken _ _ _ _ 100_002 _ (c .before .before .before .take-field .ensures) (c .before .prepared .given .1) (start1 c .pre .1 .near)
+at6 c = taken _ _ _ _ 100_002 _ (c .before .before .before .take-field .ensures) (c .before .prepared .given .1) (start1 c .pre .2)
 
 abbrev start2 : tie.After-known-told2 → tie.Start
 start2 c = start1 (c .before .before .before .before)
@@ -43,40 +39,37 @@ at10 : (c : tie.After-known-told5) → (c .before .signature .given .0 .0 ≡ pl
 at10 c = taken _ _ _ _ 180_002 _ (c .before .before .before .take-field5 .ensures) (c .before .signature .given .1) (at9 (c .before .before .before .before) .1)
 
 returns : tie.Need-returns
-returns c = cut _ _ 6 _ _ (omega arith) (c .before .before .take-field .ensures) (c .enum-told .given .1)
+returns c = cut-short _ _ 6 _ (omega arith) (c .before .before .take-field .ensures) (c .enum-told .given .1)
 
 take-field-requires-2 : tie.Need-take-field-requires-2
 take-field-requires-2 c κs = let h = at6 c in let q = start1 c .pre in omega arith
 
 returns-2 : tie.Need-returns-2
-returns-2 c = cut _ _ 7 _ _ (omega arith) (c .before .before .take-field2 .ensures) (c .enum-told2 .given .1)
+returns-2 c = cut-short _ _ 7 _ (omega arith) (c .before .before .take-field2 .ensures) (c .enum-told2 .given .1)
 
 take-field-requires-3 : tie.Need-take-field-requires-3
 take-field-requires-3 c κs = let h = at7 c in let q = start2 c .pre in omega arith
 
 returns-3 : tie.Need-returns-3
-returns-3 c = cut _ _ 8 _ _ (omega arith) (c .before .before .take-field3 .ensures) (c .enum-told3 .given .1)
+returns-3 c = cut-short _ _ 8 _ (omega arith) (c .before .before .take-field3 .ensures) (c .enum-told3 .given .1)
 
 take-field-requires-4 : tie.Need-take-field-requires-4
 take-field-requires-4 c κs = let h = at8 c in let q = start3 c .pre in omega arith
 
 returns-4 : tie.Need-returns-4
-returns-4 c = cut _ _ 9 _ _ (omega arith) (c .before .before .take-field4 .ensures) (c .enum-told4 .given .1)
+returns-4 c = cut-short _ _ 9 _ (omega arith) (c .before .before .take-field4 .ensures) (c .enum-told4 .given .1)
 
 take-field-requires-5 : tie.Need-take-field-requires-5
 take-field-requires-5 c κs = let h = at9 c in let q = start4 c .pre in omega arith
 
 returns-5 : tie.Need-returns-5
-returns-5 c = cut _ _ 10 _ _ (omega arith) (c .before .before .take-field5 .ensures) (c .enum-told5 .given .1)
+returns-5 c = cut-short _ _ 10 _ (omega arith) (c .before .before .take-field5 .ensures) (c .enum-told5 .given .1)
 
 add-if1 : tie.Need-add-if1
 add-if1 c = let h = at10 c in omega arith
 
 returns-6 : tie.Need-returns-6
-returns-6 c =
-    let h = at10 (c .before) in
-    let s = start5 (c .before) .args .bytes .now in
-    sym (guard-refuses 4 _ _ (ne-eqb (place s 10 + 64) (length s) (λ e. c .if1 .taken (omega arith))))
+returns-6 c = let h = at10 (c .before) in λ e. c .if1 .taken (omega arith)
 
 returns-7 : tie.Need-returns-7
 returns-7 c =
@@ -86,10 +79,7 @@ returns-7 c =
     let c₇ = c₈ .before .before .before .before in
     let c₆ = c₇ .before .before .before .before in
     let h = at10 c₁₀ in
-    let b = start5 c₁₀ in
-    let s = b .args .bytes .now in
-    let ends : place s 10 + 64 ≡ length s = omega arith in
-    ap accepted (places-found s _ _ _ _ _ _ _ _ _ _ (b .pre .0) (b .pre .1) (at6 c₆ .0) (at7 c₇ .0) (at8 c₈ .0) (at9 c₉ .0) (h .0)) ∙ sym (guard-passes 4 _ _ (eq-eqb _ _ ends))
+    (back-found _ _ _ _ _ _ (at6 c₆ .0) (at7 c₇ .0) (at8 c₈ .0) (at9 c₉ .0) (h .0), omega arith)
 
 pub lay-back-spec : {M : Type 1} → statement M
 lay-back-spec =

@@ -5,11 +5,12 @@ use native.Mathlib.Omega.{arith}
 use Rattle.wire.specs.declared.sha256.rounds.WorkingVariables.{WorkingVariables}
 use Rattle.wire.specs.Sha256.{rounds}
 use Rattle.wire.proofs.sha256.rounds.Schedule.{round-next}
+use borrow.Author.Needs.{needs}
 use Rattle.wire.proofs.sha256.rounds.last_rounds.Statement.{statement}
 use Rattle.wire.proofs.sha256.rounds.last_rounds.Tie as tie
 
 abbrev Inv-loop : tie.InvT-loop
-Inv-loop k w v₀ t₀ v t = (t ≤ 64) × (t % 8 ≡ 0) × ((start : WorkingVariables) → v₀ ≡ rounds w start 48 → v ≡ rounds w start t)
+Inv-loop k w v₀ t₀ v t = (t ≤ 64) × (t % 4 ≡ 0) × ((start : WorkingVariables) → v₀ ≡ rounds w start 48 → v ≡ rounds w start t)
 
 abbrev μ-loop : tie.MeasureT-loop
 μ-loop k w v₀ t₀ v t = 64 - t
@@ -18,45 +19,27 @@ loop-holds : tie.Need-loop-holds Inv-loop μ-loop
 loop-holds c = (omega arith, omega arith, λ start e. e)
 
 round-at-requires : tie.Need-round-at-requires Inv-loop μ-loop
-round-at-requires c κs = (omega (arith, c .loop-test .taken, c .before .loop .inv .1), c .before .before .pre)
+round-at-requires c κs = (omega arith, c .before .before .pre)
 
 round-at-requires-2 : tie.Need-round-at-requires-2 Inv-loop μ-loop
-round-at-requires-2 c κs = (omega (arith, c .before .loop-test .taken, c .before .before .loop .inv .1), c .before .before .before .pre)
+round-at-requires-2 c κs = (omega arith, c .before .before .before .pre)
 
 round-at-requires-3 : tie.Need-round-at-requires-3 Inv-loop μ-loop
-round-at-requires-3 c κs = (omega (arith, c .before .before .loop-test .taken, c .before .before .before .loop .inv .1), c .before .before .before .before .pre)
+round-at-requires-3 c κs = (omega arith, c .before .before .before .before .pre)
 
 round-at-requires-4 : tie.Need-round-at-requires-4 Inv-loop μ-loop
-round-at-requires-4 c κs = (omega (arith, c .before .before .before .loop-test .taken, c .before .before .before .before .loop .inv .1), c .before .before .before .before .before .pre)
-
-round-at-requires-5 : tie.Need-round-at-requires-5 Inv-loop μ-loop
-round-at-requires-5 c κs = (omega (arith, c .before .before .before .before .loop-test .taken, c .before .before .before .before .before .loop .inv .1), c .before .before .before .before .before .before .pre)
-
-round-at-requires-6 : tie.Need-round-at-requires-6 Inv-loop μ-loop
-round-at-requires-6 c κs = (omega (arith, c .before .before .before .before .before .loop-test .taken, c .before .before .before .before .before .before .loop .inv .1), c .before .before .before .before .before .before .before .pre)
-
-round-at-requires-7 : tie.Need-round-at-requires-7 Inv-loop μ-loop
-round-at-requires-7 c κs = (omega (arith, c .before .before .before .before .before .before .loop-test .taken, c .before .before .before .before .before .before .before .loop .inv .1), c .before .before .before .before .before .before .before .before .pre)
-
-round-at-requires-8 : tie.Need-round-at-requires-8 Inv-loop μ-loop
-round-at-requires-8 c κs = (omega (arith, c .before .before .before .before .before .before .before .loop-test .taken, c .before .before .before .before .before .before .before .before .loop .inv .1), c .before .before .before .before .before .before .before .before .before .pre)
+round-at-requires-4 c κs = (omega arith, c .before .before .before .before .before .pre)
 
 loop-again : tie.Need-loop-again Inv-loop μ-loop
 loop-again c =
-    let l = c .before .before .before .before .before .before .before .before .before .loop in
-    let more = c .before .before .before .before .before .before .before .before .loop-test .taken in
-    let whole = l .inv .1 in
-    let w = c .before .before .before .before .before .before .before .before .before .before .args .w .now in
-    let all : (start : WorkingVariables) → c .before .before .before .before .before .before .before .before .before .before .args .middle ≡ rounds w start 48 → c .round-at8 .result ≡ rounds w start (l .t + 8) = λ start e.
-    let s₁ = round-next w start (l .t) (l .t + 1) (omega (arith, more, whole)) (l .inv .2 start e) (c .before .before .before .before .before .before .before .round-at .ensures) in
-    let s₂ = round-next w start (l .t + 1) (l .t + 2) (omega (arith, more, whole)) s₁ (c .before .before .before .before .before .before .round-at2 .ensures) in
-    let s₃ = round-next w start (l .t + 2) (l .t + 3) (omega (arith, more, whole)) s₂ (c .before .before .before .before .before .round-at3 .ensures) in
-    let s₄ = round-next w start (l .t + 3) (l .t + 4) (omega (arith, more, whole)) s₃ (c .before .before .before .before .round-at4 .ensures) in
-    let s₅ = round-next w start (l .t + 4) (l .t + 5) (omega (arith, more, whole)) s₄ (c .before .before .before .round-at5 .ensures) in
-    let s₆ = round-next w start (l .t + 5) (l .t + 6) (omega (arith, more, whole)) s₅ (c .before .before .round-at6 .ensures) in
-    let s₇ = round-next w start (l .t + 6) (l .t + 7) (omega (arith, more, whole)) s₆ (c .before .round-at7 .ensures) in
-    round-next w start (l .t + 7) (l .t + 8) (omega (arith, more, whole)) s₇ (c .round-at8 .ensures) in
-    (omega (arith, more, whole), omega (arith, more, whole), all)
+    let l = c .before .before .before .before .before .loop in
+    let w = c .before .before .before .before .before .before .args .w .now in
+    let all : (start : WorkingVariables) → c .before .before .before .before .before .before .args .middle ≡ rounds w start 48 → c .round-at4 .result ≡ rounds w start (l .t + 4) = λ start e.
+    let s₁ = round-next w start (l .t) (l .t + 1) (omega arith) (l .inv .2 start e) (c .before .before .before .round-at .ensures) in
+    let s₂ = round-next w start (l .t + 1) (l .t + 2) (omega arith) s₁ (c .before .before .round-at2 .ensures) in
+    let s₃ = round-next w start (l .t + 2) (l .t + 3) (omega arith) s₂ (c .before .round-at3 .ensures) in
+    round-next w start (l .t + 3) (l .t + 4) (omega arith) s₃ (c .round-at4 .ensures) in
+    (omega arith, omega arith, all)
 
 returns : tie.Need-returns Inv-loop μ-loop
 returns c = λ start h.
@@ -72,21 +55,13 @@ last-rounds-spec =
     μ-loop
     loop-holds
     round-at-requires
-    (λ c. omega (arith, c .before .loop-test .taken))
+    (λ c. search needs)
     round-at-requires-2
-    (λ c. omega (arith, c .before .before .loop-test .taken))
+    (λ c. search needs)
     round-at-requires-3
-    (λ c. omega (arith, c .before .before .before .loop-test .taken))
+    (λ c. search needs)
     round-at-requires-4
-    (λ c. omega (arith, c .before .before .before .before .loop-test .taken))
-    round-at-requires-5
-    (λ c. omega (arith, c .before .before .before .before .before .loop-test .taken))
-    round-at-requires-6
-    (λ c. omega (arith, c .before .before .before .before .before .before .loop-test .taken))
-    round-at-requires-7
-    (λ c. omega (arith, c .before .before .before .before .before .before .before .loop-test .taken))
-    round-at-requires-8
-    (λ c. omega (arith, c .before .before .before .before .before .before .before .before .loop-test .taken))
-    (λ c. omega (arith, c .before .before .before .before .before .before .before .before .loop-test .taken))
+    (λ c. search needs)
+    (λ c. search needs)
     loop-again
     returns)
