@@ -1,124 +1,89 @@
 -- The code's forms of Σ₁, σ₀ and σ₁, with one rotation in another, are the standard's. Assumes nothing.
-use mathlib.Core.Path.{_≡_, sym, ap, _∙_}
+use mathlib.Core.Path.{_≡_, refl, sym, ap, _∙_}
 use Prim.Native.Nat.{ℕ, _+_, _-_, _*_, _/_, _%_, _^_, _<_}
-use native.Mathlib.Nat.{div-div-eq-div-mul}
+use native.Mathlib.Nat.{div-add-mod, div-div-eq-div-mul, div-le-self, div-lt-iff-lt-mul, mod-lt, mul-add-div, mul-add-mod-self-left, mul-div-mul-right}
 use native.Mathlib.Omega.{arith}
-use lib.Bits.{bitOr, bitXor, or-shifted-r, xor-block, xor-shr, xor-mod, xor-lt}
+use lib.Bits.{bitOr, bitXor, or-lt, or-shifted-r, xor-block, xor-shr, xor-mod, xor-lt}
+use lib.Pow.{pow-add, pow-pos}
 use Rattle.wire.specs.Sha256.{ROTR, SHR, Σ₁, σ₀, σ₁}
 use Rattle.wire.proofs.sha256.functions.Bits.{xor-assoc}
 
--- A word by n bits: what leaves at the back comes in at the front.
-rotated : (n x : ℕ) → x * 2 ^ (32 - n) % 2 ^ 32 ≡ x % 2 ^ n * 2 ^ (32 - n) → x / 2 ^ n < 2 ^ (32 - n) → ROTR n x ≡ x % 2 ^ n * 2 ^ (32 - n) + x / 2 ^ n
-rotated n x e h = ap (bitOr (x / 2 ^ n)) e ∙ or-shifted-r (x % 2 ^ n) (32 - n) (x / 2 ^ n) h
+-- ---- Remainders of products
 
--- By so many bits as the functions rotate.
-by5 : (x : ℕ) → x < 2 ^ 32 → ROTR 5 x ≡ x % 2 ^ 5 * 2 ^ 27 + x / 2 ^ 5
-by5 x h = rotated 5 x (omega arith) (omega arith)
+scaled : (x m k : ℕ) → 0 < k → x * k % (m * k) ≡ x % m * k
+scaled x m k pos =
+    let here = ap (λ (z : ℕ). z * k) (div-add-mod x m) in
+    let there = ap (λ (q : ℕ). m * k * q + x * k % (m * k)) (sym (mul-div-mul-right x m pos)) ∙ div-add-mod (x * k) (m * k) in
+    omega arith
 
-by6 : (x : ℕ) → x < 2 ^ 32 → ROTR 6 x ≡ x % 2 ^ 6 * 2 ^ 26 + x / 2 ^ 6
-by6 x h = rotated 6 x (omega arith) (omega arith)
+of-product : (x b a : ℕ) → x % (b * a) ≡ x / b % a * b + x % b
+of-product x b a =
+    let whole = div-add-mod x b in
+    let front = ap (λ (z : ℕ). b * z) (div-add-mod (x / b) a) in
+    let there = ap (λ (q : ℕ). b * a * q + x % (b * a)) (div-div-eq-div-mul x b a) ∙ div-add-mod x (b * a) in
+    omega arith
 
-by11 : (x : ℕ) → x < 2 ^ 32 → ROTR 11 x ≡ x % 2 ^ 11 * 2 ^ 21 + x / 2 ^ 11
-by11 x h = rotated 11 x (omega arith) (omega arith)
+-- ---- A word by n bits: what leaves at the back comes in at the front
 
-by14 : (x : ℕ) → x < 2 ^ 32 → ROTR 14 x ≡ x % 2 ^ 14 * 2 ^ 18 + x / 2 ^ 14
-by14 x h = rotated 14 x (omega arith) (omega arith)
+module _ (n k : ℕ) (all : n + k ≡ 32) where
+  front-small : (x : ℕ) → x < 2 ^ 32 → x / 2 ^ n < 2 ^ k
+  front-small x h =
+      let sum : 32 ≡ k + n = omega arith in
+      let whole : 2 ^ 32 ≡ 2 ^ k * 2 ^ n = ap (λ (e : ℕ). 2 ^ e) sum ∙ pow-add 2 k n in
+      div-lt-iff-lt-mul (pow-pos n) .1 (omega arith)
 
-by25 : (x : ℕ) → x < 2 ^ 32 → ROTR 25 x ≡ x % 2 ^ 25 * 2 ^ 7 + x / 2 ^ 25
-by25 x h = rotated 25 x (omega arith) (omega arith)
+  rotated : (x : ℕ) → x < 2 ^ 32 → ROTR n x ≡ x % 2 ^ n * 2 ^ k + x / 2 ^ n
+  rotated x h =
+      let left : 32 - n ≡ k = omega arith in
+      let whole : 2 ^ 32 ≡ 2 ^ n * 2 ^ k = ap (λ (e : ℕ). 2 ^ e) (sym all) ∙ pow-add 2 n k in
+      ap (bitOr (x / 2 ^ n)) (ap (λ (e : ℕ). x * 2 ^ e % 2 ^ 32) left ∙ (ap (λ (m : ℕ). x * 2 ^ k % m) whole ∙ scaled x (2 ^ n) (2 ^ k) (pow-pos k)))
+      ∙ or-shifted-r (x % 2 ^ n) k (x / 2 ^ n) (front-small x h)
 
-by7 : (x : ℕ) → x < 2 ^ 32 → ROTR 7 x ≡ x % 2 ^ 7 * 2 ^ 25 + x / 2 ^ 7
-by7 x h = rotated 7 x (omega arith) (omega arith)
+  -- It is one of two words, bit by bit.
+  of-xor : (x y : ℕ) → x < 2 ^ 32 → y < 2 ^ 32 → ROTR n (bitXor x y) ≡ bitXor (ROTR n x) (ROTR n y)
+  of-xor x y hx hy =
+      rotated (bitXor x y) (xor-lt 32 x y hx hy)
+      ∙ ap (λ (r : ℕ). r * 2 ^ k + bitXor x y / 2 ^ n) (xor-mod x y n)
+      ∙ ap (λ (r : ℕ). bitXor (x % 2 ^ n) (y % 2 ^ n) * 2 ^ k + r) (xor-shr x y n)
+      ∙ sym (xor-block k (x % 2 ^ n) (y % 2 ^ n) (x / 2 ^ n) (y / 2 ^ n) (front-small x hx) (front-small y hy))
+      ∙ ap (λ (r : ℕ). bitXor r (y % 2 ^ n * 2 ^ k + y / 2 ^ n)) (sym (rotated x hx))
+      ∙ ap (bitXor (ROTR n x)) (sym (rotated y hy))
 
-by18 : (x : ℕ) → x < 2 ^ 32 → ROTR 18 x ≡ x % 2 ^ 18 * 2 ^ 14 + x / 2 ^ 18
-by18 x h = rotated 18 x (omega arith) (omega arith)
-
-by17 : (x : ℕ) → x < 2 ^ 32 → ROTR 17 x ≡ x % 2 ^ 17 * 2 ^ 15 + x / 2 ^ 17
-by17 x h = rotated 17 x (omega arith) (omega arith)
-
-by2 : (x : ℕ) → x < 2 ^ 32 → ROTR 2 x ≡ x % 2 ^ 2 * 2 ^ 30 + x / 2 ^ 2
-by2 x h = rotated 2 x (omega arith) (omega arith)
-
-by19 : (x : ℕ) → x < 2 ^ 32 → ROTR 19 x ≡ x % 2 ^ 19 * 2 ^ 13 + x / 2 ^ 19
-by19 x h = rotated 19 x (omega arith) (omega arith)
+rotated-small : (n x : ℕ) → x < 2 ^ 32 → ROTR n x < 2 ^ 32
+rotated-small n x h = or-lt 32 (x / 2 ^ n) (x * 2 ^ (32 - n) % 2 ^ 32) (omega (arith, div-le-self x (2 ^ n))) (mod-lt (x * 2 ^ (32 - n)) (pow-pos 32))
 
 -- A rotation of a rotation is one by both numbers of bits.
-by5-then-6 : (x : ℕ) → x < 2 ^ 32 → ROTR 6 (ROTR 5 x) ≡ ROTR 11 x
-by5-then-6 x h =
-    let w = x % 2 ^ 5 in
-    let q = x / 2 ^ 5 in
-    let back : (w * 2 ^ 27 + q) % 2 ^ 6 ≡ q % 2 ^ 6 = omega arith in
-    let rest : (w * 2 ^ 27 + q) / 2 ^ 6 ≡ w * 2 ^ 21 + q / 2 ^ 6 = omega arith in
-    let far : x / 2 ^ 11 ≡ q / 2 ^ 6 = sym (div-div-eq-div-mul x (2 ^ 5) (2 ^ 6)) in
-    let near : x % 2 ^ 11 ≡ q % 2 ^ 6 * 2 ^ 5 + w = omega arith in
-    by6 (ROTR 5 x) (omega (arith, by5 x h)) ∙ rw (by5 x h, back, rest) (omega arith) ∙ sym (by11 x h)
+twice : (m n k : ℕ) → m + n + k ≡ 32 → (x : ℕ) → x < 2 ^ 32 → ROTR m (ROTR n x) ≡ ROTR (m + n) x
+twice m n k all x h =
+    let swap : n + m ≡ m + n = omega arith in
+    rotated m (n + k) (omega arith) (ROTR n x) (rotated-small n x h)
+    ∙ (ap (λ (p : ℕ). ROTR n x % 2 ^ m * p + ROTR n x / 2 ^ m) (pow-add 2 n k)
+    ∙ (mixed (2 ^ m) (2 ^ n) (2 ^ k) x (ROTR n x) (pow-pos m) (rotated n (m + k) (omega arith) x h ∙ ap (λ (p : ℕ). x % 2 ^ n * p + x / 2 ^ n) (pow-add 2 m k))
+    ∙ (ap (λ (p : ℕ). x % p * 2 ^ k + x / p) (sym (pow-add 2 n m) ∙ ap (λ (e : ℕ). 2 ^ e) swap) ∙ sym (rotated (m + n) k all x h))))
+  where
+    mixed : (a b c x y : ℕ) → 0 < a → y ≡ x % b * (a * c) + x / b → y % a * (b * c) + y / a ≡ x % (b * a) * c + x / (b * a)
+    mixed a b c x y pos is =
+        let split : y ≡ a * (x % b * c) + x / b = is ∙ omega arith in
+        let back : y % a ≡ x / b % a = ap (λ (z : ℕ). z % a) split ∙ mul-add-mod-self-left a (x % b * c) (x / b) in
+        let rest : y / a ≡ x % b * c + x / b / a = ap (λ (z : ℕ). z / a) split ∙ mul-add-div pos (x % b * c) (x / b) in
+        rw (back, rest, of-product x b a, ← div-div-eq-div-mul x b a) (omega arith)
 
-by14-then-11 : (x : ℕ) → x < 2 ^ 32 → ROTR 11 (ROTR 14 x) ≡ ROTR 25 x
-by14-then-11 x h =
-    let w = x % 2 ^ 14 in
-    let q = x / 2 ^ 14 in
-    let back : (w * 2 ^ 18 + q) % 2 ^ 11 ≡ q % 2 ^ 11 = omega arith in
-    let rest : (w * 2 ^ 18 + q) / 2 ^ 11 ≡ w * 2 ^ 7 + q / 2 ^ 11 = omega arith in
-    let far : x / 2 ^ 25 ≡ q / 2 ^ 11 = sym (div-div-eq-div-mul x (2 ^ 14) (2 ^ 11)) in
-    let near : x % 2 ^ 25 ≡ q % 2 ^ 11 * 2 ^ 14 + w = omega arith in
-    by11 (ROTR 14 x) (omega (arith, by14 x h)) ∙ rw (by14 x h, back, rest) (omega arith) ∙ sym (by25 x h)
+-- ---- The code's forms, of nested rotations
 
-by11-then-7 : (x : ℕ) → x < 2 ^ 32 → ROTR 7 (ROTR 11 x) ≡ ROTR 18 x
-by11-then-7 x h =
-    let w = x % 2 ^ 11 in
-    let q = x / 2 ^ 11 in
-    let back : (w * 2 ^ 21 + q) % 2 ^ 7 ≡ q % 2 ^ 7 = omega arith in
-    let rest : (w * 2 ^ 21 + q) / 2 ^ 7 ≡ w * 2 ^ 14 + q / 2 ^ 7 = omega arith in
-    let far : x / 2 ^ 18 ≡ q / 2 ^ 7 = sym (div-div-eq-div-mul x (2 ^ 11) (2 ^ 7)) in
-    let near : x % 2 ^ 18 ≡ q % 2 ^ 7 * 2 ^ 11 + w = omega arith in
-    by7 (ROTR 11 x) (omega (arith, by11 x h)) ∙ rw (by11 x h, back, rest) (omega arith) ∙ sym (by18 x h)
-
-by2-then-17 : (x : ℕ) → x < 2 ^ 32 → ROTR 17 (ROTR 2 x) ≡ ROTR 19 x
-by2-then-17 x h =
-    let w = x % 2 ^ 2 in
-    let q = x / 2 ^ 2 in
-    let back : (w * 2 ^ 30 + q) % 2 ^ 17 ≡ q % 2 ^ 17 = omega arith in
-    let rest : (w * 2 ^ 30 + q) / 2 ^ 17 ≡ w * 2 ^ 13 + q / 2 ^ 17 = omega arith in
-    let far : x / 2 ^ 19 ≡ q / 2 ^ 17 = sym (div-div-eq-div-mul x (2 ^ 2) (2 ^ 17)) in
-    let near : x % 2 ^ 19 ≡ q % 2 ^ 17 * 2 ^ 2 + w = omega arith in
-    by17 (ROTR 2 x) (omega (arith, by2 x h)) ∙ rw (by2 x h, back, rest) (omega arith) ∙ sym (by19 x h)
-
--- of a sum bit by bit
-of-xor : (n x y : ℕ)
-    → ((z : ℕ) → z < 2 ^ 32 → ROTR n z ≡ z % 2 ^ n * 2 ^ (32 - n) + z / 2 ^ n)
-    → x < 2 ^ 32 → y < 2 ^ 32 → x / 2 ^ n < 2 ^ (32 - n) → y / 2 ^ n < 2 ^ (32 - n)
-    → ROTR n (bitXor x y) ≡ bitXor (ROTR n x) (ROTR n y)
-of-xor n x y by hx hy kx ky =
-    by (bitXor x y) (xor-lt 32 x y hx hy)
-    ∙ ap (λ (r : ℕ). r * 2 ^ (32 - n) + bitXor x y / 2 ^ n) (xor-mod x y n)
-    ∙ ap (λ (r : ℕ). bitXor (x % 2 ^ n) (y % 2 ^ n) * 2 ^ (32 - n) + r) (xor-shr x y n)
-    ∙ sym (xor-block (32 - n) (x % 2 ^ n) (y % 2 ^ n) (x / 2 ^ n) (y / 2 ^ n) kx ky)
-    ∙ ap (λ (r : ℕ). bitXor r (y % 2 ^ n * 2 ^ (32 - n) + y / 2 ^ n)) (sym (by x hx))
-    ∙ ap (λ (r : ℕ). bitXor (ROTR n x) r) (sym (by y hy))
-
--- The code's forms, of nested rotations, are the standard's.
 pub big-sigma1-form : (x : ℕ) → x < 2 ^ 32 → ROTR 6 (bitXor x (ROTR 5 (bitXor x (ROTR 14 x)))) ≡ Σ₁ x
 unfolding Σ₁
 big-sigma1-form x h =
-    let h₁₄ : ROTR 14 x < 2 ^ 32 = omega (arith, by14 x h) in
-    let h₁₁ : ROTR 11 x < 2 ^ 32 = omega (arith, by11 x h) in
-    let h₆ : ROTR 6 x < 2 ^ 32 = omega (arith, by6 x h) in
-    let h₂₅ : ROTR 25 x < 2 ^ 32 = omega (arith, by25 x h) in
+    let h₁₄ = rotated-small 14 x h in
     let y = bitXor x (ROTR 14 x) in
     let hy : y < 2 ^ 32 = xor-lt 32 x (ROTR 14 x) h h₁₄ in
-    let h₅ : ROTR 5 y < 2 ^ 32 = omega (arith, by5 y hy) in
-    of-xor 6 x (ROTR 5 y) by6 h h₅ (omega arith) (omega arith)
-    ∙ ap (bitXor (ROTR 6 x)) (by5-then-6 y hy ∙ of-xor 11 x (ROTR 14 x) by11 h h₁₄ (omega arith) (omega arith) ∙ ap (bitXor (ROTR 11 x)) (by14-then-11 x h))
-    ∙ xor-assoc (ROTR 6 x) (ROTR 11 x) (ROTR 25 x) h₆ h₁₁ h₂₅
+    of-xor 6 26 refl x (ROTR 5 y) h (rotated-small 5 y hy)
+    ∙ ap (bitXor (ROTR 6 x)) (twice 6 5 21 refl y hy ∙ of-xor 11 21 refl x (ROTR 14 x) h h₁₄ ∙ ap (bitXor (ROTR 11 x)) (twice 11 14 7 refl x h))
+    ∙ xor-assoc (ROTR 6 x) (ROTR 11 x) (ROTR 25 x) (rotated-small 6 x h) (rotated-small 11 x h) (rotated-small 25 x h)
 
 pub small-sigma0-form : (x : ℕ) → x < 2 ^ 32 → bitXor (ROTR 7 (bitXor x (ROTR 11 x))) (SHR 3 x) ≡ σ₀ x
 unfolding σ₀
-small-sigma0-form x h =
-    let h₁₁ : ROTR 11 x < 2 ^ 32 = omega (arith, by11 x h) in
-    ap (λ (r : ℕ). bitXor r (SHR 3 x)) (of-xor 7 x (ROTR 11 x) by7 h h₁₁ (omega arith) (omega arith) ∙ ap (bitXor (ROTR 7 x)) (by11-then-7 x h))
+small-sigma0-form x h = ap (λ (r : ℕ). bitXor r (SHR 3 x)) (of-xor 7 25 refl x (ROTR 11 x) h (rotated-small 11 x h) ∙ ap (bitXor (ROTR 7 x)) (twice 7 11 14 refl x h))
 
 pub small-sigma1-form : (x : ℕ) → x < 2 ^ 32 → bitXor (ROTR 17 (bitXor x (ROTR 2 x))) (SHR 10 x) ≡ σ₁ x
 unfolding σ₁
-small-sigma1-form x h =
-    let h₂ : ROTR 2 x < 2 ^ 32 = omega (arith, by2 x h) in
-    ap (λ (r : ℕ). bitXor r (SHR 10 x)) (of-xor 17 x (ROTR 2 x) by17 h h₂ (omega arith) (omega arith) ∙ ap (bitXor (ROTR 17 x)) (by2-then-17 x h))
+small-sigma1-form x h = ap (λ (r : ℕ). bitXor r (SHR 10 x)) (of-xor 17 15 refl x (ROTR 2 x) h (rotated-small 2 x h) ∙ ap (bitXor (ROTR 17 x)) (twice 17 2 13 refl x h))
