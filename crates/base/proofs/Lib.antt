@@ -1,11 +1,13 @@
 pub mod Apart
 pub mod BigEndian
 pub mod Booleans
+pub mod ClientSet
 pub mod Counting
 pub mod Cuts
 pub mod Digits
 pub mod Filling
 pub mod Listed
+pub mod Mask
 pub mod Outcome
 pub mod Quorum
 pub mod Range

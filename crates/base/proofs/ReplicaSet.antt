@@ -1,47 +1,30 @@
 -- What masks hold and how many. Assumes nothing.
-use mathlib.Core.Path.{_≡_, refl, sym, ap, _∙_}
-use mathlib.Core.Bool.{Bool, true, false, cond, or-comm, and-false}
+use mathlib.Core.Path.{_≡_, refl, ap, _∙_}
+use mathlib.Core.Bool.{false}
 use Prim.Native.Nat.{ℕ, zero, suc, _+_, _-_, _*_, _/_, _%_, _^_, _≤_, _<_}
-use native.Mathlib.Nat.{mod-lt, div-eq-of-lt}
+use native.Mathlib.Nat.{mod-lt}
 use native.Mathlib.Omega.{arith}
-use lib.Bits.{bitOr}
 use lib.Count.{ones, ones-cat}
-use lib.Dec.{eqb, eqb·suc-suc}
+use lib.Dec.{eqb}
 use lib.Pow.{pow-pos, mod-pow-add}
 use Rattle.base.specs.declared.party.ReplicaId.{ReplicaId}
 use Rattle.base.specs.declared.replica_set.ReplicaSet.{ReplicaSet}
 use Rattle.base.specs.Counting.{replica, one, count}
-use Rattle.base.specs.Range.{within}
 use Rattle.base.specs.ReplicaSet.{empty, has, with}
-use Rattle.base.proofs.Apart.{apart}
-use Rattle.base.proofs.Counting.{or-is, or-is-other, count-agree, count-one-more}
-use Rattle.base.proofs.Digits.{digit, digit-or, digit-power}
-use Rattle.base.proofs.Range.{inside, bounds}
+use Rattle.base.proofs.Counting.{or-is, count-agree, count-one-more}
+use Rattle.base.proofs.Digits.{digit}
+use Rattle.base.proofs.Mask.{in-zero, in-put}
+use Rattle.base.proofs.Range.{inside}
 
 -- A member's bit.
 has-digit : (set : ReplicaSet) (i : ℕ) → 1 ≤ i → i ≤ 16 → has set (replica i) ≡ digit (i - 1) (set .0)
 unfolding has
 has-digit set i low high = rw (inside 1 16 i low high)
 
-eqb-pred : (i x : ℕ) → 1 ≤ i → 1 ≤ x → eqb (i - 1) (x - 1) ≡ eqb i x
-eqb-pred zero x hi hx = absurd (omega arith)
-eqb-pred (suc i) zero hi hx = absurd (omega arith)
-eqb-pred (suc i) (suc x) hi hx =
-    let ei : suc i - 1 ≡ i = omega arith in
-    let ex : suc x - 1 ≡ x = omega arith in
-    rw (ei, ex) (sym (eqb·suc-suc i x))
-
 -- A set with one replica more has that one and what it had.
 pub has-with : (set : ReplicaSet) (x : ReplicaId) (i : ℕ) → 1 ≤ i → i ≤ 16 → has (with set x) (replica i) ≡ or-is x (has set) (replica i)
-unfolding with
-has-with set x i low high = go (within 1 16 (x .0)) refl
-  where
-    go : (b : Bool) → within 1 16 (x .0) ≡ b → has (cond b (record { 0 = bitOr (set .0) (2 ^ (x .0 - 1)) }) set) (replica i) ≡ or-is x (has set) (replica i)
-    go true e =
-        has-digit (record { 0 = bitOr (set .0) (2 ^ (x .0 - 1)) }) i low high
-        ∙ digit-or (i - 1) (set .0) (2 ^ (x .0 - 1))
-        ∙ rw (digit-power (i - 1) (x .0 - 1), eqb-pred i (x .0) low (bounds 1 16 (x .0) e .0), ← has-digit set i low high) (or-comm (has set (replica i)) (eqb i (x .0)))
-    go false e = sym (or-is-other x (replica i) (has set) (λ same. let within-too = inside 1 16 (x .0) (omega arith) (omega arith) in apart (cc)))
+unfolding has with
+has-with set x i low high = in-put 1 16 (set .0) (x .0) i (inside 1 16 i low high)
 
 -- A set with one new member has one more.
 pub with-new : (n : ℕ) (set : ReplicaSet) (x : ReplicaId) → n ≤ 16 → 1 ≤ x .0 → x .0 ≤ n → has set x ≡ false → count n (has (with set x)) ≡ suc (count n (has set))
@@ -49,12 +32,9 @@ with-new n set x small low high new =
     count-agree n (has (with set x)) (or-is x (has set)) (λ i li hi. has-with set x i li (omega arith))
     ∙ count-one-more n x (has set) low high new
 
-zero-digit : (k : ℕ) → digit k 0 ≡ false
-zero-digit k = rw (div-eq-of-lt (pow-pos k))
-
 pub has-empty : (i : ReplicaId) → has empty i ≡ false
 unfolding has
-has-empty i = rw (zero-digit (i .0 - 1)) (and-false (within 1 16 (i .0)))
+has-empty i = in-zero 1 16 (i .0)
 
 one-ones : (d : ℕ) → d < 2 → one (eqb d 1) ≡ ones d
 unfolding ones

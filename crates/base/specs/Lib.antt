@@ -1,11 +1,14 @@
 pub mod BigEndian
 pub mod BitMap
 pub mod Bytes
+pub mod ClientSet
 pub mod Counting
+pub mod Mask
 pub mod Outcome
 pub mod Party
 pub mod Range
 pub mod ReplicaSet
 pub mod Rising
 pub mod Same
+pub mod Taking
 pub mod Timestamp

@@ -1,13 +1,12 @@
 -- Sets of replicas as masks of 16 bits: replica i is bit i - 1.
 use mathlib.Core.Path.{_≡_}
-use mathlib.Core.Bool.{Bool, true, _&&_, cond}
+use mathlib.Core.Bool.{Bool, true}
 use mathlib.Core.List.{List, [], _∷_}
-use Prim.Native.Nat.{ℕ, _-_, _/_, _%_, _^_}
-use lib.Bits.{bitOr}
-use lib.Dec.{leb, eqb}
+use Prim.Native.Nat.{ℕ}
+use lib.Dec.{leb}
 use Rattle.base.specs.Counting.{count}
+use Rattle.base.specs.Mask.{inMask, putIn}
 use Rattle.base.specs.Party.{replicaCount, quorumSize, isReplica}
-use Rattle.base.specs.Range.{within}
 use Rattle.base.specs.declared.party.ReplicaId.{ReplicaId}
 use Rattle.base.specs.declared.replica_set.ReplicaSet.{ReplicaSet}
 
@@ -16,11 +15,11 @@ empty = record { 0 = 0 }
 
 -- No number outside 1 to 16 is a member.
 unfoldable pub has : ReplicaSet → ReplicaId → Bool
-has set id = within 1 16 (id .0) && eqb (set .0 / 2 ^ (id .0 - 1) % 2) 1
+has set id = inMask 1 16 (set .0) (id .0)
 
 -- A number outside 1 to 16 leaves the set as it is.
 unfoldable pub with : ReplicaSet → ReplicaId → ReplicaSet
-with set id = cond (within 1 16 (id .0)) (record { 0 = bitOr (set .0) (2 ^ (id .0 - 1)) }) set
+with set id = record { 0 = putIn 1 16 (set .0) (id .0) }
 
 -- The listed replicas besides, one after the other.
 unfoldable pub withAll : ReplicaSet → List ReplicaId → ReplicaSet

@@ -26,9 +26,9 @@ pub enum Setup {
 
 const LARGEST_FAULT_BOUND: u8 = 5;
 
-const CLIENTS: u8 = 96;
+pub(super) const CLIENTS: u8 = 96;
 
-const WRITERS: u8 = 64;
+pub(super) const WRITERS: u8 = 64;
 
 pub const REGISTERS: usize = 16;
 

@@ -38,3 +38,9 @@ pub const NOT_AWAITED: u8 = 18;
 pub const NOT_FOR_VIEWERS: u8 = 19;
 
 pub const REGISTER: u8 = 20;
+
+pub const ORDER: u8 = 21;
+
+pub const ORDER_NOT_GENUINE: u8 = 22;
+
+pub const WITHDRAWN: u8 = 23;
