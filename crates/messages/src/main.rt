@@ -2,6 +2,7 @@
 // Behind `hF ` or `dF `, F a fault bound, verdicts follow the message, and it prints what tests 2 to 11, with 19 and 20, make of both.
 // Behind `l ` two messages stand, and it prints the later card.
 // Behind `s h ` or `s d ` it prints the message's signatures: how many, whose each is, and the bytes that it covers.
+use base::client_set::ClientSet;
 use base::slices::front;
 use console::print_timestamp;
 use libc::STDIN_FILENO;
@@ -127,7 +128,7 @@ fn print_reading(party: Party, bytes: &[u8]) {
 }
 
 fn print_judgement(party: Party, f: u8, bytes: &[u8], verdicts: &[u8]) {
-    match wire::acceptance::accept(party, f, bytes, verdicts) {
+    match wire::acceptance::accept(party, f, ClientSet::nobody(), bytes, verdicts) {
         Accepting::Message(_, _) => console::print(b"accepted"),
         Accepting::Refused(number) => print_refusal(number),
     }

@@ -16,10 +16,11 @@ use Rattle.base.specs.Outcome.{accepted}
 use Rattle.base.specs.Party.{quorumSize, replicaCount, isRegister}
 use Rattle.base.specs.Rising.{rising}
 use Rattle.base.specs.Timestamp.{number, ofNumber}
+use Rattle.base.specs.declared.client_set.ClientSet.{ClientSet}
 use Rattle.base.specs.declared.replica_set.ReplicaSet.{ReplicaSet}
 use Rattle.base.proofs.Booleans.{and-true-both}
 use Rattle.base.proofs.Timestamps.{number-ofNumber}
-use Rattle.wire.specs.Acceptance.{senderOf, inItsRange, maySend, admitted, acceptance}
+use Rattle.wire.specs.Acceptance.{senderOf, inItsRange, maySend, isServed, admitted, acceptance}
 use Rattle.wire.specs.Checks.{shaped, shapedIfThere}
 use Rattle.wire.specs.Decode.{messageIn, forRegister, registerIn, reading, fieldsIn}
 use Rattle.wire.specs.Layout.{rules, mapIn, place, field, signature}
@@ -128,29 +129,30 @@ module _ (party : Party) (bytes : List ℕ) (fields : Fields) (found : Parsed pa
   written-shown = rw written-is (part-shown written-bit)
 
 -- The message that 2 to 11 let through.
-pub record Handed (party : Party) (f : ℕ) (bytes verdicts : List ℕ) (message : Message) : Type 0 where
+pub record Handed (party : Party) (f : ℕ) (withdrawn : ClientSet) (bytes verdicts : List ℕ) (message : Message) : Type 0 where
   pub decodes : messageIn party bytes ≡ accepted message
-  pub admits : admitted party f bytes verdicts ≡ accepted (forRegister (registerIn bytes) message)
+  pub admits : admitted party f withdrawn bytes verdicts ≡ accepted (forRegister (registerIn bytes) message)
   pub ranged : inItsRange f (senderOf message) ≡ true
   pub may-send : maySend (kindOf message) (senderOf message) ≡ true
   pub registered : isRegister (registerIn bytes) ≡ true
+  pub served : isServed withdrawn (senderOf message) ≡ true
   pub passed : Passed f message verdicts
 
-module _ (party : Party) (f : ℕ) (bytes verdicts : List ℕ) (fields : Fields) {signers : ReplicaSet} (e : acceptance party f bytes verdicts ≡ accepted (fields, signers)) where
+module _ (party : Party) (f : ℕ) (withdrawn : ClientSet) (bytes verdicts : List ℕ) (fields : Fields) {signers : ReplicaSet} (e : acceptance party f withdrawn bytes verdicts ≡ accepted (fields, signers)) where
   reads : reading party bytes ≡ accepted fields
-  reads = acceptance-accepted party f bytes verdicts fields signers e .2
+  reads = acceptance-accepted party f withdrawn bytes verdicts fields signers e .2
 
   found : Parsed party bytes fields
   found = parsed party bytes fields reads
 
-  handed : (m : Message) → messageIn party bytes ≡ accepted m → Handed party f bytes verdicts m
+  handed : (m : Message) → messageIn party bytes ≡ accepted m → Handed party f withdrawn bytes verdicts m
   handed m d =
-      let a = acceptance-accepted party f bytes verdicts fields signers e in
-      let h = admitted-passed party f bytes verdicts (registerIn bytes) (a .0) (a .1) in
+      let a = acceptance-accepted party f withdrawn bytes verdicts fields signers e in
+      let h = admitted-passed party f withdrawn bytes verdicts (registerIn bytes) (a .0) (a .1) in
       let decodes = decode-splits party bytes (registerIn bytes) (a .0) (h .decodes) .1 in
       let same : a .0 ≡ m = cc in
-      subst (λ (m : Message). Handed party f bytes verdicts m) same
-      (record { decodes = decodes; admits = a .1; ranged = h .ranged; may-send = h .may-send; registered = h .registered; passed = h .passed })
+      subst (λ (m : Message). Handed party f withdrawn bytes verdicts m) same
+      (record { decodes = decodes; admits = a .1; ranged = h .ranged; may-send = h .may-send; registered = h .registered; served = h .served; passed = h .passed })
 
   -- The register that was found is the message's.
   pub register-is : fields .register ≡ registerIn bytes
@@ -160,8 +162,8 @@ module _ (party : Party) (f : ℕ) (bytes verdicts : List ℕ) (fields : Fields)
   -- The signers that were found are those of the prepared proof; nobody where proof-there is none.
   pub signers-are : signers ≡ preparedSigners (preparedPart (partAt bytes (fields .prepared)))
   signers-are =
-      let a = acceptance-accepted party f bytes verdicts fields signers e in
-      let h = admitted-passed party f bytes verdicts (registerIn bytes) (a .0) (a .1) in
+      let a = acceptance-accepted party f withdrawn bytes verdicts fields signers e in
+      let h = admitted-passed party f withdrawn bytes verdicts (registerIn bytes) (a .0) (a .1) in
       let s = seen party bytes (a .0) (decode-splits party bytes (registerIn bytes) (a .0) (h .decodes) .1) in
       a .3 ∙ ap preparedSigners (s .prepared ∙ sym (prepared-shown party bytes fields found))
 
@@ -211,27 +213,27 @@ module _ (party : Party) (f : ℕ) (bytes verdicts : List ℕ) (fields : Fields)
       go false clear h = rw (field-absent bytes 6 clear) tt
 
 -- The requests, kind by kind, with the parts that the code takes out of them.
-module _ (f : ℕ) (bytes verdicts : List ℕ) (fields : Fields) {signers : ReplicaSet} (e : acceptance Replica f bytes verdicts ≡ accepted (fields, signers)) where
-  pub handed-read-stamp : fields .kind ≡ 1 → Handed Replica f bytes verdicts (READ-STAMP (record { 0 = fields .sender }) (fields .nonce))
-  handed-read-stamp k = handed Replica f bytes verdicts fields e _ (reads-1 bytes fields (reads Replica f bytes verdicts fields e) k)
+module _ (f : ℕ) (withdrawn : ClientSet) (bytes verdicts : List ℕ) (fields : Fields) {signers : ReplicaSet} (e : acceptance Replica f withdrawn bytes verdicts ≡ accepted (fields, signers)) where
+  pub handed-read-stamp : fields .kind ≡ 1 → Handed Replica f withdrawn bytes verdicts (READ-STAMP (record { 0 = fields .sender }) (fields .nonce))
+  handed-read-stamp k = handed Replica f withdrawn bytes verdicts fields e _ (reads-1 bytes fields (reads Replica f withdrawn bytes verdicts fields e) k)
 
   pub handed-prepare : fields .kind ≡ 2
-      → Handed Replica f bytes verdicts (PREPARE (record { 0 = fields .sender }) (number (fields .timestamp)) (partAt bytes (fields .digest)) (preparedPart (partAt bytes (fields .prepared))) (proofPart 0 (partAt bytes (fields .written))))
+      → Handed Replica f withdrawn bytes verdicts (PREPARE (record { 0 = fields .sender }) (number (fields .timestamp)) (partAt bytes (fields .digest)) (preparedPart (partAt bytes (fields .prepared))) (proofPart 0 (partAt bytes (fields .written))))
   handed-prepare k =
-      rw (digest-is Replica f bytes verdicts fields e, prepared-shown Replica bytes fields (found Replica f bytes verdicts fields e), written-shown Replica bytes fields (found Replica f bytes verdicts fields e))
-      (handed Replica f bytes verdicts fields e _ (reads-2 bytes fields (reads Replica f bytes verdicts fields e) k))
+      rw (digest-is Replica f withdrawn bytes verdicts fields e, prepared-shown Replica bytes fields (found Replica f withdrawn bytes verdicts fields e), written-shown Replica bytes fields (found Replica f withdrawn bytes verdicts fields e))
+      (handed Replica f withdrawn bytes verdicts fields e _ (reads-2 bytes fields (reads Replica f withdrawn bytes verdicts fields e) k))
 
-  pub handed-write : fields .kind ≡ 3 → Handed Replica f bytes verdicts (WRITE (record { 0 = fields .sender }) (cardAt bytes (fields .card)) (preparedFrom (partAt bytes (fields .prepared))))
+  pub handed-write : fields .kind ≡ 3 → Handed Replica f withdrawn bytes verdicts (WRITE (record { 0 = fields .sender }) (cardAt bytes (fields .card)) (preparedFrom (partAt bytes (fields .prepared))))
   handed-write k =
-      rw (card-is Replica f bytes verdicts fields e, prepared-is Replica bytes fields (found Replica f bytes verdicts fields e))
-      (handed Replica f bytes verdicts fields e _ (reads-3 bytes fields (reads Replica f bytes verdicts fields e) k))
+      rw (card-is Replica f withdrawn bytes verdicts fields e, prepared-is Replica bytes fields (found Replica f withdrawn bytes verdicts fields e))
+      (handed Replica f withdrawn bytes verdicts fields e _ (reads-3 bytes fields (reads Replica f withdrawn bytes verdicts fields e) k))
 
-  pub handed-read : fields .kind ≡ 4 → Handed Replica f bytes verdicts (READ (record { 0 = fields .sender }) (fields .nonce))
-  handed-read k = handed Replica f bytes verdicts fields e _ (reads-4 bytes fields (reads Replica f bytes verdicts fields e) k)
+  pub handed-read : fields .kind ≡ 4 → Handed Replica f withdrawn bytes verdicts (READ (record { 0 = fields .sender }) (fields .nonce))
+  handed-read k = handed Replica f withdrawn bytes verdicts fields e _ (reads-4 bytes fields (reads Replica f withdrawn bytes verdicts fields e) k)
 
   -- "holders 1 to 4"
   pub request-kind : (fields .kind ≡ 1) ⊎ ((fields .kind ≡ 2) ⊎ ((fields .kind ≡ 3) ⊎ (fields .kind ≡ 4)))
-  request-kind = replica-kind (found Replica f bytes verdicts fields e .taken)
+  request-kind = replica-kind (found Replica f withdrawn bytes verdicts fields e .taken)
 
   prepare-set : {map : ℕ} → Taken map 2 Replica → bit map 4 ≡ true
   prepare-set (prepare set) = cc
@@ -240,40 +242,40 @@ module _ (f : ℕ) (bytes verdicts : List ℕ) (fields : Fields) {signers : Repl
   write-set (write set) = cc
 
   pub prepare-digest : fields .kind ≡ 2 → length (partAt bytes (fields .digest)) ≡ 32
-  prepare-digest k = digest-there Replica f bytes verdicts fields e (prepare-set (taken-kind Replica bytes fields (reads Replica f bytes verdicts fields e) 2 k))
+  prepare-digest k = digest-there Replica f withdrawn bytes verdicts fields e (prepare-set (taken-kind Replica bytes fields (reads Replica f withdrawn bytes verdicts fields e) 2 k))
 
   pub write-proof : fields .kind ≡ 3 → Whole 32 (partAt bytes (fields .prepared))
   write-proof k =
-      let set = write-set (taken-kind Replica bytes fields (reads Replica f bytes verdicts fields e) 3 k) in
-      let whole = proof-ends bytes (found Replica f bytes verdicts fields e .framed) prepared-bit set in
-      let same = prepared-is Replica bytes fields (found Replica f bytes verdicts fields e) in
-      proof-there (partAt bytes (fields .prepared)) (proof-whole Replica f bytes verdicts fields e) (λ none. let size = ap length same in omega arith) .whole
+      let set = write-set (taken-kind Replica bytes fields (reads Replica f withdrawn bytes verdicts fields e) 3 k) in
+      let whole = proof-ends bytes (found Replica f withdrawn bytes verdicts fields e .framed) prepared-bit set in
+      let same = prepared-is Replica bytes fields (found Replica f withdrawn bytes verdicts fields e) in
+      proof-there (partAt bytes (fields .prepared)) (proof-whole Replica f withdrawn bytes verdicts fields e) (λ none. let size = ap length same in omega arith) .whole
 
   pub write-signers : fields .kind ≡ 3 → signers ≡ signerSet (preparedFrom (partAt bytes (fields .prepared)) .entries)
   write-signers k =
       let ends = write-proof k .ends in
-      signers-are Replica f bytes verdicts fields e ∙ ap preparedSigners (some-part 32 (partAt bytes (fields .prepared)) (omega arith))
+      signers-are Replica f withdrawn bytes verdicts fields e ∙ ap preparedSigners (some-part 32 (partAt bytes (fields .prepared)) (omega arith))
 
 -- The replies, kind by kind.
-module _ (f : ℕ) (bytes verdicts : List ℕ) (fields : Fields) {signers : ReplicaSet} (e : acceptance Client f bytes verdicts ≡ accepted (fields, signers)) where
-  pub handed-stamp : fields .kind ≡ 5 → Handed Client f bytes verdicts (STAMP (record { 0 = fields .sender }) (fields .nonce) (preparedPart (partAt bytes (fields .prepared))) (fields .addressed))
+module _ (f : ℕ) (withdrawn : ClientSet) (bytes verdicts : List ℕ) (fields : Fields) {signers : ReplicaSet} (e : acceptance Client f withdrawn bytes verdicts ≡ accepted (fields, signers)) where
+  pub handed-stamp : fields .kind ≡ 5 → Handed Client f withdrawn bytes verdicts (STAMP (record { 0 = fields .sender }) (fields .nonce) (preparedPart (partAt bytes (fields .prepared))) (fields .addressed))
   handed-stamp k =
-      rw (prepared-shown Client bytes fields (found Client f bytes verdicts fields e))
-      (handed Client f bytes verdicts fields e _ (reads-5 bytes fields (reads Client f bytes verdicts fields e) k))
+      rw (prepared-shown Client bytes fields (found Client f withdrawn bytes verdicts fields e))
+      (handed Client f withdrawn bytes verdicts fields e _ (reads-5 bytes fields (reads Client f withdrawn bytes verdicts fields e) k))
 
-  pub handed-prepared : fields .kind ≡ 6 → Handed Client f bytes verdicts (PREPARED (record { 0 = fields .sender }) (number (fields .timestamp)) (partAt bytes (fields .digest)))
+  pub handed-prepared : fields .kind ≡ 6 → Handed Client f withdrawn bytes verdicts (PREPARED (record { 0 = fields .sender }) (number (fields .timestamp)) (partAt bytes (fields .digest)))
   handed-prepared k =
-      rw (digest-is Client f bytes verdicts fields e)
-      (handed Client f bytes verdicts fields e _ (reads-6 bytes fields (reads Client f bytes verdicts fields e) k))
+      rw (digest-is Client f withdrawn bytes verdicts fields e)
+      (handed Client f withdrawn bytes verdicts fields e _ (reads-6 bytes fields (reads Client f withdrawn bytes verdicts fields e) k))
 
-  pub handed-written : fields .kind ≡ 7 → Handed Client f bytes verdicts (WRITTEN (record { 0 = fields .sender }) (number (fields .timestamp)))
-  handed-written k = handed Client f bytes verdicts fields e _ (reads-7 bytes fields (reads Client f bytes verdicts fields e) k)
+  pub handed-written : fields .kind ≡ 7 → Handed Client f withdrawn bytes verdicts (WRITTEN (record { 0 = fields .sender }) (number (fields .timestamp)))
+  handed-written k = handed Client f withdrawn bytes verdicts fields e _ (reads-7 bytes fields (reads Client f withdrawn bytes verdicts fields e) k)
 
-  pub handed-card : fields .kind ≡ 8 → Handed Client f bytes verdicts (CARD (record { 0 = fields .sender }) (fields .nonce) (cardAt bytes (fields .card)) (preparedPart (partAt bytes (fields .prepared))) (fields .addressed))
+  pub handed-card : fields .kind ≡ 8 → Handed Client f withdrawn bytes verdicts (CARD (record { 0 = fields .sender }) (fields .nonce) (cardAt bytes (fields .card)) (preparedPart (partAt bytes (fields .prepared))) (fields .addressed))
   handed-card k =
-      rw (card-is Client f bytes verdicts fields e, prepared-shown Client bytes fields (found Client f bytes verdicts fields e))
-      (handed Client f bytes verdicts fields e _ (reads-8 bytes fields (reads Client f bytes verdicts fields e) k))
+      rw (card-is Client f withdrawn bytes verdicts fields e, prepared-shown Client bytes fields (found Client f withdrawn bytes verdicts fields e))
+      (handed Client f withdrawn bytes verdicts fields e _ (reads-8 bytes fields (reads Client f withdrawn bytes verdicts fields e) k))
 
   -- "desks 5 to 8"
   pub reply-kind : (fields .kind ≡ 5) ⊎ ((fields .kind ≡ 6) ⊎ ((fields .kind ≡ 7) ⊎ (fields .kind ≡ 8)))
-  reply-kind = client-kind (found Client f bytes verdicts fields e .taken)
+  reply-kind = client-kind (found Client f withdrawn bytes verdicts fields e .taken)

@@ -1,5 +1,6 @@
 -- The fields of a message obey their rules; its size; the longest message. Assumes nothing.
 use mathlib.Core.Path.{_≡_, refl, sym, _∙_}
+use mathlib.Core.Bool.{true}
 use mathlib.Core.List.{List, [], _∷_}
 use mathlib.Core.Option.{Option, none, some}
 use Prim.Native.Nat.{ℕ, zero, suc, _+_, _≤_, _<_}
@@ -138,6 +139,6 @@ longest-reached = (
   },
 )
 
-pub longest-passes : checked 5 longestMessage (replicate 23 1) (accepted longestMessage) ≡ accepted longestMessage
+pub longest-passes : checked 5 true longestMessage (replicate 23 1) (accepted longestMessage) ≡ accepted longestMessage
 unfolding longestMessage blank blanks checked oneEach entriesOf all proven shaped rising within guard
 longest-passes = refl

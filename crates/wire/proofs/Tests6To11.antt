@@ -15,10 +15,11 @@ use Rattle.base.specs.Party.{isRegister}
 use Rattle.base.specs.Outcome.{Outcome, accepted, refused, guard}
 use Rattle.base.specs.ReplicaSet.{empty}
 use Rattle.base.specs.Timestamp.{number, ofNumber, isIssued}
+use Rattle.base.specs.declared.client_set.ClientSet.{ClientSet}
 use Rattle.base.specs.declared.timestamp.Timestamp.{Timestamp}
 use Rattle.base.proofs.Timestamps.{number-ofNumber}
 use Rattle.base.specs.Bytes.{between}
-use Rattle.wire.specs.Acceptance.{senderOf, numbered, inItsRange, maySend}
+use Rattle.wire.specs.Acceptance.{senderOf, numbered, inItsRange, maySend, isServed}
 use Rattle.wire.specs.Accepting.{opened, entryCount, countIn, signatureCount, proofBetween, Ready}
 use Rattle.wire.specs.Checks.{preparedOf, writtenOf, timestampOf, ifThere, entriesIfThere, entriesOf, oneEach, ownGenuine, issued, all, proven, proofOutcome}
 use Rattle.wire.specs.Decode.{messageIn, registerIn, kindIn, reading, spanOf, fieldsIn, framed, timestampIn, readingOutcome}
@@ -215,19 +216,19 @@ judged f party bytes message first second e whole first-size second-size =
     (proven-smallest f message first second)
 
 -- Tests 2 to 8 by the bytes.
-pub opened-read : (party : Party) (f : ℕ) (bytes verdicts : List ℕ) (fields : Fields) → reading party bytes ≡ accepted fields
-    → opened party f bytes verdicts ≡ guard 6 (inItsRange f (numbered party (fields .sender))) (guard 19 (maySend (fields .kind) (numbered party (fields .sender))) (guard 20 (isRegister (fields .register)) (guard 7 (eqb (length verdicts) (signatureCount bytes) && all (λ v. leb v 1) verdicts) (guard 8 (ownGenuine verdicts) (accepted fields)))))
+pub opened-read : (party : Party) (f : ℕ) (withdrawn : ClientSet) (bytes verdicts : List ℕ) (fields : Fields) → reading party bytes ≡ accepted fields
+    → opened party f withdrawn bytes verdicts ≡ guard 6 (inItsRange f (numbered party (fields .sender))) (guard 19 (maySend (fields .kind) (numbered party (fields .sender))) (guard 20 (isRegister (fields .register)) (guard 7 (eqb (length verdicts) (signatureCount bytes) && all (λ v. leb v 1) verdicts) (guard 8 (ownGenuine verdicts) (guard 23 (isServed withdrawn (numbered party (fields .sender))) (accepted fields))))))
 unfolding opened fieldsIn
-opened-read party f bytes verdicts fields e =
+opened-read party f withdrawn bytes verdicts fields e =
     let p = parsed party bytes fields e in
     let m = messageOf (p .taken) bytes in
     let s = seen party bytes m (p .decodes) in
     let at = placed-reading party bytes fields e in
     rw (p .decodes, s .sender, s .kind, ← at .sender, ← at .kind, one-each party bytes m verdicts (p .decodes) (p .framed), p .same)
 
-pub opened-unread : (party : Party) (f : ℕ) (bytes verdicts : List ℕ) (n : ℕ) → reading party bytes ≡ refused n → opened party f bytes verdicts ≡ refused n
+pub opened-unread : (party : Party) (f : ℕ) (withdrawn : ClientSet) (bytes verdicts : List ℕ) (n : ℕ) → reading party bytes ≡ refused n → opened party f withdrawn bytes verdicts ≡ refused n
 unfolding opened
-opened-unread party f bytes verdicts n e = rw (message-refused party bytes n e)
+opened-unread party f withdrawn bytes verdicts n e = rw (message-refused party bytes n e)
 
 -- What an answer says of the outcome that it stands for.
 pub answered : (outcome : Outcome Fields) (answer : Reading) (fields : Fields) → readingOutcome answer ≡ outcome → answer ≡ Found fields → outcome ≡ accepted fields

@@ -20,13 +20,14 @@ pub record Passed (f : ℕ) (message : Message) (verdicts : List ℕ) : Type 0 w
   pub prepared-issued : issuedIfThere (preparedOf message) ≡ true
   pub written-issued : issuedIfThere (writtenOf message) ≡ true
 
-pub checked-passed : {A : Type 0} (f : ℕ) (message : Message) (verdicts : List ℕ) (next : Outcome A) (a : A)
-    → checked f message verdicts next ≡ accepted a → Passed f message verdicts × (next ≡ accepted a)
+pub checked-passed : {A : Type 0} (f : ℕ) (served : Bool) (message : Message) (verdicts : List ℕ) (next : Outcome A) (a : A)
+    → checked f served message verdicts next ≡ accepted a → Passed f message verdicts × (served ≡ true) × (next ≡ accepted a)
 unfolding checked proven
-checked-passed f message verdicts next a e =
-    let seventh = guard-accepted 7 (oneEach message verdicts) (guard 8 (ownGenuine verdicts) (proven f message (drop 1 verdicts) next)) a e in
-    let eighth = guard-accepted 8 (ownGenuine verdicts) (proven f message (drop 1 verdicts) next) a (seventh .1) in
-    let ninth = guard-accepted 9 (prepared-shaped && written-shaped) (guard 10 (genuine (drop 1 verdicts)) (guard 11 (field-issued && (prepared-issued && written-issued)) next)) a (eighth .1) in
+checked-passed f served message verdicts next a e =
+    let seventh = guard-accepted 7 (oneEach message verdicts) (guard 8 (ownGenuine verdicts) (guard 23 served (proven f message (drop 1 verdicts) next))) a e in
+    let eighth = guard-accepted 8 (ownGenuine verdicts) (guard 23 served (proven f message (drop 1 verdicts) next)) a (seventh .1) in
+    let standing = guard-accepted 23 served (proven f message (drop 1 verdicts) next) a (eighth .1) in
+    let ninth = guard-accepted 9 (prepared-shaped && written-shaped) (guard 10 (genuine (drop 1 verdicts)) (guard 11 (field-issued && (prepared-issued && written-issued)) next)) a (standing .1) in
     let tenth = guard-accepted 10 (genuine (drop 1 verdicts)) (guard 11 (field-issued && (prepared-issued && written-issued)) next) a (ninth .1) in
     let eleventh = guard-accepted 11 (field-issued && (prepared-issued && written-issued)) next a (tenth .1) in
     let shapes = and-true-both prepared-shaped written-shaped (ninth .0) in
@@ -42,6 +43,7 @@ checked-passed f message verdicts next a e =
         prepared-issued = proofs .0;
         written-issued = proofs .1;
       },
+      standing .0,
       eleventh .1,
     )
   where
@@ -60,8 +62,8 @@ checked-passed f message verdicts next a e =
     written-issued : Bool
     written-issued = issuedIfThere (writtenOf message)
 
--- The other way: a message that satisfies all that is left to what follows.
-pub passed-checked : {A : Type 0} (f : ℕ) (message : Message) (verdicts : List ℕ) (next : Outcome A) → Passed f message verdicts → checked f message verdicts next ≡ next
+-- The other way: a message that satisfies all that, of a client that is served, is left to what follows.
+pub passed-checked : {A : Type 0} (f : ℕ) (served : Bool) (message : Message) (verdicts : List ℕ) (next : Outcome A) → Passed f message verdicts → served ≡ true → checked f served message verdicts next ≡ next
 unfolding checked proven guard
-passed-checked f message verdicts next p =
-    rw (p .one-each, p .own, p .prepared-shaped, p .written-shaped, p .entries-genuine, p .field-issued, p .prepared-issued, p .written-issued) refl
+passed-checked f served message verdicts next p standing =
+    rw (p .one-each, p .own, standing, p .prepared-shaped, p .written-shaped, p .entries-genuine, p .field-issued, p .prepared-issued, p .written-issued) refl

@@ -1,11 +1,13 @@
--- Document 01, "Turned down", 2 to 11 in their order, with 19 and 20 of document 02: the message that a party is handed and its register, or
+-- Document 01, "Turned down", 2 to 11 in their order, with 19, 20 and 23 of document 02: the message that a party is handed and its register, or
 -- its refusal. The steps of replica and client begin with it.
-use mathlib.Core.Bool.{Bool, true, _||_}
+use mathlib.Core.Bool.{Bool, true, not, _||_}
 use mathlib.Core.List.{List}
 use Prim.Native.Nat.{ℕ}
 use lib.Dec.{eqb}
+use Rattle.base.specs.ClientSet.{has}
 use Rattle.base.specs.Outcome.{Outcome, accepted, refused, guard, _>>=_}
 use Rattle.base.specs.Party.{isClient, isWriter, isReplica, isRegister}
+use Rattle.base.specs.declared.client_set.ClientSet.{ClientSet}
 use Rattle.base.specs.declared.party.ClientId.{ClientId}
 use Rattle.base.specs.declared.party.RegisterId.{RegisterId}
 use Rattle.base.specs.declared.party.ReplicaId.{ReplicaId}
@@ -50,25 +52,31 @@ abbrev pub maySend : ℕ → Sender → Bool
 maySend kind (client id) = eqb kind 4 || isWriter id
 maySend kind (replica id) = true
 
--- 6 to 11 of a message for a register, with its verdicts (marks). 20: "the set is not 1 to 16; tested right after 6 (and 19)".
-unfoldable pub admits : ℕ → List ℕ → RegisterId × Message → Outcome (RegisterId × Message)
-admits f verdicts (register, message) =
+-- 23: "a request comes from a withdrawn desk". A replica is never withdrawn.
+abbrev pub isServed : ClientSet → Sender → Bool
+isServed withdrawn (client id) = not (has withdrawn id)
+isServed withdrawn (replica id) = true
+
+-- 6 to 11 of a message for a register, with its verdicts (marks), where these clients are withdrawn: at a client nobody is. 20: "the set
+-- is not 1 to 16; tested right after 6 (and 19)".
+unfoldable pub admits : ℕ → ClientSet → List ℕ → RegisterId × Message → Outcome (RegisterId × Message)
+admits f withdrawn verdicts (register, message) =
     guard 6 (inItsRange f (senderOf message))
     (guard 19 (maySend (kindOf message) (senderOf message))
     (guard 20 (isRegister register)
-    (checked f message verdicts
+    (checked f (isServed withdrawn (senderOf message)) message verdicts
     (accepted (register, message)))))
 
 -- 2 to 11 of bytes.
-unfoldable pub admitted : Party → ℕ → List ℕ → List ℕ → Outcome (RegisterId × Message)
-admitted party f bytes verdicts = decode party bytes >>= admits f verdicts
+unfoldable pub admitted : Party → ℕ → ClientSet → List ℕ → List ℕ → Outcome (RegisterId × Message)
+admitted party f withdrawn bytes verdicts = decode party bytes >>= admits f withdrawn verdicts
 
 -- The same as the code answers it: the fields of the bytes, and who signed the message's prepared proof (document 02, #102).
 abbrev pub foundIn : List ℕ → RegisterId × Message → Fields × ReplicaSet
 foundIn bytes sent = (fieldsIn bytes, preparedSigners (preparedOf (sent .1)))
 
-unfoldable pub acceptance : Party → ℕ → List ℕ → List ℕ → Outcome (Fields × ReplicaSet)
-acceptance party f bytes verdicts = admitted party f bytes verdicts >>= λ sent. accepted (foundIn bytes sent)
+unfoldable pub acceptance : Party → ℕ → ClientSet → List ℕ → List ℕ → Outcome (Fields × ReplicaSet)
+acceptance party f withdrawn bytes verdicts = admitted party f withdrawn bytes verdicts >>= λ sent. accepted (foundIn bytes sent)
 
 -- What an answer of the code stands for.
 abbrev pub acceptingOutcome : Accepting → Outcome (Fields × ReplicaSet)

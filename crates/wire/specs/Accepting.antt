@@ -1,4 +1,4 @@
--- Acceptance as the code finds it: 2 to 8, then 9 to 11.
+-- Acceptance as the code finds it: 2 to 8 with 23 behind them, then 9 to 11.
 use mathlib.Core.Path.{_≡_}
 use mathlib.Core.Bool.{cond}
 use mathlib.Core.List.{List}
@@ -10,8 +10,9 @@ use Rattle.base.specs.Bytes.{between}
 use Rattle.base.specs.Outcome.{Outcome, accepted, guard, _>>=_}
 use Rattle.base.specs.Party.{isRegister}
 use Rattle.base.specs.ReplicaSet.{empty}
+use Rattle.base.specs.declared.client_set.ClientSet.{ClientSet}
 use Rattle.base.specs.declared.replica_set.ReplicaSet.{ReplicaSet}
-use Rattle.wire.specs.Acceptance.{senderOf, inItsRange, maySend}
+use Rattle.wire.specs.Acceptance.{senderOf, inItsRange, maySend, isServed}
 use Rattle.wire.specs.Checks.{preparedOf, oneEach, ownGenuine, proven, proofOutcome}
 use Rattle.wire.specs.Decode.{messageIn, registerIn, fieldsIn, framed}
 use Rattle.wire.specs.Judging.{entriesIn, proofCheckOutcome}
@@ -22,19 +23,20 @@ use Rattle.wire.specs.declared.message.Fields.{Fields}
 use Rattle.wire.specs.declared.message.Party.{Party}
 use Rattle.wire.specs.declared.message.Span.{Span}
 
--- 2 to 8, with 19 and 20, and what follows for the message.
-abbrev pub opening : {A : Type 0} → Party → ℕ → List ℕ → List ℕ → (Message → Outcome A) → Outcome A
-opening party f bytes verdicts next =
+-- 2 to 8, with 19, 20 and 23, and what follows for the message.
+abbrev pub opening : {A : Type 0} → Party → ℕ → ClientSet → List ℕ → List ℕ → (Message → Outcome A) → Outcome A
+opening party f withdrawn bytes verdicts next =
     messageIn party bytes >>= λ message.
     guard 6 (inItsRange f (senderOf message))
     (guard 19 (maySend (kindOf message) (senderOf message))
     (guard 20 (isRegister (registerIn bytes))
     (guard 7 (oneEach message verdicts)
     (guard 8 (ownGenuine verdicts)
-    (next message)))))
+    (guard 23 (isServed withdrawn (senderOf message))
+    (next message))))))
 
-unfoldable pub opened : Party → ℕ → List ℕ → List ℕ → Outcome Fields
-opened party f bytes verdicts = opening party f bytes verdicts (λ message. accepted (fieldsIn bytes))
+unfoldable pub opened : Party → ℕ → ClientSet → List ℕ → List ℕ → Outcome Fields
+opened party f withdrawn bytes verdicts = opening party f withdrawn bytes verdicts (λ message. accepted (fieldsIn bytes))
 
 -- The entries behind the head of the proof at a place; none if there is no proof.
 abbrev pub entryCount : Span → ℕ → ℕ

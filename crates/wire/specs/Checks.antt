@@ -1,4 +1,4 @@
--- Document 01, "Turned down", 7 to 11: verdicts (marks), proofs and timestamps.
+-- Document 01, "Turned down", 7 to 11: verdicts (marks), proofs and timestamps; and where 23 of document 02 stands among them.
 use mathlib.Core.Bool.{Bool, true, _&&_}
 use mathlib.Core.List.{List, [], _∷_, _++_}
 use mathlib.Core.Option.{Option, none, some}
@@ -97,12 +97,13 @@ proven f message entryVerdicts next =
     (guard 11 (ifThere issued (timestampOf message) && (issuedIfThere (preparedOf message) && issuedIfThere (writtenOf message)))
     next))
 
--- 7 to 11 of a message, and what follows.
-unfoldable pub checked : {A : Type 0} → ℕ → Message → List ℕ → Outcome A → Outcome A
-checked f message verdicts next =
+-- 7 to 11 of a message, and what follows. Document 02, #105: 23, "tested right after 8", by whether its sender is served.
+unfoldable pub checked : {A : Type 0} → ℕ → Bool → Message → List ℕ → Outcome A → Outcome A
+checked f served message verdicts next =
     guard 7 (oneEach message verdicts)
     (guard 8 (ownGenuine verdicts)
-    (proven f message (drop 1 verdicts) next))
+    (guard 23 served
+    (proven f message (drop 1 verdicts) next)))
 
 -- 9 to 11 of one proof: its entries, their verdicts, its timestamp. Document 02, #102: for a good proof "the set of holders whose
 -- entries it found genuine".

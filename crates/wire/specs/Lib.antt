@@ -9,6 +9,7 @@ pub mod Judging
 pub mod Kinds
 pub mod Layout
 pub mod Message
+pub mod Order
 pub mod Parts
 pub mod Places
 pub mod Proof

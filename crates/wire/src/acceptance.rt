@@ -11,6 +11,7 @@ use crate::message::Reading;
 use crate::message::Span;
 use crate::signatures::count_in;
 use crate::signatures::entry_count;
+use base::client_set::ClientSet;
 use base::party::ClientId;
 use base::party::ReplicaId;
 use base::party::is_client;
@@ -22,6 +23,7 @@ use base::refusal::NOT_GENUINE;
 use base::refusal::REGISTER;
 use base::refusal::SENDER;
 use base::refusal::VERDICTS;
+use base::refusal::WITHDRAWN;
 use base::replica_set::ReplicaSet;
 use base::timestamp::Timestamp;
 ghost use mathlib.Core.Path.{_≡_};
@@ -29,7 +31,7 @@ ghost use mathlib.Core.Bool.{true, cond};
 ghost use Prim.Native.Nat.{_≤_};
 ghost use Rattle.base.specs.BitMap.{bit};
 ghost use Rattle.base.specs.Timestamp.{isIssued};
-ghost use Rattle.wire.specs.Acceptance.{numbered, inItsRange, maySend, acceptance, acceptingOutcome};
+ghost use Rattle.wire.specs.Acceptance.{numbered, inItsRange, maySend, isServed, acceptance, acceptingOutcome};
 ghost use Rattle.wire.specs.Accepting.{opened, proofBetween, Ready, Judges};
 ghost use Rattle.wire.specs.Decode.{readingOutcome};
 ghost use Rattle.wire.specs.Judging.{proofCheckOutcome};
@@ -64,9 +66,19 @@ fn may_send(party: Party, kind: u8, sender: u8) -> bool
     is_writer(ClientId(sender))
 }
 
-// Tests 2 to 8, with 19 and 20 behind 6.
-fn open(party: Party, f: u8, bytes: &[u8], verdicts: &[u8]) -> Reading
-    ensures { λ r. ⌜ readingOutcome r ≡ opened party f (now (bytes .entry)) (now (verdicts .entry)) ⌝ }
+// Test 23: a withdrawn client is served no more.
+fn is_served(party: Party, withdrawn: ClientSet, sender: u8) -> bool
+    ensures { λ r. ⌜ r ≡ isServed withdrawn (numbered party sender) ⌝ }
+{
+    let Party::Replica = party else {
+        return true;
+    };
+    !withdrawn.has(ClientId(sender))
+}
+
+// Tests 2 to 8, with 19 and 20 behind 6, and 23 behind 8.
+fn open(party: Party, f: u8, withdrawn: ClientSet, bytes: &[u8], verdicts: &[u8]) -> Reading
+    ensures { λ r. ⌜ readingOutcome r ≡ opened party f withdrawn (now (bytes .entry)) (now (verdicts .entry)) ⌝ }
 {
     match crate::reader::read(party, bytes) {
         Reading::Message(fields) => {
@@ -84,6 +96,9 @@ fn open(party: Party, f: u8, bytes: &[u8], verdicts: &[u8]) -> Reading
             }
             if verdicts[0] != 1 {
                 return Reading::Refused(NOT_GENUINE);
+            }
+            if !is_served(party, withdrawn, fields.sender) {
+                return Reading::Refused(WITHDRAWN);
             }
             Reading::Message(fields)
         }
@@ -133,12 +148,12 @@ fn judge(f: u8, bytes: &[u8], verdicts: &[u8], fields: Fields) -> ProofCheck
     )
 }
 
-// What a message with its verdicts is to the party that is handed it: its fields and its prepared proof's signers, or the number
-// of its refusal.
-pub fn accept(party: Party, f: u8, bytes: &[u8], verdicts: &[u8]) -> Accepting
-    ensures { λ r. ⌜ acceptingOutcome r ≡ acceptance party f (now (bytes .entry)) (now (verdicts .entry)) ⌝ }
+// What a message with its verdicts is to the party that is handed it, where these clients are withdrawn: its fields and its
+// prepared proof's signers, or the number of its refusal.
+pub fn accept(party: Party, f: u8, withdrawn: ClientSet, bytes: &[u8], verdicts: &[u8]) -> Accepting
+    ensures { λ r. ⌜ acceptingOutcome r ≡ acceptance party f withdrawn (now (bytes .entry)) (now (verdicts .entry)) ⌝ }
 {
-    match open(party, f, bytes, verdicts) {
+    match open(party, f, withdrawn, bytes, verdicts) {
         Reading::Message(fields) => match judge(f, bytes, verdicts, fields) {
             ProofCheck::Good(signers) => Accepting::Message(fields, signers),
             ProofCheck::Refused(number) => Accepting::Refused(number),

@@ -1,5 +1,6 @@
 // Cards: the value of the register.
-use crate::digest_words::same_digest;
+use crate::digest_words::same_hash;
+use crate::sha256::hash_message;
 use base::refusal::BAD_CARD;
 ghost use mathlib.Core.Path.{_≡_};
 ghost use mathlib.Core.Option.{none};
@@ -190,6 +191,6 @@ pub fn stands_under(card: &[u8], digest: &[u8]) -> bool
     let CardCheck::Good = check(card) else {
         return false;
     };
-    let found = crate::sha256::sha256(card).bytes;
-    same_digest(&found, digest)
+    let found = hash_message(card);
+    same_hash(&found, digest)
 }

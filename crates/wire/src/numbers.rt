@@ -18,7 +18,7 @@ pub(super) fn byte_in(bytes: &[u8], at: usize, end: usize) -> u8
     bytes[at]
 }
 
-fn four_at(bytes: &[u8], at: usize) -> u32
+pub fn four_at(bytes: &[u8], at: usize) -> u32
     requires { ⌜ at + 4 ≤ length (now bytes) ⌝ }
     ensures { λ r. ⌜ r ≡ fromBytes (take 4 (drop at (now (bytes .entry)))) ⌝ }
 {

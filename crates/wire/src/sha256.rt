@@ -30,7 +30,7 @@ fn hash_block(hash: &[u32; 8], message: &[u8], i: usize, blocks: usize) -> [u32;
     rounds::compress(hash, &mut w)
 }
 
-fn hash_message(message: &[u8]) -> [u32; 8]
+pub(super) fn hash_message(message: &[u8]) -> [u32; 8]
     requires { ⌜ length (now message) ≤ longestInput ⌝ }
     ensures { λ r. ⌜ r ≡ hashValue (padded (now (message .entry))) (length (padded (now (message .entry))) / 64) ⌝ }
 {

@@ -1,11 +1,9 @@
--- What a card's check says of it, and that a good card has a digest. Assumes nothing.
+-- What a card's check says of it, and that a good card is short. Assumes nothing.
 use mathlib.Core.Path.{_≡_, refl, ap}
 use mathlib.Core.Bool.{Bool, true, false}
 use mathlib.Core.List.{List}
 use mathlib.Core.Option.{Option, none, some}
 use Prim.Native.Nat.{ℕ, _≤_}
-use native.Mathlib.Omega.{arith}
-use borrow.Author.Tests.{le-leb}
 use lib.ListN.{length}
 use Rattle.base.specs.Outcome.{accepted}
 use Rattle.base.specs.Same.{same}
@@ -13,7 +11,7 @@ use Rattle.base.proofs.Booleans.{and-true-both}
 use Rattle.base.proofs.Outcome.{guard-passes, guard-refuses}
 use Rattle.base.proofs.Apart.{apart}
 use Rattle.wire.specs.Card.{Fields, readCard, isSome, isCard, checkCard, cardOutcome, standsUnder}
-use Rattle.wire.specs.Sha256.{sha256, answer, digestOf, longestInput}
+use Rattle.wire.specs.Sha256.{sha256}
 use Rattle.wire.specs.declared.card.CardCheck.{CardCheck}
 use Rattle.wire.specs.declared.card.CardCheck.the-variants.{Good, Refused}
 use Rattle.wire.proofs.card.RoundTrip.{at-most-17}
@@ -42,8 +40,3 @@ card-short card h = go (readCard card) refl
 
 pub standing-under-short : (card digest : List ℕ) → standsUnder card digest ≡ true → length card ≤ 17
 standing-under-short card digest e = card-short card (and-true-both (isCard card) (same (sha256 card) digest) e .0)
-
--- A good card is short enough for the digest routine.
-pub good-digest : (card : List ℕ) → isCard card ≡ true → digestOf card ≡ answer true card
-unfolding digestOf
-good-digest card h = let short = card-short card h in rw (le-leb (length card) longestInput (omega arith))

@@ -10,7 +10,7 @@ use Rattle.base.specs.Party.{isRegister}
 use Rattle.base.specs.Outcome.{accepted, guard}
 use Rattle.base.proofs.Booleans.{and-true-both}
 use Rattle.base.proofs.Outcome.{guard-passes, guard-refuses}
-use Rattle.wire.specs.Acceptance.{numbered, inItsRange, maySend}
+use Rattle.wire.specs.Acceptance.{numbered, inItsRange, maySend, isServed}
 use Rattle.wire.specs.Accepting.{opened, signatureCount}
 use Rattle.wire.specs.Checks.{ownGenuine, all}
 use Rattle.wire.specs.Decode.{reading}
@@ -49,16 +49,18 @@ one c = sym (c .is-register .ensures)
 abbrev told20 : tie.After-is-register → tie.After-known-told
 told20 c = told (asked c)
 
--- Tests 7 and 8 are left.
-sent : (c : tie.Else3) → opened (start (told20 (c .before)) .args .party) (start (told20 (c .before)) .args .f) (start (told20 (c .before)) .args .bytes .now) (start (told20 (c .before)) .args .verdicts .now)
+-- Tests 7, 8 and 23 are left.
+sent : (c : tie.Else3) → opened (start (told20 (c .before)) .args .party) (start (told20 (c .before)) .args .f) (start (told20 (c .before)) .args .withdrawn) (start (told20 (c .before)) .args .bytes .now) (start (told20 (c .before)) .args .verdicts .now)
     ≡ guard 7 (eqb (length (start (told20 (c .before)) .args .verdicts .now)) (signatureCount (start (told20 (c .before)) .args .bytes .now)) && all (λ v. leb v 1) (start (told20 (c .before)) .args .verdicts .now))
-    (guard 8 (ownGenuine (start (told20 (c .before)) .args .verdicts .now)) (accepted (told20 (c .before) .before .fields .given .0 .0)))
+    (guard 8 (ownGenuine (start (told20 (c .before)) .args .verdicts .now))
+    (guard 23 (isServed (start (told20 (c .before)) .args .withdrawn) (numbered (start (told20 (c .before)) .args .party) (told20 (c .before) .before .fields .given .0 .0 .sender)))
+    (accepted (told20 (c .before) .before .fields .given .0 .0))))
 sent c =
     let r = c .before in
     let m = asked r in
     let k = told m in
     let a = start k .args in
-    opened-read (a .party) (a .f) (a .bytes .now) (a .verdicts .now) (k .before .fields .given .0 .0) (known k)
+    opened-read (a .party) (a .f) (a .withdrawn) (a .bytes .now) (a .verdicts .now) (k .before .fields .given .0 .0) (known k)
     ∙ guard-passes 6 _ _ (ranged (m .before .before) ∙ not-false _ (m .before .if1 .left))
     ∙ guard-passes 19 _ _ (may m ∙ not-false _ (r .before .if2 .left))
     ∙ guard-passes 20 _ _ (one r ∙ not-false _ (c .if3 .left))
@@ -84,14 +86,14 @@ returns : tie.Need-returns
 returns c =
     let k = c .before .before in
     let a = start k .args in
-    rw (opened-read (a .party) (a .f) (a .bytes .now) (a .verdicts .now) (k .before .fields .given .0 .0) (known k), guard-refuses 6 _ _ (ranged (c .before) ∙ not-true _ (c .if1 .taken)))
+    rw (opened-read (a .party) (a .f) (a .withdrawn) (a .bytes .now) (a .verdicts .now) (k .before .fields .given .0 .0) (known k), guard-refuses 6 _ _ (ranged (c .before) ∙ not-true _ (c .if1 .taken)))
 
 returns-2 : tie.Need-returns-2
 returns-2 c =
     let m = c .before in
     let k = told m in
     let a = start k .args in
-    rw (opened-read (a .party) (a .f) (a .bytes .now) (a .verdicts .now) (k .before .fields .given .0 .0) (known k), guard-passes 6 _ _ (ranged (m .before .before) ∙ not-false _ (m .before .if1 .left)), guard-refuses 19 _ _ (may m ∙ not-true _ (c .if2 .taken)))
+    rw (opened-read (a .party) (a .f) (a .withdrawn) (a .bytes .now) (a .verdicts .now) (k .before .fields .given .0 .0) (known k), guard-passes 6 _ _ (ranged (m .before .before) ∙ not-false _ (m .before .if1 .left)), guard-refuses 19 _ _ (may m ∙ not-true _ (c .if2 .taken)))
 
 returns-3 : tie.Need-returns-3
 returns-3 c =
@@ -100,7 +102,7 @@ returns-3 c =
     let k = told m in
     let a = start k .args in
     rw (
-      opened-read (a .party) (a .f) (a .bytes .now) (a .verdicts .now) (k .before .fields .given .0 .0) (known k),
+      opened-read (a .party) (a .f) (a .withdrawn) (a .bytes .now) (a .verdicts .now) (k .before .fields .given .0 .0) (known k),
       guard-passes 6 _ _ (ranged (m .before .before) ∙ not-false _ (m .before .if1 .left)),
       guard-passes 19 _ _ (may m ∙ not-false _ (r .before .if2 .left)),
       guard-refuses 20 _ _ (one r ∙ not-true _ (c .if3 .taken)),
@@ -118,14 +120,38 @@ returns-5 c =
     let v = start (told20 (e .before .before .before .before)) .args .verdicts .now in
     rw (sent (e .before .before .before), guard-passes 7 _ _ (sym (fits (e .before)) ∙ not-false _ (e .if4 .left)), guard-refuses 8 _ _ (ne-eqb (getD v 0 0) 1 (c .if5 .taken)))
 
+-- Test 23.
+served : (c : tie.After-is-served)
+    → isServed (start (told20 (c .before .before .before .before .before .before .before)) .args .withdrawn) (numbered (start (told20 (c .before .before .before .before .before .before .before)) .args .party) (told20 (c .before .before .before .before .before .before .before) .before .fields .given .0 .0 .sender))
+    ≡ c .is-served .result
+served c = sym (c .is-served .ensures)
+
 returns-6 : tie.Need-returns-6
 returns-6 c =
-    let e = c .before .before in
+    let five = c .before .before in
+    let e = five .before .before in
     let v = start (told20 (e .before .before .before .before)) .args .verdicts .now in
-    rw (sent (e .before .before .before), guard-passes 7 _ _ (sym (fits (e .before)) ∙ not-false _ (e .if4 .left)), guard-passes 8 _ _ (eq-eqb (getD v 0 0) 1 (c .if5 .left)))
+    rw (
+      sent (e .before .before .before),
+      guard-passes 7 _ _ (sym (fits (e .before)) ∙ not-false _ (e .if4 .left)),
+      guard-passes 8 _ _ (eq-eqb (getD v 0 0) 1 (five .if5 .left)),
+      guard-refuses 23 _ _ (served (c .before) ∙ not-true _ (c .if6 .taken)),
+    )
 
 returns-7 : tie.Need-returns-7
-returns-7 c = let a = c .before .before .before .before .before .before .args in sym (opened-unread (a .party) (a .f) (a .bytes .now) (a .verdicts .now) (c .before .number .given .0 .0) (turned-down (reading (a .party) (a .bytes .now)) (c .before .before .before .read .result) (c .before .number .given .0 .0) (c .before .before .before .read .ensures) (c .before .number .given .1)))
+returns-7 c =
+    let five = c .before .before in
+    let e = five .before .before in
+    let v = start (told20 (e .before .before .before .before)) .args .verdicts .now in
+    rw (
+      sent (e .before .before .before),
+      guard-passes 7 _ _ (sym (fits (e .before)) ∙ not-false _ (e .if4 .left)),
+      guard-passes 8 _ _ (eq-eqb (getD v 0 0) 1 (five .if5 .left)),
+      guard-passes 23 _ _ (served (c .before) ∙ not-false _ (c .if6 .left)),
+    )
+
+returns-8 : tie.Need-returns-8
+returns-8 c = let a = c .before .before .before .before .before .before .args in sym (opened-unread (a .party) (a .f) (a .withdrawn) (a .bytes .now) (a .verdicts .now) (c .before .number .given .0 .0) (turned-down (reading (a .party) (a .bytes .now)) (c .before .before .before .read .result) (c .before .number .given .0 .0) (c .before .before .before .read .ensures) (c .before .number .given .1)))
 
 pub open-spec : {M : Type 1} → statement M
 open-spec =
@@ -144,6 +170,8 @@ open-spec =
     returns-4
     shared-slice-read-if5
     returns-5
-    (λ c. search needs)
+    (λ c κs. search needs)
     returns-6
-    returns-7)
+    (λ c. search needs)
+    returns-7
+    returns-8)

@@ -1,6 +1,7 @@
 -- `wire::card::stands_under` meets its contract. Assumes nothing.
-use mathlib.Core.Path.{_∙_}
-use Rattle.wire.proofs.card.Digests.{checked-good, checked-refused, good-digest}
+use native.Mathlib.Omega.{arith}
+use Rattle.wire.specs.Sha256.{sha256}
+use Rattle.wire.proofs.card.Digests.{checked-good, checked-refused, card-short}
 use borrow.Author.Needs.{needs}
 use Rattle.wire.proofs.card.stands_under.Statement.{statement}
 use Rattle.wire.proofs.card.stands_under.Tie as tie
@@ -11,13 +12,21 @@ returns c =
     let card = c .before .before .before .before .before .args .card .now in
     rw (checked-refused card (check .result) (check .ensures) _ (c .enum-told2 .given .1))
 
+hash-message-requires : tie.Need-hash-message-requires
+hash-message-requires c κs =
+    let check = c .before .before .check in
+    let card = c .before .before .before .before .before .args .card .now in
+    let short = card-short card (checked-good card (check .result) (check .ensures) (c .enum-told .given .1)) in
+    omega arith
+
 returns-2 : tie.Need-returns-2
+unfolding sha256
 returns-2 c =
-    let d = c .before .before .before in
+    let d = c .before .before in
     let check = d .before .before .before .check in
     let card = d .before .before .before .before .before .before .args .card .now in
     let good = checked-good card (check .result) (check .ensures) (d .before .enum-told .given .1) in
-    rw (good) (rw (d .sha256 .ensures ∙ good-digest card good) at (c .same-digest .ensures))
+    rw good (rw (d .hash-message .ensures) at (c .same-hash .ensures))
 
 pub stands-under-spec : {M : Type 1} → statement M
 stands-under-spec =
@@ -27,6 +36,6 @@ stands-under-spec =
     (λ c. search needs)
     (λ c. search needs)
     returns
-    (λ c κs. search needs)
+    hash-message-requires
     (λ c κs. search needs)
     returns-2)
