@@ -1,0 +1,2 @@
+pub mod LmOts
+pub mod Lms
