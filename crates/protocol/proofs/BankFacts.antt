@@ -6,8 +6,10 @@ use mathlib.Core.List.{List}
 use Prim.Native.Nat.{ℕ, _<_}
 use lib.ListN.{length, length-set, getD-replicate}
 use lib.Seq.{set-getD, getD-set-same, getD-set-other}
+use Rattle.base.specs.ClientSet.{nobody}
 use Rattle.base.specs.Outcome.{Outcome, accepted, refused, guard}
 use Rattle.base.specs.Party.{isRegister, registerPlace}
+use Rattle.base.specs.declared.client_set.ClientSet.{ClientSet}
 use Rattle.base.specs.declared.party.RegisterId.{RegisterId}
 use Rattle.base.specs.declared.party.ReplicaId.{ReplicaId}
 use Rattle.base.proofs.Apart.{apart}
@@ -31,18 +33,18 @@ use Rattle.wire.proofs.LastRegister.{register-last}
 -- ---- Parts
 
 -- Each part of a fresh bank is fresh.
-pub fresh-part : (f : ℕ) (id : ReplicaId) (at : ℕ) → at < 16 → bankPart at (freshBank f id) ≡ freshRegisterReplica f id
-fresh-part f id at inside = ap (λ (register : Register). record { f = f; id = id; register = register }) (getD-replicate 16 at freshRegister noRegister inside)
+pub fresh-part : (f : ℕ) (id : ReplicaId) (key : List ℕ) (at : ℕ) → at < 16 → bankPart at (freshBank f id key) ≡ freshRegisterReplica f id
+fresh-part f id key at inside = ap (λ (register : Register). record { f = f; id = id; register = register; withdrawn = nobody }) (getD-replicate 16 at freshRegister noRegister inside)
 
 module _ (bank : Bank) (at : ℕ) where
   -- A part that is put back leaves the bank,
   pub part-itself : withBankPart at (bankPart at bank) bank ≡ bank
-  part-itself = ap (λ (registers : List Register). record { f = bank .f; id = bank .id; registers = registers }) (set-getD (bank .registers) at noRegister)
+  part-itself = ap (λ (registers : List Register). record { f = bank .f; id = bank .id; registers = registers; withdrawn = bank .withdrawn; key = bank .key }) (set-getD (bank .registers) at noRegister)
 
   -- any other the parts at other places,
   pub part-elsewhere : (part : RegisterReplica) (other : ℕ) → (other ≡ at → ⊥) → bankPart other (withBankPart at part bank) ≡ bankPart other bank
   part-elsewhere part other apart =
-      ap (λ (register : Register). record { f = bank .f; id = bank .id; register = register }) (getD-set-other (bank .registers) at other (part .register) noRegister apart)
+      ap (λ (register : Register). record { f = bank .f; id = bank .id; register = register; withdrawn = bank .withdrawn }) (getD-set-other (bank .registers) at other (part .register) noRegister apart)
 
   -- and is there itself.
   pub part-there : (part : RegisterReplica) → at < length (bank .registers) → bankPart at (withBankPart at part bank) .register ≡ part .register
@@ -52,28 +54,28 @@ module _ (bank : Bank) (at : ℕ) where
 
 module _ (bytes verdicts : List ℕ) where
   -- A message that is let through is for a register, and the last byte before its signature says which.
-  pub let-through : (f : ℕ) (register : RegisterId) (message : Message) → admitted AtReplica f bytes verdicts ≡ accepted (register, message)
+  pub let-through : (f : ℕ) (withdrawn : ClientSet) (register : RegisterId) (message : Message) → admitted AtReplica f withdrawn bytes verdicts ≡ accepted (register, message)
       → (isRegister (registerIn bytes) ≡ true) × (registerIn bytes ≡ lastRegister bytes)
-  let-through f register message e =
-      let passed = admitted-passed AtReplica f bytes verdicts register message e in
+  let-through f withdrawn register message e =
+      let passed = admitted-passed AtReplica f withdrawn bytes verdicts register message e in
       let is = decode-splits AtReplica bytes register message (passed .decodes) .0 in
       (ap isRegister is ∙ passed .registered, register-last AtReplica bytes register message (passed .decodes))
 
   -- One that is not is refused whatever the register holds.
-  pub refused-alike : (replica : RegisterReplica) (n : ℕ) → admitted AtReplica (replica .f) bytes verdicts ≡ refused n → registerStep replica bytes verdicts ≡ refused n
+  pub refused-alike : (replica : RegisterReplica) (n : ℕ) → admitted AtReplica (replica .f) (replica .withdrawn) bytes verdicts ≡ refused n → registerStep replica bytes verdicts ≡ refused n
   unfolding registerStep
   refused-alike replica n e = rw e
 
   -- 2 to 11 let a message through, or not.
-  data Judged (f : ℕ) : Type 0 where
-    passes : isRegister (registerIn bytes) ≡ true → registerIn bytes ≡ lastRegister bytes → Judged f
-    fails : (n : ℕ) → admitted AtReplica f bytes verdicts ≡ refused n → Judged f
+  data Judged (f : ℕ) (withdrawn : ClientSet) : Type 0 where
+    passes : isRegister (registerIn bytes) ≡ true → registerIn bytes ≡ lastRegister bytes → Judged f withdrawn
+    fails : (n : ℕ) → admitted AtReplica f withdrawn bytes verdicts ≡ refused n → Judged f withdrawn
 
-  judged : (f : ℕ) → Judged f
-  judged f = go (admitted AtReplica f bytes verdicts) refl
+  judged : (f : ℕ) (withdrawn : ClientSet) → Judged f withdrawn
+  judged f withdrawn = go (admitted AtReplica f withdrawn bytes verdicts) refl
     where
-      go : (o : Outcome (RegisterId × Message)) → admitted AtReplica f bytes verdicts ≡ o → Judged f
-      go (accepted (register, message)) e = let both = let-through f register message e in passes (both .0) (both .1)
+      go : (o : Outcome (RegisterId × Message)) → admitted AtReplica f withdrawn bytes verdicts ≡ o → Judged f withdrawn
+      go (accepted (register, message)) e = let both = let-through f withdrawn register message e in passes (both .0) (both .1)
       go (refused n) e = fails n e
 
 -- ---- Refused calls
@@ -102,9 +104,9 @@ module _ (bank : Bank) (bytes verdicts old : List ℕ) where
   -- So a bank may look for the register in the last byte before the signature, without a test: it makes the same call.
   pub call-by-last-byte : bankCallAt (registerPlace (lastRegister bytes)) bank bytes verdicts old ≡ bankCall bank bytes verdicts old
   unfolding bankCall
-  call-by-last-byte = go (judged bytes verdicts (bank .f))
+  call-by-last-byte = go (judged bytes verdicts (bank .f) (bank .withdrawn))
     where
-      go : Judged bytes verdicts (bank .f) → bankCallAt (registerPlace (lastRegister bytes)) bank bytes verdicts old ≡ bankCallAt (placeIn bytes) bank bytes verdicts old
+      go : Judged bytes verdicts (bank .f) (bank .withdrawn) → bankCallAt (registerPlace (lastRegister bytes)) bank bytes verdicts old ≡ bankCallAt (placeIn bytes) bank bytes verdicts old
       go (passes registered last) = ap (λ (register : RegisterId). bankCallAt (registerPlace register) bank bytes verdicts old) (sym last)
       go (fails n e) =
           refused-at (registerPlace (lastRegister bytes)) n (refused-alike bytes verdicts (bankPart (registerPlace (lastRegister bytes)) bank) n e)
@@ -126,6 +128,15 @@ module _ (bank : Bank) (bytes verdicts old : List ℕ) where
   unfolding bankCall
   id-kept = refl
 
+  -- "A message leaves `withdrawn` and key": only an order withdraws.
+  pub withdrawn-kept : left .withdrawn ≡ bank .withdrawn
+  unfolding bankCall
+  withdrawn-kept = refl
+
+  pub key-kept : left .key ≡ bank .key
+  unfolding bankCall
+  key-kept = refl
+
   -- As many registers as before: 16, since a bank begins with 16.
   pub length-kept : length (left .registers) ≡ length (bank .registers)
   unfolding bankCall
@@ -139,9 +150,9 @@ module _ (bank : Bank) (bytes verdicts old : List ℕ) where
   -- and all registers but the message's, which may be for none.
   pub other-registers-kept : (register : RegisterId) → isRegister register ≡ true → (register ≡ registerIn bytes → ⊥) → bankPart (registerPlace register) left ≡ bankPart (registerPlace register) bank
   unfolding bankCall
-  other-registers-kept register registered other = go (judged bytes verdicts (bank .f))
+  other-registers-kept register registered other = go (judged bytes verdicts (bank .f) (bank .withdrawn))
     where
-      go : Judged bytes verdicts (bank .f) → bankPart (registerPlace register) left ≡ bankPart (registerPlace register) bank
+      go : Judged bytes verdicts (bank .f) (bank .withdrawn) → bankPart (registerPlace register) left ≡ bankPart (registerPlace register) bank
       go (passes known last) = others-kept (registerPlace register) (λ e. other (place-injective register (registerIn bytes) registered known e))
       go (fails n e) =
           ap (λ (call : BankCall). bankPart (registerPlace register) (call .bank)) (refused-at (placeIn bytes) n (refused-alike bytes verdicts (bankPart (placeIn bytes) bank) n e))

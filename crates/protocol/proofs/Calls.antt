@@ -13,9 +13,10 @@ use Rattle.base.specs.declared.party.ClientId.{ClientId}
 use Rattle.base.specs.declared.party.RegisterId.{RegisterId}
 use Rattle.wire.specs.Decode.{registerIn}
 use Rattle.wire.specs.Message.{longest}
-use Rattle.protocol.specs.Bank.{bankPart, placeIn, bankStep, BankCall, putBack, bankCall}
+use Rattle.protocol.specs.Bank.{bankPart, placeIn, bankStep, putBack, bankCall}
 use Rattle.protocol.specs.Client.{Turn, given, ClientCall, clientAnswers, beginWrite, beginRead, clientStep, beginWriteCall, beginReadCall, clientCall}
-use Rattle.protocol.specs.Events.{ReplicaEvent, ClientEvent, request-handed, write-begun, read-begun, reply-handed, replicaEventRegister, BankTurn, bankTurn, onReplicaEvent, replicaEventCall, nextBank, bankAnswer, givenByReplica, onClientEvent, clientEventCall, nextClient, clientAnswer, givenByClient}
+use Rattle.protocol.specs.Events.{ReplicaEvent, ClientEvent, request-handed, order-handed, write-begun, read-begun, reply-handed, replicaEventRegister, BankTurn, bankTurn, orderTurn, onReplicaEvent, nextBank, bankAnswer, ReplicaCall, afterRequest, afterOrder, replicaEventCall, onClientEvent, clientEventCall, nextClient, clientAnswer, givenByClient}
+use Rattle.protocol.specs.Order.{takeOrder, orderAnswers, orderCall}
 use Rattle.protocol.specs.RegisterReplica.{Reply, registerAnswers, withOutput, registerStep, RegisterCall, registerCall}
 use Rattle.protocol.specs.Viewer.{viewerStep, viewerCall}
 use Rattle.protocol.specs.declared.client.Client.{Client}
@@ -74,9 +75,9 @@ module _ (client : Client) (old : List ℕ) (long : longest ≤ length old) wher
 
 -- ---- An event's call leaves the record that the event leaves, and gives its answer
 
-pub record ReplicaSays (register : RegisterId) (before : Bank) (old : List ℕ) (step : Outcome BankTurn) (made : BankCall) : Type 0 where
+pub record ReplicaSays (register : RegisterId) (before : Bank) (old : List ℕ) (step : Outcome BankTurn) (made : ReplicaCall) : Type 0 where
   pub leaves : made .bank ≡ nextBank before step
-  pub gives : givenByReplica made ≡ given register old (bankAnswer step)
+  pub gives : made .gives ≡ given register old (bankAnswer step)
 
 pub record ClientSays (before : Client) (old : List ℕ) (step : Outcome Turn) (made : ClientCall) : Type 0 where
   pub leaves : made .client ≡ nextClient before step
@@ -84,9 +85,14 @@ pub record ClientSays (before : Client) (old : List ℕ) (step : Outcome Turn) (
   pub gives : (register : RegisterId) → ((turn : Turn) → step ≡ accepted turn → turn .next .register ≡ register) → givenByClient made ≡ given register old (clientAnswer step)
 
 replica-says : (at : ℕ) (register : RegisterId) (before : Bank) (old : List ℕ) (step : Outcome Reply)
-    → ReplicaSays register before old (bankTurn at before step) (putBack at before (registerAnswers register (bankPart at before) old step))
+    → ReplicaSays register before old (bankTurn at before step) (afterRequest (putBack at before (registerAnswers register (bankPart at before) old step)))
 replica-says at register before old (accepted reply) = record { leaves = refl; gives = refl }
 replica-says at register before old (refused number) = record { leaves = part-itself before at; gives = refl }
+
+order-says : (register : RegisterId) (before : Bank) (old : List ℕ) (step : Outcome Bank)
+    → ReplicaSays register before old (orderTurn step) (afterOrder old (orderAnswers before step))
+order-says register before old (accepted next) = record { leaves = refl; gives = refl }
+order-says register before old (refused number) = record { leaves = refl; gives = refl }
 
 client-says : (before : Client) (old : List ℕ) (step : Outcome Turn) → ClientSays before old step (clientAnswers before old step)
 client-says before old (accepted turn) = record { leaves = refl; gives = λ register is. ap (λ (r : RegisterId). given r old (accepted (turn .answer))) (is turn refl) }
@@ -94,11 +100,12 @@ client-says before old (refused number) = record { leaves = refl; gives = λ reg
 
 module _ (old : List ℕ) (long : longest ≤ length old) where
   pub replica-called : (e : ReplicaEvent) (before : Bank) → ReplicaSays (replicaEventRegister e) before old (onReplicaEvent e before) (replicaEventCall e old before)
-  unfolding bankCall bankStep
+  unfolding bankCall bankStep orderCall
   replica-called (request-handed bytes verdicts) before =
       let part = bankPart (placeIn bytes) before in
-      subst (λ (made : RegisterCall). ReplicaSays (registerIn bytes) before old (bankTurn (placeIn bytes) before (registerStep part bytes verdicts)) (putBack (placeIn bytes) before made))
+      subst (λ (made : RegisterCall). ReplicaSays (registerIn bytes) before old (bankTurn (placeIn bytes) before (registerStep part bytes verdicts)) (afterRequest (putBack (placeIn bytes) before made)))
       (sym (register-takes part bytes verdicts old long)) (replica-says (placeIn bytes) (registerIn bytes) before old (registerStep part bytes verdicts))
+  replica-called (order-handed order) before = order-says (replicaEventRegister (order-handed order)) before old (takeOrder before order)
 
   pub client-called : (id : ClientId) (e : ClientEvent) (before : Client) → ClientSays before old (onClientEvent id e before) (clientEventCall id e old before)
   client-called id e before = rw (client-event-takes before old long id e) (client-says before old (onClientEvent id e before))

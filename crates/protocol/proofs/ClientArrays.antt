@@ -1,14 +1,13 @@
--- Digests, counted signatures and the proofs built of them, as a client keeps them. Assumes nothing.
+-- Counted signatures and the proofs built of them, as a client keeps them. Assumes nothing.
 use mathlib.Core.Path.{_≡_, refl, _∙_}
 use mathlib.Core.Bool.{Bool, true, false, cond}
 use mathlib.Core.List.{List, [], _∷_, _++_}
 use mathlib.Core.Option.{Option, none, some}
-use Prim.Native.Nat.{ℕ, zero, suc, _+_, _-_, _*_, _/_, _^_, _≤_, _<_}
+use Prim.Native.Nat.{ℕ, zero, suc, _+_, _-_, _*_, _^_, _≤_, _<_}
 use native.Mathlib.Omega.{arith}
 use borrow.Author.Tests.{eqb-false, ltb-true, ltb-false}
 use lib.Dec.{eqb}
-use lib.ListN.{length, getD, take, drop, length-append, length-take, length-drop}
-use Rattle.base.specs.BigEndian.{toBytes, Bytes}
+use lib.ListN.{length, take, drop, length-take, length-drop}
 use Rattle.base.specs.Counting.{replica}
 use Rattle.base.specs.ReplicaSet.{has}
 use Rattle.base.specs.Timestamp.{number, successor}
@@ -17,32 +16,13 @@ use Rattle.base.specs.declared.party.ReplicaId.{ReplicaId}
 use Rattle.base.specs.declared.replica_set.ReplicaSet.{ReplicaSet}
 use Rattle.base.specs.declared.timestamp.Timestamp.{Timestamp}
 use Rattle.base.proofs.Apart.{apart}
-use Rattle.base.proofs.BigEndian.{length-toBytes, bytes-toBytes, bytes-append, bytes-take, bytes-drop}
-use Rattle.wire.specs.Message.{IsDigest, IsSignature, EachFits, ProofFits, IfThere}
+use Rattle.base.proofs.BigEndian.{bytes-take, bytes-drop}
+use Rattle.wire.specs.Message.{IsSignature, EachFits, ProofFits, IfThere}
 use Rattle.wire.specs.Proof.{Entry, PreparedProof}
-use Rattle.wire.specs.Sha256.{hashValue, hashBytes, padded, sha256}
 use Rattle.wire.specs.Parts.{preparedTimestamp}
 use Rattle.protocol.specs.Client.{gathered, signatureAt, withSignature, isBetter, bestOf}
-use Rattle.protocol.proofs.ArrayLaws.{bytes-none, replaced-length, replaced-bytes}
+use Rattle.protocol.proofs.ArrayLaws.{replaced-length, replaced-bytes}
 use Rattle.protocol.proofs.Fit.{Array, TimestampFits}
-
--- ---- Digests
-
-hash-length : (hash : List ℕ) (n : ℕ) → length (hashBytes hash n) ≡ 4 * n
-unfolding hashBytes
-hash-length hash zero = refl
-hash-length hash (suc n) = rw (length-append, length-toBytes, hash-length hash n) (omega arith)
-
-hash-bytes : (hash : List ℕ) (n : ℕ) → Bytes (hashBytes hash n)
-unfolding hashBytes
-hash-bytes hash zero = bytes-none
-hash-bytes hash (suc n) = bytes-append (hashBytes hash n) (toBytes 4 (getD hash n 0)) (hash-bytes hash n) (bytes-toBytes 4 (getD hash n 0))
-
-pub digest-fits : (message : List ℕ) → IsDigest (sha256 message)
-unfolding sha256
-digest-fits message =
-    let hash = hashValue (padded message) (length (padded message) / 64) in
-    (hash-length hash 8, hash-bytes hash 8)
 
 -- ---- Signatures
 

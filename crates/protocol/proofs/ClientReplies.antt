@@ -35,11 +35,12 @@ use Rattle.protocol.proofs.Accepts.{Accepts, by-value, by-refusal, by-g
 use Rattle.protocol.proofs.ArrayLaws.{bytes-none, zeros-fit, card-in-bytes, card-in-short, entries-in-length, entries-in-fit, issued-there, issued-timestamp, issued-size}
 use Rattle.protocol.proofs.Built.{built as built-shape}
 use Rattle.wire.proofs.card.Digests.{standing-under-short}
-use Rattle.protocol.proofs.ClientArrays.{digest-fits, signature-put, built-fit, built-few, number-fits, best-fits, successor-fits}
+use Rattle.protocol.proofs.ClientArrays.{signature-put, built-fit, built-few, number-fits, best-fits, successor-fits}
 use Rattle.protocol.proofs.ClientCases.{Leaves, SameCard, NewFrom, betterCard, ClientCase, stamp-counted, stamps-enough, stamps-ended, prepared-counted, prepareds-enough, written-counted, writtens-enough, card-counted, cards-agree, cards-viewed, cards-differ, back-counted, back-enough, LegalAnswer, PhaseFits, Follows, as-read, as-view, ClientFacts}
 use Rattle.protocol.proofs.ClientKept.{Kept, itself-kept, phase-kept, digest-changed, signatures-changed, signers-changed, written-changed, Best, better-kept, better-card-kept}
 use Rattle.protocol.proofs.Fit.{Array, TimestampFits, WrittenKeptFits, ClientFits, LegalMessage}
 use Rattle.wire.proofs.Tests7To11.{Passed}
+use Rattle.wire.proofs.DigestBytes.{digest-fits}
 
 -- ---- Messages that a client sends
 

@@ -8,6 +8,7 @@ use native.Mathlib.Omega.{arith}
 use borrow.Author.Tests.{eq-eqb, ne-eqb, le-leb, lt-ltb, le-ltb}
 use lib.Dec.{leb}
 use Rattle.base.specs.BigEndian.{fromBytes}
+use Rattle.base.specs.ClientSet.{has}
 use Rattle.base.specs.Outcome.{Outcome, accepted, refused, guard, _>>=_}
 use Rattle.base.specs.Party.{isRegister}
 use Rattle.base.specs.Range.{within}
@@ -64,10 +65,10 @@ write-tested replica register verdicts client card proof passed stands = rw (pas
 
 -- ---- The slot 1.2 of client 2
 
-first-passed : (replica : RegisterReplica) (register : RegisterId) (digest : List ℕ) → isRegister register ≡ true → Passes replica register oneGenuine (first digest)
+first-passed : (replica : RegisterReplica) (register : RegisterId) (digest : List ℕ) → isRegister register ≡ true → has (replica .withdrawn) two ≡ false → Passes replica register oneGenuine (first digest)
 unfolding oneEach all entriesOf within
-first-passed replica register digest registered =
-    passed-admits (replica .f) oneGenuine register (first digest) refl refl registered
+first-passed replica register digest registered served =
+    passed-admits (replica .f) (replica .withdrawn) oneGenuine register (first digest) refl refl registered (rw served)
     (record {
       one-each = refl;
       own = refl;
@@ -79,17 +80,17 @@ first-passed replica register digest registered =
       written-issued = refl;
     })
 
-first-answered : (replica : RegisterReplica) (register : RegisterId) (digest : List ℕ) (after : Outcome Slots) → isRegister register ≡ true → afterPrepare two 1·2 digest none (replica .register .slots) ≡ after
+first-answered : (replica : RegisterReplica) (register : RegisterId) (digest : List ℕ) (after : Outcome Slots) → isRegister register ≡ true → has (replica .withdrawn) two ≡ false → afterPrepare two 1·2 digest none (replica .register .slots) ≡ after
     → handed replica register oneGenuine (first digest) ≡ (after >>= λ slots. answering (PREPARED (replica .id) 1·2 digest) (withSlots replica slots))
 unfolding within
-first-answered replica register digest after registered e = prepare-tested replica register oneGenuine two 1·2 digest none none after (first-passed replica register digest registered) refl refl e
+first-answered replica register digest after registered served e = prepare-tested replica register oneGenuine two 1·2 digest none none after (first-passed replica register digest registered served) refl refl e
 
-module _ (replica : RegisterReplica) (register : RegisterId) (registered : isRegister register ≡ true) (a : List ℕ) (holds : SlotHolds (replica .register .slots) a) where
+module _ (replica : RegisterReplica) (register : RegisterId) (registered : isRegister register ≡ true) (served : has (replica .withdrawn) two ≡ false) (a : List ℕ) (holds : SlotHolds (replica .register .slots) a) where
   again : WrittenClientFits replica → handed replica register oneGenuine (first a) ≡ answering (PREPARED (replica .id) 1·2 a) replica
   again fits =
       let old = replica .register .slots in
       let is : slotIs two 1·2 a old ≡ true = rw (eq-eqb (slotTimestamp old two) 1·2 (holds .timestamp), holds .digest-is) (same-itself a) in
-      first-answered replica register a (accepted (withWritten (number (old .written)) old)) registered (prepare-again two 1·2 a none old is)
+      first-answered replica register a (accepted (withWritten (number (old .written)) old)) registered served (prepare-again two 1·2 a none old is)
       ∙ ap (λ (written : Timestamp). answering (PREPARED (replica .id) 1·2 a) (withSlots replica (written-at written)))
       (ofNumber-number (old .written) fits)
     where
@@ -103,7 +104,7 @@ module _ (replica : RegisterReplica) (register : RegisterId) (registered : isReg
       let is : slotIs two 1·2 b old ≡ false = rw (eq-eqb (slotTimestamp old two) 1·2 stands, holds .digest-is) (same-differ a b apart) in
       let takes : slotTakes two 1·2 (number (old .written)) old ≡ false =
       rw (ne-eqb (slotCount old two) 0 (omega arith), le-ltb (slotTimestamp old two) 1·2 (omega arith)) (and-false (leb (slotTimestamp old two) (number (old .written)))) in
-      first-answered replica register b (refused 15) registered (prepare-refused two 1·2 b none old is takes)
+      first-answered replica register b (refused 15) registered served (prepare-refused two 1·2 b none old is takes)
 
   next-taken : Closed (replica .register .slots) → (digest : List ℕ) (proof : PreparedProof) (last : Option WrittenProof) (verdicts : List ℕ) → proof .timestamp / 256 ≡ 1
       → Passes replica register verdicts (PREPARE two 2·2 digest (some proof) last) → isOwn two last ≡ true
@@ -137,8 +138,8 @@ examples =
       F = refl;
       G = refl;
       H = (refl, refl);
-      I = λ replica register a b registered apart fits holds is-open. (again replica register registered a holds fits, other-refused replica register registered a holds b apart);
-      J = λ replica register a b registered apart holds closed. (next-taken replica register registered a holds closed, other-refused replica register registered a holds b apart);
+      I = λ replica register a b registered served apart fits holds is-open. (again replica register registered served a holds fits, other-refused replica register registered served a holds b apart);
+      J = λ replica register a b registered served apart holds closed. (next-taken replica register registered served a holds closed, other-refused replica register registered served a holds b apart);
       K = λ replica register client card proof verdicts passed stands held.
           write-tested replica register verdicts client card proof passed stands
           ∙ ap (λ (held : Held). answering (WRITTEN (replica .id) (proof .timestamp)) (withHeld replica held)) (held-kept card proof (replica .register .held) held);

@@ -14,5 +14,6 @@ pub mod FreshRecords
 pub mod LastWritten
 pub mod MessageBytes
 pub mod OperationMessages
+pub mod OrderFacts
 pub mod RegisterFacts
 pub mod Towards

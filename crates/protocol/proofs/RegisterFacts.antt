@@ -61,6 +61,7 @@ SignersHeld held = held .signers ≡ preparedSigners (heldProof held)
 pub record RegisterFacts (before : RegisterReplica) (verdicts : List ℕ) (message : Message) (reply : Reply) : Type 0 where
   pub same-f : reply .next .f ≡ before .f
   pub same-id : reply .next .id ≡ before .id
+  pub same-withdrawn : reply .next .withdrawn ≡ before .withdrawn
   pub fits : RegisterReplicaFits (reply .next)
   pub legal : LegalMessage (reply .message)
   pub passed : Passed (before .f) message verdicts
@@ -142,6 +143,7 @@ stamp-facts before verdicts client nonce fits message-fits passed =
     by-value (record {
       same-f = refl;
       same-id = refl;
+      same-withdrawn = refl;
       fits = fits;
       legal = stamp-legal before fits nonce client (message-fits .1) (message-fits .0);
       passed = passed;
@@ -165,6 +167,7 @@ card-facts before verdicts client nonce fits message-fits passed =
     by-value (record {
       same-f = refl;
       same-id = refl;
+      same-withdrawn = refl;
       fits = fits;
       legal = card-legal before fits nonce client (message-fits .1) (message-fits .0);
       passed = passed;
@@ -200,6 +203,7 @@ module _ (before : RegisterReplica) (verdicts : List ℕ) (client : ClientId) (c
       record {
         same-f = refl;
         same-id = refl;
+        same-withdrawn = refl;
         fits = record { id-fits = fits .id-fits; slots-fit = fits .slots-fit; held-fits = stored .fits };
         legal = written-legal (before .id) (proof .timestamp) (fits .id-fits) (message-fits .2 .0);
         passed = passed;
@@ -391,6 +395,7 @@ module _ (before : RegisterReplica) (verdicts : List ℕ) (client : ClientId) (t
       record {
         same-f = refl;
         same-id = refl;
+        same-withdrawn = refl;
         fits = record { id-fits = fits .id-fits; slots-fit = after-fits; held-fits = fits .held-fits };
         legal = prepared-legal (before .id) timestamp digest (fits .id-fits) (message-fits .1) (message-fits .2);
         passed = passed;

@@ -5,6 +5,7 @@ use mathlib.Core.List.{List}
 use Prim.Native.Nat.{ℕ}
 use borrow.Author.Tests.{eqb-true}
 use lib.Dec.{eqb}
+use Rattle.base.specs.ClientSet.{nobody}
 use Rattle.base.specs.Outcome.{accepted}
 use Rattle.base.specs.declared.party.RegisterId.{RegisterId}
 use Rattle.wire.specs.Layout.{signature}
@@ -54,17 +55,17 @@ module _ (client : Client) where
 
   -- A message that a client takes was let through for its register, and taken in its phase.
   pub client-takes : (bytes verdicts : List ℕ) (turn : Turn) → clientStep client bytes verdicts ≡ accepted turn
-      → (message : Message) × Admitted AtClient (client .f) bytes verdicts (client .register) message × (onReply client (signature bytes) message ≡ accepted turn)
+      → (message : Message) × Admitted AtClient (client .f) nobody bytes verdicts (client .register) message × (onReply client (signature bytes) message ≡ accepted turn)
   unfolding clientStep
   client-takes bytes verdicts turn e =
-      let (register, message, passed, taken) = admitted-then AtClient (client .f) bytes verdicts (λ sent. onReply (towards (sent .0) client) (signature bytes) (sent .1)) turn e in
+      let (register, message, passed, taken) = admitted-then AtClient (client .f) nobody bytes verdicts (λ sent. onReply (towards (sent .0) client) (signature bytes) (sent .1)) turn e in
       let (is, by) = awaited-for register (λ now. onReply now (signature bytes) message ≡ accepted turn) (idle-takes-none (signature bytes) message .holds turn) taken in
-      (message, subst (λ (x : RegisterId). Admitted AtClient (client .f) bytes verdicts x message) is passed, by)
+      (message, subst (λ (x : RegisterId). Admitted AtClient (client .f) nobody bytes verdicts x message) is passed, by)
 
   pub viewer-takes : (bytes verdicts : List ℕ) (turn : Turn) → viewerStep client bytes verdicts ≡ accepted turn
-      → (message : Message) × Admitted AtClient (client .f) bytes verdicts (client .register) message × (onViewerReply client message ≡ accepted turn)
+      → (message : Message) × Admitted AtClient (client .f) nobody bytes verdicts (client .register) message × (onViewerReply client message ≡ accepted turn)
   unfolding viewerStep
   viewer-takes bytes verdicts turn e =
-      let (register, message, passed, taken) = admitted-then AtClient (client .f) bytes verdicts (λ sent. onViewerReply (towards (sent .0) client) (sent .1)) turn e in
+      let (register, message, passed, taken) = admitted-then AtClient (client .f) nobody bytes verdicts (λ sent. onViewerReply (towards (sent .0) client) (sent .1)) turn e in
       let (is, by) = awaited-for register (λ now. onViewerReply now message ≡ accepted turn) (idle-views-none message .holds turn) taken in
-      (message, subst (λ (x : RegisterId). Admitted AtClient (client .f) bytes verdicts x message) is passed, by)
+      (message, subst (λ (x : RegisterId). Admitted AtClient (client .f) nobody bytes verdicts x message) is passed, by)

@@ -3,11 +3,13 @@
 use mathlib.Core.List.{List, []}
 use Prim.Native.Nat.{ℕ}
 use lib.ListN.{getD, set, replicate}
-use Rattle.base.specs.Outcome.{Outcome, accepted, refused}
+use Rattle.base.specs.ClientSet.{nobody}
+use Rattle.base.specs.Outcome.{Outcome, accepted, refused, guard, _>>=_}
 use Rattle.base.specs.Party.{registerPlace, replicaSetup}
 use Rattle.base.specs.ReplicaSet.{empty}
 use Rattle.base.specs.Timestamp.{start}
 use Rattle.base.specs.declared.party.ReplicaId.{ReplicaId}
+use Rattle.lms.specs.Lms.{isPublicKey}
 use Rattle.wire.specs.Decode.{registerIn}
 use Rattle.protocol.specs.RegisterReplica.{Reply, freshRegister, registerStep, RegisterCall, registerCall}
 use Rattle.protocol.specs.declared.replica.Bank.{Bank}
@@ -25,26 +27,29 @@ noRegister =
 
 -- One register's part of a bank, by its place, and the bank with another part there.
 abbrev pub bankPart : ℕ → Bank → RegisterReplica
-bankPart at bank = record { f = bank .f; id = bank .id; register = getD (bank .registers) at noRegister }
+bankPart at bank = record { f = bank .f; id = bank .id; register = getD (bank .registers) at noRegister; withdrawn = bank .withdrawn }
 
 abbrev pub withBankPart : ℕ → RegisterReplica → Bank → Bank
-withBankPart at part bank = record { f = bank .f; id = bank .id; registers = set (bank .registers) at (part .register) }
+withBankPart at part bank = record { f = bank .f; id = bank .id; registers = set (bank .registers) at (part .register); withdrawn = bank .withdrawn; key = bank .key }
 
--- Sixteen fresh registers.
-abbrev pub freshBank : ℕ → ReplicaId → Bank
-freshBank f id = record { f = f; id = id; registers = replicate 16 freshRegister }
+-- Sixteen fresh registers, nobody withdrawn, and the office's key.
+abbrev pub freshBank : ℕ → ReplicaId → List ℕ → Bank
+freshBank f id key = record { f = f; id = id; registers = replicate 16 freshRegister; withdrawn = nobody; key = key }
 
 -- Where setting up is refused there is no replica: this record stands in its place.
 abbrev pub noBank : Bank
-noBank = freshBank 0 (record { 0 = 0 })
+noBank = freshBank 0 (record { 0 = 0 }) (replicate 56 0)
 
 abbrev pub bankIfSetUp : Outcome (Unit {0}) → Bank → Bank
 bankIfSetUp (accepted done) bank = bank
 bankIfSetUp (refused number) bank = noBank
 
--- 16: "A party is set up with f, number or first nonce (0) out of range."
-unfoldable pub madeBank : ℕ → ReplicaId → Bank
-madeBank f id = bankIfSetUp (replicaSetup f id) (freshBank f id)
+-- 16: "A party is set up with f, number or first nonce (0) out of range", or with a key of "another length or other type codes" (#105).
+abbrev pub bankSetup : ℕ → ReplicaId → List ℕ → Outcome (Unit {0})
+bankSetup f id key = replicaSetup f id >>= λ ready. guard 16 (isPublicKey key) (accepted tt)
+
+unfoldable pub madeBank : ℕ → ReplicaId → List ℕ → Bank
+madeBank f id key = bankIfSetUp (bankSetup f id key) (freshBank f id key)
 
 -- Where the register stands that a message is for. A message for none is judged at place 0, and refused there by a test that looks at no
 -- register: 20, or one before it.

@@ -5,6 +5,7 @@ use mathlib.Core.Option.{Option, none, some}
 use Prim.Native.Nat.{ℕ, zero, suc, _+_, _-_, _*_, _^_}
 use lib.Dec.{eqb, ltb}
 use lib.ListN.{length, getD, take, drop, set, replicate}
+use Rattle.base.specs.ClientSet.{nobody}
 use Rattle.base.specs.Counting.{replica}
 use Rattle.base.specs.Bytes.{filled}
 use Rattle.base.specs.Outcome.{Outcome, accepted, refused, guard, _>>=_}
@@ -383,7 +384,7 @@ towards register client = cond (eqb (register .0) (client .register .0)) client 
 
 -- A client is handed bytes with verdicts.
 unfoldable pub clientStep : Client → List ℕ → List ℕ → Outcome Turn
-clientStep client bytes verdicts = admitted AtClient (client .f) bytes verdicts >>= λ sent. onReply (towards (sent .0) client) (signature bytes) (sent .1)
+clientStep client bytes verdicts = admitted AtClient (client .f) nobody bytes verdicts >>= λ sent. onReply (towards (sent .0) client) (signature bytes) (sent .1)
 
 -- ---- The calls
 

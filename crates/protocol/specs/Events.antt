@@ -7,32 +7,38 @@ use Rattle.base.specs.Outcome.{Outcome, accepted, refused}
 use Rattle.base.specs.Party.{isWriter}
 use Rattle.base.specs.declared.party.ClientId.{ClientId}
 use Rattle.base.specs.declared.party.RegisterId.{RegisterId}
+use Rattle.base.specs.declared.taking.Taking.{Taking}
+use Rattle.base.specs.declared.taking.Taking.the-variants.{Taken, Refused as OrderRefused}
 use Rattle.wire.specs.Decode.{registerIn}
 use Rattle.protocol.specs.Bank.{withBankPart, placeIn, bankStep, BankCall, bankCall}
-use Rattle.protocol.specs.Client.{Answer, send, Turn, madeClient, beginWrite, beginRead, clientStep, Given, giving, ClientCall, beginWriteCall, beginReadCall, clientCall}
+use Rattle.protocol.specs.Client.{Answer, send, waits, Turn, madeClient, beginWrite, beginRead, clientStep, Given, giving, ClientCall, beginWriteCall, beginReadCall, clientCall}
+use Rattle.protocol.specs.Order.{takeOrder, OrderCall, orderCall}
 use Rattle.protocol.specs.RegisterReplica.{Reply}
 use Rattle.protocol.specs.Viewer.{madeViewer, viewerStep, viewerCall}
 use Rattle.protocol.specs.declared.client.Client.{Client}
 use Rattle.protocol.specs.declared.client.ClientAnswer.{ClientAnswer}
-use Rattle.protocol.specs.declared.client.ClientAnswer.the-variants.{Send, Refused}
+use Rattle.protocol.specs.declared.client.ClientAnswer.the-variants.{Send, Counted, Refused}
 use Rattle.protocol.specs.declared.replica.Bank.{Bank}
 use Rattle.protocol.specs.declared.replica.ReplicaAnswer.{ReplicaAnswer}
 use Rattle.protocol.specs.declared.replica.ReplicaAnswer.the-variants.{Send as ReplicaSend, Refused as ReplicaRefused}
 
 -- "a holder or a desk is handed a message, of any bytes and length, with marks of any number and value": the bytes, and the verdicts. At a
--- replica it is a request,
+-- replica it is a request. Document 02, #105: "handing a holder an order is an event too, refused or not".
 pub data ReplicaEvent : Type 0 where
   request-handed : List ℕ → List ℕ → ReplicaEvent
+  order-handed : List ℕ → ReplicaEvent
 
--- at a client a reply; "a desk begins a write of some card or begins a read". Document 02, #103: "A desk names its set at each beginning".
+-- At a client it is a reply; "a desk begins a write of some card or begins a read". Document 02, #103: "A desk names its set at each beginning".
 pub data ClientEvent : Type 0 where
   write-begun : RegisterId → List ℕ → ClientEvent
   read-begun : RegisterId → ClientEvent
   reply-handed : List ℕ → List ℕ → ClientEvent
 
--- The register of an event, and of what is answered to it: the one that is named, or that the message is for.
+-- The register of an event, and of what is answered to it: the one that is named, or that the message is for. An order is for all of them,
+-- and nothing is sent for it: 0 is no register's number.
 abbrev pub replicaEventRegister : ReplicaEvent → RegisterId
 replicaEventRegister (request-handed bytes verdicts) = registerIn bytes
+replicaEventRegister (order-handed order) = record { 0 = 0 }
 
 abbrev pub clientEventRegister : ClientEvent → RegisterId
 clientEventRegister (write-begun x card) = x
@@ -51,12 +57,15 @@ abbrev pub bankTurn : ℕ → Bank → Outcome Reply → Outcome BankTurn
 bankTurn at before (accepted reply) = accepted (record { answer = send (reply .message); next = withBankPart at (reply .next) before })
 bankTurn at before (refused number) = refused number
 
--- The step of an event, and its call.
+-- An order that is taken answers as what is counted does: nothing is to send.
+abbrev pub orderTurn : Outcome Bank → Outcome BankTurn
+orderTurn (accepted next) = accepted (record { answer = waits; next = next })
+orderTurn (refused number) = refused number
+
+-- The step of an event.
 abbrev pub onReplicaEvent : ReplicaEvent → Bank → Outcome BankTurn
 onReplicaEvent (request-handed bytes verdicts) before = bankTurn (placeIn bytes) before (bankStep before bytes verdicts)
-
-abbrev pub replicaEventCall : ReplicaEvent → List ℕ → Bank → BankCall
-replicaEventCall (request-handed bytes verdicts) old before = bankCall before bytes verdicts old
+onReplicaEvent (order-handed order) before = orderTurn (takeOrder before order)
 
 -- The record that a step leaves, "a refusal leaves it as it was", and its answer alone.
 abbrev pub nextBank : Bank → Outcome BankTurn → Bank
@@ -67,13 +76,30 @@ abbrev pub bankAnswer : Outcome BankTurn → Outcome Answer
 bankAnswer (accepted turn) = accepted (turn .answer)
 bankAnswer (refused number) = refused number
 
--- A replica's answer is one of those of a client, and no card stands beside it.
+-- What a replica answers to a request is one of the answers of a client, and so is what it answers to an order.
 abbrev pub asClientAnswer : ReplicaAnswer → ClientAnswer
 asClientAnswer (ReplicaSend size) = Send size
 asClientAnswer (ReplicaRefused number) = Refused number
 
-abbrev pub givenByReplica : BankCall → Given
-givenByReplica call = giving (asClientAnswer (call .answer)) [] (call .output)
+abbrev pub takingAnswer : Taking → ClientAnswer
+takingAnswer Taken = Counted
+takingAnswer (OrderRefused number) = Refused number
+
+-- What an event's call leaves: what it gives, with no card beside it, and the bank. "No output is lent with an order": one that there was
+-- stays as it was.
+pub record ReplicaCall : Type 0 where
+  pub gives : Given
+  pub bank : Bank
+
+abbrev pub afterRequest : BankCall → ReplicaCall
+afterRequest call = record { gives = giving (asClientAnswer (call .answer)) [] (call .output); bank = call .bank }
+
+abbrev pub afterOrder : List ℕ → OrderCall → ReplicaCall
+afterOrder old call = record { gives = giving (takingAnswer (call .answer)) [] old; bank = call .bank }
+
+abbrev pub replicaEventCall : ReplicaEvent → List ℕ → Bank → ReplicaCall
+replicaEventCall (request-handed bytes verdicts) old before = afterRequest (bankCall before bytes verdicts old)
+replicaEventCall (order-handed order) old before = afterOrder old (orderCall before order)
 
 -- ---- A client
 

@@ -4,6 +4,7 @@ use mathlib.Core.Bool.{true, false}
 use mathlib.Core.List.{List, [], _∷_}
 use mathlib.Core.Option.{Option, none, some}
 use Prim.Native.Nat.{ℕ, _/_, _≤_, _<_}
+use Rattle.base.specs.ClientSet.{has}
 use Rattle.base.specs.Outcome.{Outcome, accepted, refused, _>>=_}
 use Rattle.base.specs.Party.{replicaCount, quorumSize, isRegister}
 use Rattle.base.specs.Timestamp.{number, successor}
@@ -54,11 +55,11 @@ oneGenuine = 1 ∷ []
 
 -- A replica is handed a message for a register: 6 to 11, and what follows.
 abbrev pub handed : RegisterReplica → RegisterId → List ℕ → Message → Outcome Reply
-handed replica register verdicts message = admits (replica .f) verdicts (forRegister register message) >>= λ sent. onRequest replica (sent .1)
+handed replica register verdicts message = admits (replica .f) (replica .withdrawn) verdicts (forRegister register message) >>= λ sent. onRequest replica (sent .1)
 
 -- A message that passes 6 to 11.
 abbrev pub Passes : RegisterReplica → RegisterId → List ℕ → Message → Type 0
-Passes replica register verdicts message = admits (replica .f) verdicts (forRegister register message) ≡ accepted (forRegister register message)
+Passes replica register verdicts message = admits (replica .f) (replica .withdrawn) verdicts (forRegister register message) ≡ accepted (forRegister register message)
 
 -- The written timestamp's client is a byte, as it is in the record of the code.
 abbrev pub WrittenClientFits : RegisterReplica → Type 0
@@ -81,13 +82,13 @@ pub record Examples : Type 0 where
   pub G : isCard (0x00 ∷ 0x01 ∷ 0x1C ∷ 0x20 ∷ []) ≡ false
   -- "`00 20 04` good, `00 20 05` bad."
   pub H : (isCard (0x00 ∷ 0x20 ∷ 0x04 ∷ []) ≡ true) × (isCard (0x00 ∷ 0x20 ∷ 0x05 ∷ []) ≡ false)
-  -- I to K hold of each of the sixteen registers (document 02, #103).
+  -- I to K hold of each of the sixteen registers (document 02, #103), where client 2 is not withdrawn (#105).
   -- "line 1.2 open with digest a: 1.2 a PREPARED, 1.2 b refused 15."
-  pub I : (replica : RegisterReplica) (register : RegisterId) (a b : List ℕ) → isRegister register ≡ true → (a ≡ b → ⊥) → WrittenClientFits replica
+  pub I : (replica : RegisterReplica) (register : RegisterId) (a b : List ℕ) → isRegister register ≡ true → has (replica .withdrawn) two ≡ false → (a ≡ b → ⊥) → WrittenClientFits replica
       → SlotHolds (replica .register .slots) a → Open (replica .register .slots)
       → (handed replica register oneGenuine (first a) ≡ answering (PREPARED (replica .id) 1·2 a) replica) × (handed replica register oneGenuine (first b) ≡ refused 15)
   -- "the same line closed: 2.2 taken, 1.2 b still 15." 2.2 comes with a prepared proof of a timestamp of count 1, which passed 6 to 12.
-  pub J : (replica : RegisterReplica) (register : RegisterId) (a b : List ℕ) → isRegister register ≡ true → (a ≡ b → ⊥) → SlotHolds (replica .register .slots) a → Closed (replica .register .slots)
+  pub J : (replica : RegisterReplica) (register : RegisterId) (a b : List ℕ) → isRegister register ≡ true → has (replica .withdrawn) two ≡ false → (a ≡ b → ⊥) → SlotHolds (replica .register .slots) a → Closed (replica .register .slots)
       → ((digest : List ℕ) (proof : PreparedProof) (last : Option WrittenProof) (verdicts : List ℕ) → proof .timestamp / 256 ≡ 1
       → Passes replica register verdicts (PREPARE two 2·2 digest (some proof) last) → isOwn two last ≡ true
       → handed replica register verdicts (PREPARE two 2·2 digest (some proof) last)

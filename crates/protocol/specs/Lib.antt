@@ -3,6 +3,7 @@ pub mod Client
 pub mod Events
 pub mod Examples
 pub mod OperationMessages
+pub mod Order
 pub mod Parts
 pub mod RegisterReplica
 pub mod Viewer

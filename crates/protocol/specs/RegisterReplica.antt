@@ -6,6 +6,7 @@ use Prim.Native.Nat.{ℕ, _+_, _-_, _*_, _/_, max}
 use lib.Dec.{eqb, leb, ltb}
 use lib.ListN.{length, getD, take, drop, set, replicate}
 use Rattle.base.specs.Bytes.{filled}
+use Rattle.base.specs.ClientSet.{nobody}
 use Rattle.base.specs.Outcome.{Outcome, accepted, refused, guard, _>>=_}
 use Rattle.base.specs.ReplicaSet.{empty}
 use Rattle.base.specs.Same.{same}
@@ -71,7 +72,7 @@ freshRegister =
     }
 
 abbrev pub freshRegisterReplica : ℕ → ReplicaId → RegisterReplica
-freshRegisterReplica f id = record { f = f; id = id; register = freshRegister }
+freshRegisterReplica f id = record { f = f; id = id; register = freshRegister; withdrawn = nobody }
 
 -- The record of no replica.
 abbrev pub noRegisterReplica : RegisterReplica
@@ -147,10 +148,10 @@ pub record Reply : Type 0 where
   pub next : RegisterReplica
 
 abbrev pub withSlots : RegisterReplica → Slots → RegisterReplica
-withSlots replica slots = record { f = replica .f; id = replica .id; register = record { slots = slots; held = replica .register .held } }
+withSlots replica slots = record { f = replica .f; id = replica .id; register = record { slots = slots; held = replica .register .held }; withdrawn = replica .withdrawn }
 
 abbrev pub withHeld : RegisterReplica → Held → RegisterReplica
-withHeld replica held = record { f = replica .f; id = replica .id; register = record { slots = replica .register .slots; held = held } }
+withHeld replica held = record { f = replica .f; id = replica .id; register = record { slots = replica .register .slots; held = held }; withdrawn = replica .withdrawn }
 
 abbrev pub answering : Message → RegisterReplica → Outcome Reply
 answering message next = accepted (record { message = message; next = next })
@@ -189,7 +190,7 @@ onRequest replica (CARD sender nonce card proof client) = refused 5
 
 -- A replica is handed bytes with verdicts.
 unfoldable pub registerStep : RegisterReplica → List ℕ → List ℕ → Outcome Reply
-registerStep replica bytes verdicts = admitted AtReplica (replica .f) bytes verdicts >>= λ sent. onRequest replica (sent .1)
+registerStep replica bytes verdicts = admitted AtReplica (replica .f) (replica .withdrawn) bytes verdicts >>= λ sent. onRequest replica (sent .1)
 
 -- ---- The call
 

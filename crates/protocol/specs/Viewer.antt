@@ -2,6 +2,7 @@
 -- write-back". Its record is a client's, and a view begins as a read does (`beginRead`).
 use mathlib.Core.List.{List}
 use Prim.Native.Nat.{ℕ}
+use Rattle.base.specs.ClientSet.{nobody}
 use Rattle.base.specs.Outcome.{Outcome, refused, guard, _>>=_}
 use Rattle.base.specs.Party.{viewerSetup}
 use Rattle.base.specs.declared.party.ClientId.{ClientId}
@@ -37,7 +38,7 @@ onViewerReply client (READ sender nonce) = refused 5
 
 -- A viewing client is handed bytes with verdicts.
 unfoldable pub viewerStep : Client → List ℕ → List ℕ → Outcome Turn
-viewerStep client bytes verdicts = admitted AtClient (client .f) bytes verdicts >>= λ sent. onViewerReply (towards (sent .0) client) (sent .1)
+viewerStep client bytes verdicts = admitted AtClient (client .f) nobody bytes verdicts >>= λ sent. onViewerReply (towards (sent .0) client) (sent .1)
 
 unfoldable pub viewerCall : Client → List ℕ → List ℕ → List ℕ → ClientCall
 viewerCall client bytes verdicts old = clientAnswers client old (withOutput old (viewerStep client bytes verdicts))

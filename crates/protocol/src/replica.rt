@@ -1,8 +1,10 @@
 // A replica's record (document 01: a holder's): one register's part, and above it the bank of sixteen.
+use base::client_set::ClientSet;
 use base::party::REGISTERS;
 use base::party::ReplicaId;
 use base::replica_set::ReplicaSet;
 use base::timestamp::Timestamp;
+use lms::layout::KEY;
 use wire::layout::CARD_ROOM;
 use wire::layout::DIGEST;
 use wire::layout::ENTRIES_ROOM;
@@ -40,20 +42,24 @@ pub struct Register {
     pub held: Held,
 }
 
-// One register's part of a replica: what the single register's step works on.
+// One register's part of a replica: what the single register's step works on, which only looks at f, id and the withdrawn clients.
 #[repr(C)]
 pub struct RegisterReplica {
     pub f: u8,
     pub id: ReplicaId,
     pub register: Register,
+    pub withdrawn: ClientSet,
 }
 
-// A replica whole (document 02, #103: a holder keeps 16 registers), register x's at x - 1.
+// A replica whole (document 02, #103: a holder keeps 16 registers), register x's at x - 1. What is withdrawn is withdrawn for all
+// registers (#105), and the key is the office's.
 #[repr(C)]
 pub struct Bank {
     pub f: u8,
     pub id: ReplicaId,
     pub registers: [Register; REGISTERS],
+    pub withdrawn: ClientSet,
+    pub key: [u8; KEY],
 }
 
 // The answer of a call of a replica.
