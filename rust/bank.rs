@@ -8,6 +8,9 @@ pub const LONGEST_MESSAGE: usize = 1_580;
 /// How many registers a replica keeps: 1 to this.
 pub const REGISTERS: usize = 16;
 
+/// How long the office's public key is.
+pub const KEY: usize = 56;
+
 /// A replica's number.
 #[repr(C)]
 #[derive(Clone, Copy, Debug, PartialEq, Eq)]
@@ -22,23 +25,38 @@ pub enum Answer {
     Refused(u8),
 }
 
-/// A replica's record, 49,412 bytes. It is not `Copy`: of one replica there is one record, which its steps change.
+/// How a call ended that sends nothing.
+#[derive(Clone, Copy, Debug, PartialEq, Eq)]
+pub enum Taking {
+    Taken,
+    /// The refusal's number. The record is as it was.
+    Refused(u8),
+}
+
+/// A replica's record, 49,488 bytes. It is not `Copy`: of one replica there is one record, which its steps change.
 #[derive(Debug, PartialEq, Eq)]
 pub struct Bank {
     record: Record,
 }
 
 impl Bank {
-    /// Replica `id` for the fault bound `f`, as it is set up; none if a number is out of range (refusal 16).
-    pub fn fresh(f: u8, id: ReplicaId) -> Option<Bank> {
-        // SAFETY: the function takes numbers of any value and returns a struct in C's layout.
-        let made = unsafe { bank_fresh(f, id) };
+    /// Replica `id` for the fault bound `f`, as it is set up; none if a number is out of range or the office's public key
+    /// is of another length or other type codes (refusal 16).
+    pub fn fresh(f: u8, id: ReplicaId, key: &[u8]) -> Option<Bank> {
+        // SAFETY: the function takes numbers and bytes of any value and returns a struct in C's layout. The pointer comes
+        // from a reference, points to as many bytes as the length says, and is not kept.
+        let made = unsafe { bank_fresh(f, id, key.as_ptr(), key.len()) };
         made.good.then_some(Bank { record: made.bank })
     }
 
     /// What each register has, register 1 first.
     pub fn registers(&self) -> &[Register; REGISTERS] {
         &self.record.registers
+    }
+
+    /// The clients that orders have withdrawn.
+    pub fn withdrawn(&self) -> &ClientSet {
+        &self.record.withdrawn
     }
 
     /// The replica is handed a message with a verdict for each signature; the reply goes to `out`.
@@ -63,6 +81,17 @@ impl Bank {
         } else {
             // a refusal's number is a `u8` of the library, widened
             Answer::Refused(answer.number as u8)
+        }
+    }
+
+    /// The replica is handed a withdrawal order.
+    pub fn take_order(&mut self, order: &[u8]) -> Taking {
+        // SAFETY: as for `step`: `self` is exclusive, the order is only read, and neither is kept.
+        let answer = unsafe { bank_take_order(&mut self.record, order.as_ptr(), order.len()) };
+        if answer.taken {
+            Taking::Taken
+        } else {
+            Taking::Refused(answer.number)
         }
     }
 }
@@ -91,6 +120,14 @@ pub struct Slots {
 #[derive(Clone, Debug, PartialEq, Eq)]
 pub struct ReplicaSet(pub u16);
 
+/// Client c of 1 to 64 is bit c - 1 of `writers`, client c of 65 to 96 bit c - 65 of `viewers`.
+#[repr(C)]
+#[derive(Clone, Debug, PartialEq, Eq)]
+pub struct ClientSet {
+    pub writers: u64,
+    pub viewers: u32,
+}
+
 /// What is held: at timestamp 0.0 the starting card, with no signers and no entries. Behind a card and entries stand zeros.
 #[repr(C)]
 #[derive(Clone, Debug, PartialEq, Eq)]
@@ -118,6 +155,8 @@ struct Record {
     f: u8,
     id: ReplicaId,
     registers: [Register; REGISTERS],
+    withdrawn: ClientSet,
+    key: [u8; KEY],
 }
 
 #[repr(C)]
@@ -130,6 +169,12 @@ struct MadeBank {
 struct NumberedAnswer {
     sent: bool,
     number: usize,
+}
+
+#[repr(C)]
+struct NumberedTaking {
+    taken: bool,
+    number: u8,
 }
 
 // C's layout on x86-64: a field that moved or grew does not compile.
@@ -147,15 +192,19 @@ const _: () = {
     assert!(offset_of!(Register, held) == 2_312);
     assert!(size_of::<Register>() == 3_088);
     assert!(offset_of!(Record, registers) == 4);
-    assert!(size_of::<Record>() == 49_412 && align_of::<Record>() == 4);
-    assert!(offset_of!(MadeBank, bank) == 4);
+    assert!(offset_of!(ClientSet, viewers) == 8 && size_of::<ClientSet>() == 16);
+    assert!(offset_of!(Record, withdrawn) == 49_416);
+    assert!(offset_of!(Record, key) == 49_432);
+    assert!(size_of::<Record>() == 49_488 && align_of::<Record>() == 8);
+    assert!(offset_of!(MadeBank, bank) == 8);
     assert!(offset_of!(NumberedAnswer, number) == 8);
+    assert!(offset_of!(NumberedTaking, number) == 1);
 };
 
 extern "C" {
-    fn bank_fresh(f: u8, id: ReplicaId) -> MadeBank;
-
     // A slice crosses as its pointer and its length.
+    fn bank_fresh(f: u8, id: ReplicaId, key: *const u8, key_length: usize) -> MadeBank;
+
     fn bank_step(
         bank: *mut Record,
         message: *const u8,
@@ -165,4 +214,6 @@ extern "C" {
         out: *mut u8,
         out_length: usize,
     ) -> NumberedAnswer;
+
+    fn bank_take_order(bank: *mut Record, order: *const u8, order_length: usize) -> NumberedTaking;
 }

@@ -1,3 +1,4 @@
 pub mod Calls
 pub mod Item
+pub mod Ordering
 pub mod Registers

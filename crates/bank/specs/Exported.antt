@@ -4,11 +4,15 @@ use mathlib.Core.Bool.{Bool, true, false}
 use mathlib.Core.List.{List}
 use Prim.Native.Nat.{ℕ}
 use Rattle.base.specs.Outcome.{Outcome, accepted, refused}
+use Rattle.base.specs.declared.taking.Taking.{Taking}
+use Rattle.base.specs.declared.taking.Taking.the-variants.{Taken, Refused as NotTaken}
 use Rattle.protocol.specs.Bank.{bankCall}
+use Rattle.protocol.specs.Order.{orderCall}
 use Rattle.protocol.specs.declared.replica.Bank.{Bank}
 use Rattle.protocol.specs.declared.replica.ReplicaAnswer.{ReplicaAnswer}
 use Rattle.protocol.specs.declared.replica.ReplicaAnswer.the-variants.{Send, Refused}
 use Rattle.bank.specs.declared.exported.NumberedAnswer.{NumberedAnswer}
+use Rattle.bank.specs.declared.exported.NumberedTaking.{NumberedTaking}
 
 -- An answer in numbers: whether a message is sent, with its length or the refusal's number.
 abbrev pub inNumbers : ReplicaAnswer → NumberedAnswer
@@ -25,3 +29,12 @@ pub record StepsInNumbers (bank : Bank) (bytes verdicts old : List ℕ) (answere
   pub answer : answered ≡ inNumbers (bankCall bank bytes verdicts old .answer)
   pub next : left ≡ bankCall bank bytes verdicts old .bank
   pub output : new ≡ bankCall bank bytes verdicts old .output
+
+-- The answer to an order in numbers, and its contract.
+abbrev pub takingInNumbers : Taking → NumberedTaking
+takingInNumbers Taken = record { taken = true; number = 0 }
+takingInNumbers (NotTaken number) = record { taken = false; number = number }
+
+pub record OrdersInNumbers (bank : Bank) (order : List ℕ) (answered : NumberedTaking) (left : Bank) : Type 0 where
+  pub answer : answered ≡ takingInNumbers (orderCall bank order .answer)
+  pub next : left ≡ orderCall bank order .bank

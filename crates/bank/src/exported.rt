@@ -1,20 +1,28 @@
 // The replica for Rust and C: records in C's layout, and numbers in place of enums.
 use crate::fresh;
 use crate::step_in_place;
+use crate::take_order_in_place;
 use base::party::ReplicaId;
 use base::party::Setup;
+use base::taking::Taking;
 use protocol::replica::Bank;
 use protocol::replica::ReplicaAnswer;
 ghost use mathlib.Core.Path.{_≡_};
-ghost use Rattle.base.specs.Party.{replicaSetup};
-ghost use Rattle.protocol.specs.Bank.{madeBank};
-ghost use Rattle.bank.specs.Exported.{inNumbers, isGood, StepsInNumbers};
+ghost use Rattle.protocol.specs.Bank.{bankSetup, madeBank};
+ghost use Rattle.bank.specs.Exported.{inNumbers, isGood, StepsInNumbers, takingInNumbers, OrdersInNumbers};
 
 // An answer: the length of the message to send if `sent`, and the refusal's number otherwise.
 #[repr(C)]
 pub struct NumberedAnswer {
     pub sent: bool,
     pub number: usize,
+}
+
+// The answer to an order: the refusal's number unless it is taken, and then 0.
+#[repr(C)]
+pub struct NumberedTaking {
+    pub taken: bool,
+    pub number: u8,
 }
 
 // A replica as it is set up. If that is refused, which is refusal 16, `good` is false.
@@ -40,10 +48,10 @@ fn in_numbers(answer: ReplicaAnswer) -> NumberedAnswer
 }
 
 #[no_mangle]
-pub extern "C" fn bank_fresh(f: u8, id: ReplicaId) -> MadeBank
-    ensures { λ r. ⌜ (r .good ≡ isGood (replicaSetup f id)) × (r .bank ≡ madeBank f id) ⌝ }
+pub extern "C" fn bank_fresh(f: u8, id: ReplicaId, key: &[u8]) -> MadeBank
+    ensures { λ r. ⌜ (r .good ≡ isGood (bankSetup f id (now (key .entry)))) × (r .bank ≡ madeBank f id (now (key .entry))) ⌝ }
 {
-    let made = fresh(f, id);
+    let made = fresh(f, id, key);
     let setup = made.setup;
     let bank = made.bank;
     let Setup::Good = setup else {
@@ -69,4 +77,27 @@ pub extern "C" fn bank_step(
 {
     let answer = step_in_place(bank, message, verdicts, out);
     in_numbers(answer)
+}
+
+fn taking_in_numbers(taking: Taking) -> NumberedTaking
+    ensures { λ r. ⌜ r ≡ takingInNumbers taking ⌝ }
+{
+    match taking {
+        Taking::Taken => NumberedTaking {
+            taken: true,
+            number: 0,
+        },
+        Taking::Refused(number) => NumberedTaking {
+            taken: false,
+            number: number,
+        },
+    }
+}
+
+#[no_mangle]
+pub extern "C" fn bank_take_order(bank: &mut Bank, order: &[u8]) -> NumberedTaking
+    ensures { λ r. ⌜ OrdersInNumbers (now (bank .entry)) (now (order .entry)) r (now (bank .exit)) ⌝ }
+{
+    let taking = take_order_in_place(bank, order);
+    taking_in_numbers(taking)
 }

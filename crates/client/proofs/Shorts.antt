@@ -4,6 +4,7 @@ use mathlib.Core.List.{List}
 use mathlib.Core.Option.{Option, none, some}
 use Prim.Native.Nat.{ℕ, _≤_}
 use lib.ListN.{length}
+use Rattle.base.specs.ClientSet.{nobody}
 use Rattle.base.specs.Outcome.{Outcome, accepted, refused, guard, _>>=_}
 use Rattle.base.specs.ReplicaSet.{with, isQuorum}
 use Rattle.base.specs.Timestamp.{successor}
@@ -141,5 +142,5 @@ module _ (client : Client) (old : List ℕ) where
   pub short-step : (role : Role) (bytes verdicts : List ℕ) → Short (withOutput old (roleStep role client bytes verdicts))
   unfolding clientStep viewerStep
   short-step Ordinary bytes verdicts =
-      short-guard 1 _ _ (short-next _ (λ sent. short-reply (towards (sent .0) client) (signature bytes) (sent .1)) (admitted AtClient (client .f) bytes verdicts))
-  short-step Viewing bytes verdicts = short-guard 1 _ _ (short-next _ (λ sent. short-view (towards (sent .0) client) (sent .1)) (admitted AtClient (client .f) bytes verdicts))
+      short-guard 1 _ _ (short-next _ (λ sent. short-reply (towards (sent .0) client) (signature bytes) (sent .1)) (admitted AtClient (client .f) nobody bytes verdicts))
+  short-step Viewing bytes verdicts = short-guard 1 _ _ (short-next _ (λ sent. short-view (towards (sent .0) client) (sent .1)) (admitted AtClient (client .f) nobody bytes verdicts))

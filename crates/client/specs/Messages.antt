@@ -2,6 +2,7 @@
 use mathlib.Core.Path.{_≡_}
 use mathlib.Core.List.{List}
 use Prim.Native.Nat.{ℕ}
+use Rattle.base.specs.ClientSet.{nobody}
 use Rattle.base.specs.Outcome.{Outcome, accepted, _>>=_}
 use Rattle.base.specs.declared.replica_set.ReplicaSet.{ReplicaSet}
 use Rattle.wire.specs.Acceptance.{acceptance}
@@ -25,7 +26,7 @@ afterTests Viewing client bytes = messageIn AtClient bytes >>= onViewerReply (to
 pub record Passing (f : ℕ) (bytes : List ℕ) (fields : Fields) : Type 0 where
   pub verdicts : List ℕ
   pub signers : ReplicaSet
-  pub passes : acceptance AtClient f bytes verdicts ≡ accepted (fields, signers)
+  pub passes : acceptance AtClient f nobody bytes verdicts ≡ accepted (fields, signers)
 
 -- These signed its prepared proof; nobody if there is none.
 abbrev pub SignedBy : List ℕ → Fields → ReplicaSet → Type 0

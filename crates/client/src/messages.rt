@@ -7,6 +7,7 @@ use crate::role::Role;
 use crate::write::on_prepared;
 use crate::write::on_stamp;
 use crate::write::on_written;
+use base::client_set::ClientSet;
 use base::party::ReplicaId;
 use base::refusal::BAD_CARD;
 use base::refusal::NOT_AWAITED;
@@ -211,7 +212,13 @@ pub(super) fn hear(
     if out.len() < LONGEST_MESSAGE {
         return refused(OUTPUT_TOO_SHORT, client);
     }
-    match wire::acceptance::accept(Party::Client, client.f, message, verdicts) {
+    match wire::acceptance::accept(
+        Party::Client,
+        client.f,
+        ClientSet::nobody(),
+        message,
+        verdicts,
+    ) {
         Accepting::Message(fields, signers) => { take(client, message, fields, signers, role, out) }
         Accepting::Refused(number) => refused(number, client),
     }

@@ -5,6 +5,7 @@ use Prim.Native.Nat.{ℕ, zero, suc, _+_}
 use lib.ListN.{length, getD, take, set, length-replicate}
 use Rattle.base.specs.Counting.{replica}
 use Rattle.base.specs.Party.{registerPlace}
+use Rattle.base.specs.declared.client_set.ClientSet.{ClientSet}
 use Rattle.base.specs.declared.party.RegisterId.{RegisterId}
 use Rattle.base.specs.declared.party.ReplicaId.{ReplicaId}
 use Rattle.base.proofs.Registers.{place-below}
@@ -19,7 +20,7 @@ use Rattle.protocol.specs.declared.replica.Bank.{Bank}
 use Rattle.protocol.specs.declared.replica.Register.{Register}
 use Rattle.protocol.specs.declared.replica.RegisterReplica.{RegisterReplica}
 use Rattle.protocol.specs.declared.replica.ReplicaAnswer.{ReplicaAnswer}
-use Rattle.protocol.proofs.BankFacts.{fresh-part, f-kept, id-kept, length-kept, register-stepped, answer-stepped, output-stepped}
+use Rattle.protocol.proofs.BankFacts.{fresh-part, f-kept, id-kept, withdrawn-kept, length-kept, register-stepped, answer-stepped, output-stepped}
 use Rattle.play.specs.Calls.{theRegister, verdicts, sentBefore, free, messageAt, replicaDoes}
 use Rattle.play.specs.ForRegister.{freshBanks, noReplicas, BanksTurn, bankDoes, banksDo, printedLinesByBanks, printedByBanks, PrintedAlike}
 use Rattle.play.specs.Grammar.{command}
@@ -41,13 +42,13 @@ record HasPart (bank : Bank) (part : RegisterReplica) : Type 0 where
   part-is : bankPart (registerPlace theRegister) bank ≡ part
   sixteen : length (bank .registers) ≡ 16
 
-fresh-has : (f i : ℕ) → HasPart (freshBank f (replica i)) (freshRegisterReplica f (replica i))
-fresh-has f i = record { part-is = fresh-part f (replica i) (registerPlace theRegister) (place-below theRegister); sixteen = length-replicate 16 freshRegister }
+fresh-has : (f i : ℕ) (key : List ℕ) → HasPart (freshBank f (replica i) key) (freshRegisterReplica f (replica i))
+fresh-has f i key = record { part-is = fresh-part f (replica i) key (registerPlace theRegister) (place-below theRegister); sixteen = length-replicate 16 freshRegister }
 
-same-part : (a b : RegisterReplica) → a .f ≡ b .f → a .id ≡ b .id → a .register ≡ b .register → a ≡ b
-same-part a b f id register =
-    ap₂ (λ (n : ℕ) (i : ReplicaId). record { f = n; id = i; register = a .register }) f id
-    ∙ ap (λ (held : Register). record { f = b .f; id = b .id; register = held }) register
+same-part : (a b : RegisterReplica) → a .f ≡ b .f → a .id ≡ b .id → a .register ≡ b .register → a .withdrawn ≡ b .withdrawn → a ≡ b
+same-part a b f id register withdrawn =
+    ap₂ (λ (n : ℕ) (i : ReplicaId). record { f = n; id = i; register = a .register; withdrawn = a .withdrawn }) f id
+    ∙ ap₂ (λ (held : Register) (set : ClientSet). record { f = b .f; id = b .id; register = held; withdrawn = set }) register withdrawn
 
 -- A message for the register is to the bank what it is to the part.
 module _ (bank : Bank) (part : RegisterReplica) (has : HasPart bank part) (bytes verdicts old : List ℕ) (is : registerIn bytes ≡ theRegister) where
@@ -61,8 +62,9 @@ module _ (bank : Bank) (part : RegisterReplica) (has : HasPart bank part) (bytes
   output-alike = output-stepped bank bytes verdicts old ∙ ap (λ (r : RegisterReplica). registerCall r bytes verdicts old .output) placed
 
   part-left : registerCall part bytes verdicts old .replica .f ≡ part .f → registerCall part bytes verdicts old .replica .id ≡ part .id
+      → registerCall part bytes verdicts old .replica .withdrawn ≡ part .withdrawn
       → HasPart (bankCall bank bytes verdicts old .bank) (registerCall part bytes verdicts old .replica)
-  part-left same-f same-id =
+  part-left same-f same-id same-withdrawn =
       let left = bankCall bank bytes verdicts old .bank in
       let own = has .part-is in
       record {
@@ -71,7 +73,8 @@ module _ (bank : Bank) (part : RegisterReplica) (has : HasPart bank part) (bytes
             (f-kept bank bytes verdicts old ∙ ap (λ (r : RegisterReplica). r .f) own ∙ sym same-f)
             (id-kept bank bytes verdicts old ∙ ap (λ (r : RegisterReplica). r .id) own ∙ sym same-id)
             (ap (λ (x : RegisterId). bankPart (registerPlace x) left .register) (sym is) ∙ register-stepped bank bytes verdicts old (has .sixteen)
-            ∙ ap (λ (r : RegisterReplica). registerCall r bytes verdicts old .replica .register) placed);
+            ∙ ap (λ (r : RegisterReplica). registerCall r bytes verdicts old .replica .register) placed)
+            (withdrawn-kept bank bytes verdicts old ∙ ap (λ (r : RegisterReplica). r .withdrawn) own ∙ sym same-withdrawn);
         sixteen = length-kept bank bytes verdicts old ∙ has .sixteen;
       }
 
@@ -82,7 +85,7 @@ data Parts : List Bank → List RegisterReplica → Type 0 where
   more : {bank : Bank} {part : RegisterReplica} {banks : List Bank} {parts : List RegisterReplica} → HasPart bank part → Parts banks parts → Parts (bank ∷ banks) (part ∷ parts)
 
 part-of : {banks : List Bank} {parts : List RegisterReplica} → Parts banks parts → (i : ℕ) → HasPart (getD banks i noBank) (getD parts i noRegisterReplica)
-part-of none i = fresh-has 0 0
+part-of none i = fresh-has 0 0 _
 part-of (more has rest) zero = has
 part-of (more has rest) (suc i) = part-of rest i
 
@@ -127,7 +130,7 @@ module _ {world : World} {store : List ℕ} (holds : Holds world store) {banks :
         store-alike = ap (λ (out : List ℕ). sentBefore (world .log) store ++ out) (output-alike bank part has bytes marks old is);
         clients-alike = refl;
         log-alike = ap (λ (a : ReplicaAnswer). loggedBy (asClientAnswer a) (world .log)) answer;
-        parts = with-part parts at (part-left bank part has bytes marks old is (left .same-f) (left .same-id));
+        parts = with-part parts at (part-left bank part has bytes marks old is (left .same-f) (left .same-id) (left .same-withdrawn));
       }
   line-alike Nobody known = record { said-alike = refl; card-alike = refl; store-alike = refl; clients-alike = refl; log-alike = refl; parts = parts }
 
@@ -152,7 +155,7 @@ lines-alike (text ∷ texts) number {world} {store} holds {banks} parts others =
 
 fresh-parts : Parts freshBanks (freshWorld .replicas)
 unfolding freshBanks freshWorld
-fresh-parts = more (fresh-has 1 1) (more (fresh-has 1 2) (more (fresh-has 1 3) (more (fresh-has 1 4) none)))
+fresh-parts = more (fresh-has 1 1 _) (more (fresh-has 1 2 _) (more (fresh-has 1 3 _) (more (fresh-has 1 4 _) none)))
 
 pub printed-alike : PrintedAlike
 unfolding printedByBanks printed noReplicas

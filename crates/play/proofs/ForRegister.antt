@@ -142,6 +142,7 @@ module _ (log : Log) (client : Client) (old : List ℕ) (good : GoodClient clien
 pub record ReplicaLeft (log : Log) (old : List ℕ) (before : RegisterReplica) (call : RegisterCall) : Type 0 where
   pub same-f : call .replica .f ≡ before .f
   pub same-id : call .replica .id ≡ before .id
+  pub same-withdrawn : call .replica .withdrawn ≡ before .withdrawn
   pub fits : RegisterReplicaFits (call .replica)
   pub sends : Sends log old (loggedBy (asClientAnswer (call .answer)) log) (call .output)
 
@@ -151,8 +152,8 @@ module _ (log : Log) (before : RegisterReplica) (old bytes verdicts : List ℕ) 
   unfolding loggedBy
   replica-outcome (accepted r) room taken =
       let (m, facts) = taken r refl in
-      record { same-f = facts .same-f; same-id = facts .same-id; fits = facts .fits; sends = sends-for (registerIn bytes) (r .message) is (facts .legal) room }
-  replica-outcome (refused number) room taken = record { same-f = refl; same-id = refl; fits = fits; sends = refused-rests number }
+      record { same-f = facts .same-f; same-id = facts .same-id; same-withdrawn = facts .same-withdrawn; fits = facts .fits; sends = sends-for (registerIn bytes) (r .message) is (facts .legal) room }
+  replica-outcome (refused number) room taken = record { same-f = refl; same-id = refl; same-withdrawn = refl; fits = fits; sends = refused-rests number }
 
   -- What a replica answers is for the register of the request.
   pub replica-left : ReplicaLeft log old before (registerCall before bytes verdicts old)
@@ -161,12 +162,12 @@ module _ (log : Log) (before : RegisterReplica) (old bytes verdicts : List ℕ) 
     where
       taken : (r : Reply) → registerStep before bytes verdicts ≡ accepted r → (m : Message) × RegisterFacts before verdicts m r
       taken r e =
-          let (x, m, passed, by) = admitted-then AtReplica (before .f) bytes verdicts (λ sent. onRequest before (sent .1)) r e in
+          let (x, m, passed, by) = admitted-then AtReplica (before .f) (before .withdrawn) bytes verdicts (λ sent. onRequest before (sent .1)) r e in
           (m, register-facts before verdicts m r fits (decoded-fits AtReplica bytes x m (passed .decodes) small) (passed .may-send) (passed .passed) by)
 
       go : (b : Bool) → roomy old ≡ b → ReplicaLeft log old before (registerAnswers (registerIn bytes) before old (guard 1 b (registerStep before bytes verdicts)))
       go true e = replica-outcome (registerStep before bytes verdicts) (leb-true longest (length old) e) taken
-      go false e = record { same-f = refl; same-id = refl; fits = fits; sends = refused-rests 1 }
+      go false e = record { same-f = refl; same-id = refl; same-withdrawn = refl; fits = fits; sends = refused-rests 1 }
 
 -- ---- One line
 

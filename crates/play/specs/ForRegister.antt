@@ -3,7 +3,7 @@
 use mathlib.Core.Path.{_≡_}
 use mathlib.Core.List.{List, [], _∷_, _++_}
 use Prim.Native.Nat.{ℕ, _+_, _≤_}
-use lib.ListN.{getD, take, set}
+use lib.ListN.{getD, take, set, replicate}
 use Rattle.base.specs.Counting.{replica}
 use Rattle.base.specs.declared.party.ReplicaId.{ReplicaId}
 use Rattle.wire.specs.Decode.{registerIn}
@@ -35,9 +35,13 @@ ForRegister = (world : World) (store : List ℕ) → Reached world store → (m 
 
 -- ---- The player with whole replicas
 
+-- No session hands a replica an order (#105), so any key does: the two type codes, and zeros.
+abbrev pub zeroKey : List ℕ
+zeroKey = 0x00 ∷ 0x00 ∷ 0x00 ∷ 0x05 ∷ 0x00 ∷ 0x00 ∷ 0x00 ∷ 0x04 ∷ replicate 48 0
+
 -- Four banks, in place of the world's replicas.
 unfoldable pub freshBanks : List Bank
-freshBanks = freshBank 1 (replica 1) ∷ freshBank 1 (replica 2) ∷ freshBank 1 (replica 3) ∷ freshBank 1 (replica 4) ∷ []
+freshBanks = freshBank 1 (replica 1) zeroKey ∷ freshBank 1 (replica 2) zeroKey ∷ freshBank 1 (replica 3) zeroKey ∷ freshBank 1 (replica 4) zeroKey ∷ []
 
 unfoldable pub noReplicas : World
 noReplicas = record { replicas = []; clients = freshWorld .clients; log = freshWorld .log }

@@ -1,5 +1,6 @@
 // What the player keeps from line to line: the four replicas with one register each, the four clients, and the messages sent.
 use crate::log::Log;
+use base::client_set::ClientSet;
 use base::party::ClientId;
 use base::party::ReplicaId;
 use protocol::client::Client;
@@ -29,6 +30,7 @@ fn replica(id: ReplicaId) -> RegisterReplica
         f: FAULT_BOUND,
         id: id,
         register: fresh_register(),
+        withdrawn: ClientSet::nobody(),
     }
 }
 

@@ -57,31 +57,31 @@ plain replica client timestamp digest proof none i =
 plain replica client timestamp digest proof (some last) i = rw (ne-eqb (last .timestamp) 0 (not-zero (last .timestamp) i))
 
 module _ (replica : RegisterReplica) (bytes verdicts : List ℕ) where
-  pub step-refused : (n : ℕ) → acceptance AtReplica (replica .f) bytes verdicts ≡ refused n → registerStep replica bytes verdicts ≡ refused n
+  pub step-refused : (n : ℕ) → acceptance AtReplica (replica .f) (replica .withdrawn) bytes verdicts ≡ refused n → registerStep replica bytes verdicts ≡ refused n
   unfolding registerStep
-  step-refused n e = rw (acceptance-refused AtReplica (replica .f) bytes verdicts n e)
+  step-refused n e = rw (acceptance-refused AtReplica (replica .f) (replica .withdrawn) bytes verdicts n e)
 
   -- The step is what follows for the message that was let through.
-  follows : (m : Message) → Handed AtReplica (replica .f) bytes verdicts m → registerStep replica bytes verdicts ≡ onRequest replica m
+  follows : (m : Message) → Handed AtReplica (replica .f) (replica .withdrawn) bytes verdicts m → registerStep replica bytes verdicts ≡ onRequest replica m
   unfolding registerStep
   follows m h = rw (h .admits)
 
-  module _ (fields : Fields) {signers : ReplicaSet} (e : acceptance AtReplica (replica .f) bytes verdicts ≡ accepted (fields, signers)) where
+  module _ (fields : Fields) {signers : ReplicaSet} (e : acceptance AtReplica (replica .f) (replica .withdrawn) bytes verdicts ≡ accepted (fields, signers)) where
     pub step-read-stamp : fields .kind ≡ 1 → registerStep replica bytes verdicts ≡ onReadStamp replica (record { 0 = fields .sender }) (fields .nonce)
     unfolding onRequest
-    step-read-stamp k = follows _ (handed-read-stamp (replica .f) bytes verdicts fields e k)
+    step-read-stamp k = follows _ (handed-read-stamp (replica .f) (replica .withdrawn) bytes verdicts fields e k)
 
     pub step-read : fields .kind ≡ 4 → registerStep replica bytes verdicts ≡ onRead replica (record { 0 = fields .sender }) (fields .nonce)
     unfolding onRequest
-    step-read k = follows _ (handed-read (replica .f) bytes verdicts fields e k)
+    step-read k = follows _ (handed-read (replica .f) (replica .withdrawn) bytes verdicts fields e k)
 
     pub last-kind : (fields .kind ≡ 1 → ⊥) → (fields .kind ≡ 2 → ⊥) → (fields .kind ≡ 3 → ⊥) → fields .kind ≡ 4
     last-kind not-1 not-2 not-3 =
-        ⊎-elim (λ k. absurd (not-1 k)) (⊎-elim (λ k. absurd (not-2 k)) (⊎-elim (λ k. absurd (not-3 k)) (λ k. k))) (request-kind (replica .f) bytes verdicts fields e)
+        ⊎-elim (λ k. absurd (not-1 k)) (⊎-elim (λ k. absurd (not-2 k)) (⊎-elim (λ k. absurd (not-3 k)) (λ k. k))) (request-kind (replica .f) (replica .withdrawn) bytes verdicts fields e)
 
     pub step-write : fields .kind ≡ 3 → registerStep replica bytes verdicts ≡ onWrite replica (cardAt bytes (fields .card)) (preparedFrom (partAt bytes (fields .prepared)))
     unfolding onRequest
-    step-write k = follows _ (handed-write (replica .f) bytes verdicts fields e k)
+    step-write k = follows _ (handed-write (replica .f) (replica .withdrawn) bytes verdicts fields e k)
 
     -- PREPARE, with 0 for the timestamp of a missing proof.
     step-prepare : fields .kind ≡ 2
@@ -89,10 +89,10 @@ module _ (replica : RegisterReplica) (bytes verdicts : List ℕ) where
         ≡ prepareWith replica (record { 0 = fields .sender }) (number (fields .timestamp)) (partAt bytes (fields .digest)) (number (timestampPart (partAt bytes (fields .prepared)))) (number (timestampPart (partAt bytes (fields .written))))
     unfolding onRequest
     step-prepare k =
-        let h = handed-prepare (replica .f) bytes verdicts fields e k in
+        let h = handed-prepare (replica .f) (replica .withdrawn) bytes verdicts fields e k in
         let proof = partAt bytes (fields .prepared) in
-        let first : number (timestampPart proof) ≡ preparedTimestamp (preparedPart proof) = ap number (shown proof (proof-whole AtReplica (replica .f) bytes verdicts fields e)) ∙ number-ofNumber _ in
-        let second : number (timestampPart (partAt bytes (fields .written))) ≡ timestampIfThere (proofPart 0 (partAt bytes (fields .written))) = ap number (last-shown AtReplica (replica .f) bytes verdicts fields e) ∙ number-ofNumber _ in
+        let first : number (timestampPart proof) ≡ preparedTimestamp (preparedPart proof) = ap number (shown proof (proof-whole AtReplica (replica .f) (replica .withdrawn) bytes verdicts fields e)) ∙ number-ofNumber _ in
+        let second : number (timestampPart (partAt bytes (fields .written))) ≡ timestampIfThere (proofPart 0 (partAt bytes (fields .written))) = ap number (last-shown AtReplica (replica .f) (replica .withdrawn) bytes verdicts fields e) ∙ number-ofNumber _ in
         rw (first, second)
         (follows _ h ∙ plain replica (record { 0 = fields .sender }) (number (fields .timestamp)) (partAt bytes (fields .digest)) (preparedPart proof) (proofPart 0 (partAt bytes (fields .written))) (h .passed .written-issued))
 
@@ -103,17 +103,17 @@ module _ (replica : RegisterReplica) (bytes verdicts : List ℕ) where
     prepare-as k digest first second d s l = rw (d, s, l) (step-prepare k)
 
     pub prepare-sender : fields .kind ≡ 2 → (1 ≤ fields .sender) × (fields .sender ≤ 64)
-    prepare-sender k = bounds 1 64 (fields .sender) (handed-prepare (replica .f) bytes verdicts fields e k .may-send)
+    prepare-sender k = bounds 1 64 (fields .sender) (handed-prepare (replica .f) (replica .withdrawn) bytes verdicts fields e k .may-send)
 
 -- A call whose step is this outcome, whichever verdicts let its message through; the reply is for the register among the fields.
 pub answers : (replica : RegisterReplica) (bytes : List ℕ) (fields : Fields) (old : List ℕ) (stepped : Stepped) (new : List ℕ) (outcome : Outcome Reply)
-    → ((verdicts : List ℕ) (signers : ReplicaSet) → acceptance AtReplica (replica .f) bytes verdicts ≡ accepted (fields, signers) → registerStep replica bytes verdicts ≡ outcome)
+    → ((verdicts : List ℕ) (signers : ReplicaSet) → acceptance AtReplica (replica .f) (replica .withdrawn) bytes verdicts ≡ accepted (fields, signers) → registerStep replica bytes verdicts ≡ outcome)
     → Leaves replica (registerAnswers (fields .register) replica old outcome) stepped new → Answers replica bytes fields old stepped new
 answers replica bytes fields old stepped new outcome same l =
     record {
       leaves = λ verdicts signers e.
           subst (λ (o : Outcome Reply). Leaves replica (registerAnswers (registerIn bytes) replica old o) stepped new) (sym (same verdicts signers e))
-          (subst (λ (register : RegisterId). Leaves replica (registerAnswers register replica old outcome) stepped new) (register-is AtReplica (replica .f) bytes verdicts fields e) l);
+          (subst (λ (register : RegisterId). Leaves replica (registerAnswers register replica old outcome) stepped new) (register-is AtReplica (replica .f) (replica .withdrawn) bytes verdicts fields e) l);
     }
 
 module _ (replica : RegisterReplica) (bytes verdicts old : List ℕ) (stepped : Stepped) where

@@ -36,9 +36,9 @@ pub record Leaves (replica : RegisterReplica) (call : RegisterCall) (stepped : S
 -- A message that tests 2 to 11 let through, with some verdicts; these signed its prepared proof.
 pub record Passes (replica : RegisterReplica) (bytes : List ℕ) (fields : Fields) (signers : ReplicaSet) : Type 0 where
   pub verdicts : List ℕ
-  pub passes : acceptance AtReplica (replica .f) bytes verdicts ≡ accepted (fields, signers)
+  pub passes : acceptance AtReplica (replica .f) (replica .withdrawn) bytes verdicts ≡ accepted (fields, signers)
 
 -- What a call on such a message leaves, whichever verdicts let it through.
 pub record Answers (replica : RegisterReplica) (bytes : List ℕ) (fields : Fields) (old : List ℕ) (stepped : Stepped) (new : List ℕ) : Type 0 where
-  pub leaves : (verdicts : List ℕ) (signers : ReplicaSet) → acceptance AtReplica (replica .f) bytes verdicts ≡ accepted (fields, signers)
+  pub leaves : (verdicts : List ℕ) (signers : ReplicaSet) → acceptance AtReplica (replica .f) (replica .withdrawn) bytes verdicts ≡ accepted (fields, signers)
       → Leaves replica (registerAnswers (registerIn bytes) replica old (registerStep replica bytes verdicts)) stepped new

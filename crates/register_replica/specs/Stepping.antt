@@ -4,6 +4,7 @@ use mathlib.Core.Bool.{cond}
 use mathlib.Core.List.{List, _++_}
 use Prim.Native.Nat.{ℕ, _-_, _*_, _≤_}
 use lib.ListN.{take, drop, set}
+use Rattle.base.specs.declared.client_set.ClientSet.{ClientSet}
 use Rattle.base.specs.declared.party.ReplicaId.{ReplicaId}
 use Rattle.wire.specs.Decode.{registerIn}
 use Rattle.protocol.specs.RegisterReplica.{registerStep, answerOutcome, sentLength, withOutput, withSlots, withHeld, registerCall}
@@ -35,9 +36,9 @@ pub record Changes (replica : RegisterReplica) (stepped : Stepped) : Type 0 wher
   pub first : 1 ≤ stepped .prepared .client .0
   pub last : stepped .prepared .client .0 ≤ 64
 
--- One register's part of a replica, made of its numbers and the register.
-abbrev pub registerReplica : ℕ → ReplicaId → Register → RegisterReplica
-registerReplica f id register = record { f = f; id = id; register = register }
+-- One register's part of a replica, made of its numbers, the withdrawn clients and the register.
+abbrev pub registerReplica : ℕ → ReplicaId → ClientSet → Register → RegisterReplica
+registerReplica f id withdrawn register = record { f = f; id = id; register = register; withdrawn = withdrawn }
 
 -- The contract of a step, by value and on a lent register alike: its answer, and the record and the output afterwards.
 -- `outcome` says the answer by document 01's numbers: the length of the message to send, or the refusal.

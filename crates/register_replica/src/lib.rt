@@ -7,6 +7,7 @@ mod register;
 mod write;
 
 use answers::refuse;
+use base::client_set::ClientSet;
 use base::party::ClientId;
 use base::party::ReplicaId;
 use base::refusal::OUTPUT_TOO_SHORT;
@@ -121,7 +122,13 @@ pub fn step(replica: RegisterReplica, message: &[u8], verdicts: &[u8], out: &mut
     if out.len() < LONGEST_MESSAGE {
         return refuse(replica, OUTPUT_TOO_SHORT);
     }
-    match accept(Party::Replica, replica.f, message, verdicts) {
+    match accept(
+        Party::Replica,
+        replica.f,
+        replica.withdrawn,
+        message,
+        verdicts,
+    ) {
         Accepting::Message(fields, signers) => {
             on_message(replica, message, fields, signers, out)
         }
@@ -129,21 +136,23 @@ pub fn step(replica: RegisterReplica, message: &[u8], verdicts: &[u8], out: &mut
     }
 }
 
-// The same on a register that is lent, with f and id beside it: the step by value, and what it changed stored.
+// The same on a register that is lent, with f, id and the withdrawn clients beside it: the step by value, and what it changed stored.
 pub fn register_in_place(
     f: u8,
     id: ReplicaId,
+    withdrawn: ClientSet,
     register: &mut Register,
     message: &[u8],
     verdicts: &[u8],
     out: &mut [u8],
 ) -> ReplicaAnswer
-    ensures { λ r. ⌜ Steps (registerReplica f id (now (register .entry))) (now (message .entry)) (now (verdicts .entry)) (now (out .entry)) r (registerReplica f id (now (register .exit))) (now (out .exit)) ⌝ }
+    ensures { λ r. ⌜ Steps (registerReplica f id withdrawn (now (register .entry))) (now (message .entry)) (now (verdicts .entry)) (now (out .entry)) r (registerReplica f id withdrawn (now (register .exit))) (now (out .exit)) ⌝ }
 {
     let before = RegisterReplica {
         f: f,
         id: id,
         register: *register,
+        withdrawn: withdrawn,
     };
     let stepped = step(before, message, verdicts, out);
     if stepped.holds {

@@ -38,12 +38,14 @@ fn with_slots(replica: RegisterReplica, slots: Slots) -> RegisterReplica
     ensures { λ r. ⌜ r ≡ withSlots replica slots ⌝ }
 {
     let id = replica.id;
+    let withdrawn = replica.withdrawn;
     let held = replica.register.held;
     let register = Register { slots, held };
     RegisterReplica {
         f: replica.f,
         id: id,
         register: register,
+        withdrawn: withdrawn,
     }
 }
 

@@ -27,12 +27,14 @@ fn with_held(replica: RegisterReplica, held: Held) -> RegisterReplica
     ensures { λ r. ⌜ r ≡ withHeld replica held ⌝ }
 {
     let id = replica.id;
+    let withdrawn = replica.withdrawn;
     let slots = replica.register.slots;
     let register = Register { slots, held };
     RegisterReplica {
         f: replica.f,
         id: id,
         register: register,
+        withdrawn: withdrawn,
     }
 }
 

@@ -1,4 +1,4 @@
--- `register_replica::register_in_place` meets its contract: a walk of its MIR, by hand. The register's borrow is opened, the register is copied out and passed by value to `step` with f and id, and with the three slices at their own lifetimes; what `step` says that it changed is stored in the borrow's cell, where the counts and the digests are lent, one after the other, to the functions that put a slot's; that makes the cell the register that `step` returned, and the borrow is closed at it.
+-- `register_replica::register_in_place` meets its contract: a walk of its MIR, by hand. The register's borrow is opened, the register is copied out and passed by value to `step` with f, id and the withdrawn clients, and with the three slices at their own lifetimes; what `step` says that it changed is stored in the borrow's cell, where the counts and the digests are lent, one after the other, to the functions that put a slot's; that makes the cell the register that `step` returned, and the borrow is closed at it.
 -- All that the proof knows of `step` is its contract: `Steps`, which is the contract here too, and `Changes`. The structs' laws say how a record's machine value is spelled, so no array is taken apart.
 -- Assumes nothing.
 use mathlib.Core.Path.{_≡_, refl, sym, ap, subst, _∙_}
@@ -47,6 +47,7 @@ use denote.Triple.Spec.{Meets, tripleOf}
 use denote.Triple.Table.{entered, cited}
 use denote.Triple.Walked.{says, Stays, stay-ref, stay-none, stay-none-slice, gave-slice, walkOf, AllGo, goes-ref, goes-none, goes-none-slice, goes-gave-slice, Walks, ends-at, walked, walk-meets}
 use denote.Exit.{yes}
+use Rattle.base.specs.declared.client_set.ClientSet.{ClientSet}
 use Rattle.base.specs.declared.party.ReplicaId.{ReplicaId}
 use Rattle.protocol.specs.declared.replica.Register.{Register}
 use Rattle.protocol.specs.declared.replica.RegisterReplica.{RegisterReplica}
@@ -57,6 +58,8 @@ use Rattle.protocol.specs.RegisterReplica.{withSlots, withHeld}
 use Rattle.register_replica.specs.Stepping.{puttingCount, puttingDigest, putting, registerReplica, Steps, Changes}
 use Rattle.base.proofs.timestamp.Timestamp as T
 use Rattle.base.proofs.timestamp.Timestamp.Laws as T′
+use Rattle.base.proofs.client_set.ClientSet as K
+use Rattle.base.proofs.client_set.ClientSet.Laws as K′
 use Rattle.base.proofs.party.ReplicaId as I
 use Rattle.base.proofs.party.ReplicaId.Laws as I′
 use Rattle.protocol.proofs.replica.Held as L
@@ -95,7 +98,7 @@ use Rattle.register_replica.proofs.register_in_place.Code.Mir as code-o
 
 -- What the function has of its parameters at exit: the register's reference still, and the output no more, since `step` was given it.
 abbrev stayed : Stays (thin.ended .signature .params) (thin.ended .kept)
-stayed = (stay-none (λ _. u8) yes, (stay-none (λ _. I.the-row) yes, (stay-ref (0 ∷ []) tt (plain (λ _. G.the-row)), (stay-none-slice (1 ∷ []) tt (plain (λ _. u8)) yes, (stay-none-slice (2 ∷ []) tt (plain (λ _. u8)) yes, (gave-slice (3 ∷ []) tt (plain (λ _. u8)), tt))))))
+stayed = (stay-none (λ _. u8) yes, (stay-none (λ _. I.the-row) yes, (stay-none (λ _. K.the-row) yes, (stay-ref (0 ∷ []) tt (plain (λ _. G.the-row)), (stay-none-slice (1 ∷ []) tt (plain (λ _. u8)) yes, (stay-none-slice (2 ∷ []) tt (plain (λ _. u8)) yes, (gave-slice (3 ∷ []) tt (plain (λ _. u8)), tt)))))))
 
 -- The contracts that the proof cites.
 module _ {M : Type 1} (𝓤 : URA M) (H : Heap 𝓤) (A : Atoms 𝓤) (mem : Memory → SProp 𝓤) (run : Routine → Fun 𝓤) where
@@ -139,14 +142,14 @@ nothing-stored replica stepped changes t s = go (stepped .holds) refl t (stepped
     go false e _ true f z = absurd z
     go false e _ false f _ = ap (λ (left : RegisterReplica). left .register) (sym (rw (e, f) at (changes .only)))
 
--- What `step` returned has the numbers that it was given.
-numbers-kept : (replica : RegisterReplica) (stepped : Stepped) → Changes replica stepped → stepped .replica ≡ registerReplica (replica .f) (replica .id) (stepped .replica .register)
-numbers-kept replica stepped changes = subst (λ (left : RegisterReplica). left ≡ registerReplica (replica .f) (replica .id) (left .register)) (sym (changes .only)) (go (stepped .holds) (stepped .prepares))
+-- What `step` returned has the numbers and the withdrawn clients that it was given.
+numbers-kept : (replica : RegisterReplica) (stepped : Stepped) → Changes replica stepped → stepped .replica ≡ registerReplica (replica .f) (replica .id) (replica .withdrawn) (stepped .replica .register)
+numbers-kept replica stepped changes = subst (λ (left : RegisterReplica). left ≡ registerReplica (replica .f) (replica .id) (replica .withdrawn) (left .register)) (sym (changes .only)) (go (stepped .holds) (stepped .prepares))
   where
     next : Bool → Bool → RegisterReplica
     next h p = cond h (withHeld replica (stepped .held)) (cond p (withSlots replica (putting (stepped .prepared) (replica .register .slots))) replica)
 
-    go : (h p : Bool) → next h p ≡ registerReplica (replica .f) (replica .id) (next h p .register)
+    go : (h p : Bool) → next h p ≡ registerReplica (replica .f) (replica .id) (replica .withdrawn) (next h p .register)
     go true p = refl
     go false true = refl
     go false false = refl
@@ -160,9 +163,9 @@ is-prepared : (stepped : Stepped) (vs : List Val) → Is D.the-row stepped vs �
 is-prepared stepped vs is = LL.owed D.the-type D′.the-laws stepped vs is .1 .1 .1 .1 .0
 
 -- What `step`'s contract says, at the register that is left.
-lent-steps : (f : ℕ) (id : ReplicaId) (register : Register) (stepped : Stepped) (bytes verdicts old new : List ℕ) → Steps (registerReplica f id register) bytes verdicts old (stepped .answer) (stepped .replica) new → Changes (registerReplica f id register) stepped
-    → Steps (registerReplica f id register) bytes verdicts old (stepped .answer) (registerReplica f id (stepped .replica .register)) new
-lent-steps f id register stepped bytes verdicts old new steps changes = subst (λ (left : RegisterReplica). Steps (registerReplica f id register) bytes verdicts old (stepped .answer) left new) (numbers-kept (registerReplica f id register) stepped changes) steps
+lent-steps : (f : ℕ) (id : ReplicaId) (withdrawn : ClientSet) (register : Register) (stepped : Stepped) (bytes verdicts old new : List ℕ) → Steps (registerReplica f id withdrawn register) bytes verdicts old (stepped .answer) (stepped .replica) new → Changes (registerReplica f id withdrawn register) stepped
+    → Steps (registerReplica f id withdrawn register) bytes verdicts old (stepped .answer) (registerReplica f id withdrawn (stepped .replica .register)) new
+lent-steps f id withdrawn register stepped bytes verdicts old new steps changes = subst (λ (left : RegisterReplica). Steps (registerReplica f id withdrawn register) bytes verdicts old (stepped .answer) left new) (numbers-kept (registerReplica f id withdrawn register) stepped changes) steps
 
 -- Where a step's result has what a PREPARE puts, and what is held. An offset that is written out doubles with each field before it.
 prepared-field : (at : ℕ) × (fieldOf D′.mir 4 ≡ some (P′.mir, at))
@@ -174,11 +177,11 @@ held-field = (_, refl)
 -- The code that puts a slot.
 abbrev slot-code : Code
 slot-code =
-    seq (assign (place 15 []) (addrOf (place 3 (deref G′.mir ∷ field 0 ∷ field 0 ∷ []))))
-    (seq (call #register-replica·register·put-count (copy (place 15 []) ∷ copy (place 8 (field 4 ∷ [])) ∷ []) (place 14 []))
-    (seq (assign (place 16 []) (addrOf (place 3 (deref G′.mir ∷ field 0 ∷ field 1 ∷ []))))
-    (seq (call #register-replica·register·put-digest (copy (place 16 []) ∷ copy (place 8 (field 4 ∷ [])) ∷ []) (place 14 []))
-    (assign (place 3 (deref G′.mir ∷ field 0 ∷ field 2 ∷ [])) (rvOpd (copy (place 8 (field 4 ∷ field 3 ∷ []))))))))
+    seq (assign (place 16 []) (addrOf (place 4 (deref G′.mir ∷ field 0 ∷ field 0 ∷ []))))
+    (seq (call #register-replica·register·put-count (copy (place 16 []) ∷ copy (place 9 (field 4 ∷ [])) ∷ []) (place 15 []))
+    (seq (assign (place 17 []) (addrOf (place 4 (deref G′.mir ∷ field 0 ∷ field 1 ∷ []))))
+    (seq (call #register-replica·register·put-digest (copy (place 17 []) ∷ copy (place 9 (field 4 ∷ [])) ∷ []) (place 15 []))
+    (assign (place 4 (deref G′.mir ∷ field 0 ∷ field 2 ∷ [])) (rvOpd (copy (place 9 (field 4 ∷ field 3 ∷ []))))))))
 
 -- What several branches of a walk end in, said once: the first of them tells its context.
 abbrev once : {S T : Type 1} → (S → T) → S → T
@@ -281,20 +284,23 @@ module _ {M : Type 1} (𝓤 : URA M) (H : Heap 𝓤) (A : Atoms 𝓤) (W : Given
         lends-part ! fm Digests refl (array-makes 𝓤 H A W u8 (uint-makes 𝓤 H A W w8) 2048) digests-val digests-tell digests (puttingDigest prepared digests) p is (PutDigest 𝓤 H A at-mem run) known (to-digest digests b o) (goes-digest digests b o) (comes-digest digests b o) reads k
 
 -- The lifetimes κ and their shares q are those of register, message, verdicts and output, in this order; the register lies at offset o of block b.
-module _ {M : Type 1} (𝓤 : URA M) (H : Heap 𝓤) (A : Atoms 𝓤) (W : Given 𝓤 H A) (at-mem : Memory → SProp 𝓤) (run : Routine → Fun 𝓤) (κ₀ κ₁ κ₂ κ₃ : Lft) (bounds : AllOutlive 4 (thin.signature .outlives) (κ₀, (κ₁, (κ₂, (κ₃, tt))))) (q₀ q₁ q₂ q₃ : Share) (b o : ℕ) (γ : GName) (f : ℕ) (id : ReplicaId) (register : Register) (message verdicts out : RefT (List ℕ)) where
+module _ {M : Type 1} (𝓤 : URA M) (H : Heap 𝓤) (A : Atoms 𝓤) (W : Given 𝓤 H A) (at-mem : Memory → SProp 𝓤) (run : Routine → Fun 𝓤) (κ₀ κ₁ κ₂ κ₃ : Lft) (bounds : AllOutlive 4 (thin.signature .outlives) (κ₀, (κ₁, (κ₂, (κ₃, tt))))) (q₀ q₁ q₂ q₃ : Share) (b o : ℕ) (γ : GName) (f : ℕ) (id : ReplicaId) (withdrawn : ClientSet) (register : Register) (message verdicts out : RefT (List ℕ)) where
   abbrev Arg : Type 0
-  Arg = ℕ × (ReplicaId × (RefT Register × (RefT (List ℕ) × (RefT (List ℕ) × (RefT (List ℕ) × Unit {0})))))
+  Arg = ℕ × (ReplicaId × (ClientSet × (RefT Register × (RefT (List ℕ) × (RefT (List ℕ) × (RefT (List ℕ) × Unit {0}))))))
 
   abbrev a : Arg
-  a = (f, (id, (record { ptr = (b, o); name = γ; now = register }, (message, (verdicts, (out, tt))))))
+  a = (f, (id, (withdrawn, (record { ptr = (b, o); name = γ; now = register }, (message, (verdicts, (out, tt)))))))
 
   -- What `step` is given.
   abbrev part : RegisterReplica
-  part = registerReplica f id register
+  part = registerReplica f id withdrawn register
 
-  -- The machine values of the number and of the slices.
+  -- The machine values of the number, of the set and of the slices.
   abbrev iv : Val
   iv = LL.val I.the-type I′.the-laws id
+
+  abbrev cv : Val
+  cv = LL.val K.the-type K′.the-laws withdrawn
 
   abbrev mv : Val
   mv = sliceVal (message .ptr) (length (message .now))
@@ -305,8 +311,8 @@ module _ {M : Type 1} (𝓤 : URA M) (H : Heap 𝓤) (A : Atoms 𝓤) (W : Given
   abbrev ov : Val
   ov = sliceVal (out .ptr) (length (out .now))
 
-  abbrev vals : List Val × (List Val × (List Val × (List Val × (List Val × (List Val × Unit {0})))))
-  vals = (vint w8 f ∷ [], (iv ∷ [], (vptr b o ∷ [], (mv ∷ [], (vv ∷ [], (ov ∷ [], tt))))))
+  abbrev vals : List Val × (List Val × (List Val × (List Val × (List Val × (List Val × (List Val × Unit {0}))))))
+  vals = (vint w8 f ∷ [], (iv ∷ [], (cv ∷ [], (vptr b o ∷ [], (mv ∷ [], (vv ∷ [], (ov ∷ [], tt)))))))
 
   -- What the slices own, and the tokens of their lifetimes. The two shared slices are one item of the walk.
   abbrev Message : Fml
@@ -331,7 +337,7 @@ module _ {M : Type 1} (𝓤 : URA M) (H : Heap 𝓤) (A : Atoms 𝓤) (W : Given
   slots-are : Is G.the-row register (register-val register ∷ []) → Is S.the-row (register .slots) (slots-val (register .slots) ∷ [])
   slots-are is = LL.owed G.the-type G′.the-laws register _ is .0
 
-  -- What `step`'s triple binds outside: the register with f and id, by value, and the slices.
+  -- What `step`'s triple binds outside: the register with f, id and the withdrawn clients, by value, and the slices.
   abbrev to-step : Step 𝓤 H A at-mem run .Ghost
   to-step = (((κ₁, (κ₂, (κ₃, tt))), (q₁, (q₂, (q₃, tt))), tt, (part, (message, (verdicts, (out, tt)))), (LL.vals R.the-type R′.the-laws part, (mv ∷ [], (vv ∷ [], (ov ∷ [], tt))))), tt)
 
@@ -342,32 +348,33 @@ module _ {M : Type 1} (𝓤 : URA M) (H : Heap 𝓤) (A : Atoms 𝓤) (W : Given
       nothing ! $ move ! (2 ∷ 0 ∷ []) $ fjoin ! $ move ! (2 ∷ []) $ split ! $ move ! (1 ∷ 2 ∷ 0 ∷ []) $ fjoin ! $ move ! (1 ∷ 0 ∷ []) $ fjoin ! $
       owned ! R.the-row (Is R.the-row) (LL.makes R.the-type R′.the-plain 𝓤 H A) part _ is $ fjoin ! $ move ! (1 ∷ 0 ∷ []) $ join ! $ frame ! $ done !
 
-  -- f and id are numbers of their types.
-  module _ (is-f : Is u8 f (vint w8 f ∷ [])) (is-id : Is I.the-row id (iv ∷ [])) where
+  -- f, id and the set are values of their types.
+  module _ (is-f : Is u8 f (vint w8 f ∷ [])) (is-id : Is I.the-row id (iv ∷ [])) (is-withdrawn : Is K.the-row withdrawn (cv ∷ [])) where
     is-part : Is G.the-row register (register-val register ∷ []) → Is R.the-row part (LL.vals R.the-type R′.the-laws part)
-    is-part is-register = LL.owes R.the-type R′.the-laws part (is-f, (is-id, (is-register, tt)))
+    is-part is-register = LL.owes R.the-type R′.the-laws part (is-f, (is-id, (is-register, (is-withdrawn, tt))))
 
     -- The exit, where `step` returned `stepped` and left `new` in the output.
-    exits : (stepped : Stepped) (new : List ℕ) (v : Val) → Steps part (message .now) (verdicts .now) (out .now) (stepped .answer) (registerReplica f id (stepped .replica .register)) new → length new ≡ length (out .now) → Is N.the-row (stepped .answer) (v ∷ [])
+    exits : (stepped : Stepped) (new : List ℕ) (v : Val) → Steps part (message .now) (verdicts .now) (out .now) (stepped .answer) (registerReplica f id withdrawn (stepped .replica .register)) new → length new ≡ length (out .now) → Is N.the-row (stepped .answer) (v ∷ [])
         → ent 𝓤 (⋆ 𝓤 H A (‵ (fobs γ (G.the-row .coded .code (stepped .replica .register))) ∷ ‵ (fbor κ₀ (Body (mem G.the-row) b o γ)) ∷ ‵ (flft κ₀ q₀) ∷ Tokens ∷ ‵ (finally u8 (out .name) new) ∷ Shared ∷ [])) (Post v)
     exits stepped new v steps long is =
         qed W (‵ (fobs γ (G.the-row .coded .code (stepped .replica .register))) ∷ ‵ (fbor κ₀ (Body (mem G.the-row) b o γ)) ∷ ‵ (flft κ₀ q₀) ∷ Tokens ∷ ‵ (finally u8 (out .name) new) ∷ Shared ∷ []) ∵
-        suffices ! _ (ends-at 𝓤 H A thin.ended stayed (thin.clauses 𝓤 H A at-mem run) W (((κ₀, (κ₁, (κ₂, (κ₃, tt)))), (q₀, (q₁, (q₂, (q₃, tt)))), bounds, a, vals), tt) v (stepped .answer) (tt, (tt, (stepped .replica .register, (tt, (tt, (new, tt)))))) (tt, (tt, (tt, (tt, (tt, (long, tt))))))) $
+        suffices ! _ (ends-at 𝓤 H A thin.ended stayed (thin.clauses 𝓤 H A at-mem run) W (((κ₀, (κ₁, (κ₂, (κ₃, tt)))), (q₀, (q₁, (q₂, (q₃, tt)))), bounds, a, vals), tt) v (stepped .answer) (tt, (tt, (tt, (stepped .replica .register, (tt, (tt, (new, tt))))))) (tt, (tt, (tt, (tt, (tt, (tt, (long, tt)))))))) $
         says ! steps $
         -- the tokens
         move ! (2 ∷ 3 ∷ []) $ join ! $ frame ! $
         -- the register's reference, at the register that was stored
         feqI ! (List Val) (vptr b o ∷ []) (vptr b o ∷ []) refl $ fjoin3 ! $
-        -- the output's last list, the shared slices, id and f
+        -- the output's last list, the shared slices, the withdrawn clients, id and f
         nothing ! $ move ! (2 ∷ 0 ∷ []) $ fjoin ! $ move ! (2 ∷ []) $ split ! $ move ! (1 ∷ 2 ∷ 0 ∷ []) $ fjoin ! $ move ! (1 ∷ 0 ∷ []) $ fjoin ! $
         move ! (1 ∷ 0 ∷ []) $ fjoin ! $
+        owned ! K.the-row (Is K.the-row) (LL.makes K.the-type K′.the-plain 𝓤 H A) withdrawn _ is-withdrawn $ fjoin ! $
         owned ! I.the-row (Is I.the-row) (LL.makes I.the-type I′.the-plain 𝓤 H A) id _ is-id $ fjoin ! $ owned ! u8 (Is u8) (uint-makes 𝓤 H A W w8) f _ is-f $ fjoin ! $
         owned ! N.the-row (Is N.the-row) (EL.makes N.the-type N′.the-plain 𝓤 H A) (stepped .answer) _ is $ move ! (1 ∷ 0 ∷ []) $ done !
 
     -- The two ends of the walk, with the locals at their blocks.
-    module _ (C : Calls 𝓤 H) (Λ : Loops 𝓤 H) (l₀ l₁ l₂ l₃ l₄ l₅ l₆ l₇ l₈ l₉ l₁₀ l₁₁ l₁₂ l₁₃ l₁₄ l₁₅ l₁₆ : ℕ) (stepped : Stepped) (w : Val) where
+    module _ (C : Calls 𝓤 H) (Λ : Loops 𝓤 H) (l₀ l₁ l₂ l₃ l₄ l₅ l₆ l₇ l₈ l₉ l₁₀ l₁₁ l₁₂ l₁₃ l₁₄ l₁₅ l₁₆ l₁₇ : ℕ) (stepped : Stepped) (w : Val) where
       abbrev E : Env 𝓤 H
-      E = at-blocks (code.function .locals) (l₀ ∷ l₁ ∷ l₂ ∷ l₃ ∷ l₄ ∷ l₅ ∷ l₆ ∷ l₇ ∷ l₈ ∷ l₉ ∷ l₁₀ ∷ l₁₁ ∷ l₁₂ ∷ l₁₃ ∷ l₁₄ ∷ l₁₅ ∷ l₁₆ ∷ [])
+      E = at-blocks (code.function .locals) (l₀ ∷ l₁ ∷ l₂ ∷ l₃ ∷ l₄ ∷ l₅ ∷ l₆ ∷ l₇ ∷ l₈ ∷ l₉ ∷ l₁₀ ∷ l₁₁ ∷ l₁₂ ∷ l₁₃ ∷ l₁₄ ∷ l₁₅ ∷ l₁₆ ∷ l₁₇ ∷ [])
 
       abbrev room : ℕ → Item 𝓤
       room k = ‵ (froom (spotOf 𝓤 H E k .0) (spotOf 𝓤 H E k .1) 0)
@@ -379,16 +386,16 @@ module _ {M : Type 1} (𝓤 : URA M) (H : Heap 𝓤) (A : Atoms 𝓤) (W : Given
       slot-put : FmC 𝓤 H (W .laws) C → Triple 𝓤 (C #register-replica·register·put-count) (PutCount 𝓤 H A at-mem run) → Triple 𝓤 (C #register-replica·register·put-digest) (PutDigest 𝓤 H A at-mem run)
           → Is G.the-row register (register-val register ∷ []) → Is D.the-row stepped (w ∷ []) → Changes part stepped → Holds (not (stepped .holds)) → Holds (stepped .prepares)
           → {q : After 𝓤 H} {prepares : Val} {i₀ i₁ i₂ i₃ i₄ i₅ i₇ i₈ i₉ d₁₆ d₁₅ d₁₄ d₁₃ j₁₂ d₁₂ j₁₁ d₁₁ j₁₀ d₁₀ j₉ d₉ d₈ j₇ d₇ j₆ d₆ j₅ d₅ j₄ d₄ : Item 𝓤} {Δ : List (Item 𝓤)}
-          → Seq Go W (i₀ ∷ i₁ ∷ i₂ ∷ i₃ ∷ i₄ ∷ i₅ ∷ ‵ (fat fullShare (lone (G.the-row .mir)) b o (register-val (stepped .replica .register))) ∷ i₇ ∷ i₈ ∷ i₉ ∷ room 16 ∷ d₁₆ ∷ room 15 ∷ d₁₅ ∷ room 14 ∷ d₁₄ ∷ room 13 ∷ d₁₃ ∷ j₁₂ ∷ d₁₂ ∷ j₁₁ ∷ d₁₁ ∷ j₁₀ ∷ d₁₀ ∷ j₉ ∷ d₉ ∷ ‵ (fat fullShare (spotOf 𝓤 H E 8 .0) l₈ 0 (LL.val D.the-type D′.the-laws stepped)) ∷ d₈ ∷ j₇ ∷ d₇ ∷ j₆ ∷ d₆ ∷ j₅ ∷ d₅ ∷ j₄ ∷ d₄ ∷ ‵ (fat fullShare (spotOf 𝓤 H E 3 .0) l₃ 0 (vptr b o)) ∷ Δ) (prop (post 𝓤 H q next))
-          → Seq Go W (i₀ ∷ i₁ ∷ i₂ ∷ i₃ ∷ i₄ ∷ i₅ ∷ ‵ (fat fullShare (lone (G.the-row .mir)) b o (register-val register)) ∷ i₇ ∷ i₈ ∷ i₉ ∷ room 16 ∷ d₁₆ ∷ room 15 ∷ d₁₅ ∷ room 14 ∷ d₁₄ ∷ ‵ (fat fullShare (spotOf 𝓤 H E 13 .0) l₁₃ 0 prepares) ∷ d₁₃ ∷ j₁₂ ∷ d₁₂ ∷ j₁₁ ∷ d₁₁ ∷ j₁₀ ∷ d₁₀ ∷ j₉ ∷ d₉ ∷ ‵ (fat fullShare (spotOf 𝓤 H E 8 .0) l₈ 0 (LL.val D.the-type D′.the-laws stepped)) ∷ d₈ ∷ j₇ ∷ d₇ ∷ j₆ ∷ d₆ ∷ j₅ ∷ d₅ ∷ j₄ ∷ d₄ ∷ ‵ (fat fullShare (spotOf 𝓤 H E 3 .0) l₃ 0 (vptr b o)) ∷ Δ) (runs C Λ E slot-code q)
+          → Seq Go W (i₀ ∷ i₁ ∷ i₂ ∷ i₃ ∷ i₄ ∷ i₅ ∷ ‵ (fat fullShare (lone (G.the-row .mir)) b o (register-val (stepped .replica .register))) ∷ i₇ ∷ i₈ ∷ i₉ ∷ room 17 ∷ d₁₆ ∷ room 16 ∷ d₁₅ ∷ room 15 ∷ d₁₄ ∷ room 14 ∷ d₁₃ ∷ j₁₂ ∷ d₁₂ ∷ j₁₁ ∷ d₁₁ ∷ j₁₀ ∷ d₁₀ ∷ j₉ ∷ d₉ ∷ ‵ (fat fullShare (spotOf 𝓤 H E 9 .0) l₉ 0 (LL.val D.the-type D′.the-laws stepped)) ∷ d₈ ∷ j₇ ∷ d₇ ∷ j₆ ∷ d₆ ∷ j₅ ∷ d₅ ∷ j₄ ∷ d₄ ∷ ‵ (fat fullShare (spotOf 𝓤 H E 4 .0) l₄ 0 (vptr b o)) ∷ Δ) (prop (post 𝓤 H q next))
+          → Seq Go W (i₀ ∷ i₁ ∷ i₂ ∷ i₃ ∷ i₄ ∷ i₅ ∷ ‵ (fat fullShare (lone (G.the-row .mir)) b o (register-val register)) ∷ i₇ ∷ i₈ ∷ i₉ ∷ room 17 ∷ d₁₆ ∷ room 16 ∷ d₁₅ ∷ room 15 ∷ d₁₄ ∷ ‵ (fat fullShare (spotOf 𝓤 H E 14 .0) l₁₄ 0 prepares) ∷ d₁₃ ∷ j₁₂ ∷ d₁₂ ∷ j₁₁ ∷ d₁₁ ∷ j₁₀ ∷ d₁₀ ∷ j₉ ∷ d₉ ∷ ‵ (fat fullShare (spotOf 𝓤 H E 9 .0) l₉ 0 (LL.val D.the-type D′.the-laws stepped)) ∷ d₈ ∷ j₇ ∷ d₇ ∷ j₆ ∷ d₆ ∷ j₅ ∷ d₅ ∷ j₄ ∷ d₄ ∷ ‵ (fat fullShare (spotOf 𝓤 H E 4 .0) l₄ 0 (vptr b o)) ∷ Δ) (runs C Λ E slot-code q)
       slot-put fm known-count known-digest is-register is-stepped changes rests prepares ending =
-          -- _15 = the counts, lent; _14 = put_count(_15, stepped.prepared)
+          -- _16 = the counts, lent; _15 = put_count(_16, stepped.prepared)
           assigns ! (addr ! (from ! (hop ! (look ! 36 refl) (fld ! refl (fld ! refl (stop !)))))) (from ! (stop !)) (init ! 12 refl (tt, tt)) $
           move ! (6 ∷ []) $
           puts-count 𝓤 H A W at-mem run (stepped .prepared) (is-prepared stepped _ is-stepped) (changes .first, changes .last) fm known-count (register .slots .counts) (sub ! 0 refl (sub ! 0 refl (whole !))) (counts-are (register .slots) (slots-are is-register))
           (λ α δ. and-then ! (load ! (from ! (stop !)) (look ! 14 refl)) (and-then ! (load ! (from ! (fld ! (prepared-field .1) (stop !))) (look-in ! 28 (sub ! 4 (prepared-field .1) (whole !)))) (no-more !))) (λ u is-unit.
           land ! (from ! (stop !)) (init ! 14 refl (nothing-lawful 𝓤 H A W .typed tt _ is-unit .0)) $
-          -- _16 = the digests, lent; _14 = put_digest(_16, stepped.prepared)
+          -- _17 = the digests, lent; _15 = put_digest(_17, stepped.prepared)
           assigns ! (addr ! (from ! (hop ! (look ! 36 refl) (fld ! refl (fld ! refl (stop !)))))) (from ! (stop !)) (init ! 10 refl (tt, tt)) $
           puts-digest 𝓤 H A W at-mem run (stepped .prepared) (is-prepared stepped _ is-stepped) (changes .first, changes .last) fm known-digest (register .slots .digests) (sub ! 1 refl (sub ! 0 refl (whole !))) (digests-are (register .slots) (slots-are is-register))
           (λ α δ. and-then ! (load ! (from ! (stop !)) (look ! 12 refl)) (and-then ! (load ! (from ! (fld ! (prepared-field .1) (stop !))) (look-in ! 28 (sub ! 4 (prepared-field .1) (whole !)))) (no-more !))) (λ u′ is-unit′.
@@ -398,59 +405,29 @@ module _ {M : Type 1} (𝓤 : URA M) (H : Heap 𝓤) (A : Atoms 𝓤) (W : Given
           rewrite ! 0 (λ (r : Register). ‵ (fat fullShare (lone (G.the-row .mir)) b o (register-val r))) (slots-stored part stepped changes rests prepares) refl $ forget ! 10 refl $ forget ! 12 refl $ forget ! 14 refl $ forget ! 16 refl $ move ! (1 ∷ 2 ∷ 3 ∷ 4 ∷ 5 ∷ 6 ∷ 0 ∷ []) $ ending))
 
       -- The answer, and the end: of the locals the register's reference, the result of `step` and its first flag are read or set still.
-      ends : (new : List ℕ) (holds : Val) → Steps part (message .now) (verdicts .now) (out .now) (stepped .answer) (registerReplica f id (stepped .replica .register)) new → length new ≡ length (out .now) → Is D.the-row stepped (w ∷ []) → (i₂ i₃ i₄ i₅ last : Item 𝓤)
+      ends : (new : List ℕ) (holds : Val) → Steps part (message .now) (verdicts .now) (out .now) (stepped .answer) (registerReplica f id withdrawn (stepped .replica .register)) new → length new ≡ length (out .now) → Is D.the-row stepped (w ∷ []) → (i₂ i₃ i₄ i₅ last : Item 𝓤)
           → Seq Go W (Tokens ∷ ‵ (finally u8 (out .name) new) ∷ i₂ ∷ i₃ ∷ i₄ ∷ i₅ ∷ ‵ (fat fullShare (lone (G.the-row .mir)) b o (register-val (stepped .replica .register)))
           ∷ ‵ (fobor κ₀ q₀ (Body (mem G.the-row) b o γ)) ∷ ‵ (fobs γ (G.the-row .coded .code register)) ∷ ‵ (fauth γ (G.the-row .coded .code register))
-          ∷ room 16 ∷ dies 16 ∷ room 15 ∷ dies 15 ∷ room 14 ∷ dies 14 ∷ room 13 ∷ dies 13 ∷ ‵ (fat fullShare (spotOf 𝓤 H E 12 .0) l₁₂ 0 holds) ∷ dies 12 ∷ room 11 ∷ dies 11 ∷ room 10 ∷ dies 10 ∷ room 9 ∷ dies 9 ∷ ‵ (fat fullShare (spotOf 𝓤 H E 8 .0) l₈ 0 (LL.val D.the-type D′.the-laws stepped)) ∷ dies 8 ∷ room 7 ∷ dies 7 ∷ room 6 ∷ dies 6 ∷ room 5 ∷ dies 5 ∷ room 4 ∷ dies 4 ∷ ‵ (fat fullShare (spotOf 𝓤 H E 3 .0) l₃ 0 (vptr b o)) ∷ dies 3 ∷ room 2 ∷ dies 2 ∷ room 1 ∷ dies 1 ∷ room 0 ∷ dies 0 ∷ Shared ∷ last ∷ [])
+          ∷ room 17 ∷ dies 17 ∷ room 16 ∷ dies 16 ∷ room 15 ∷ dies 15 ∷ room 14 ∷ dies 14 ∷ ‵ (fat fullShare (spotOf 𝓤 H E 13 .0) l₁₃ 0 holds) ∷ dies 13 ∷ room 12 ∷ dies 12 ∷ room 11 ∷ dies 11 ∷ room 10 ∷ dies 10 ∷ ‵ (fat fullShare (spotOf 𝓤 H E 9 .0) l₉ 0 (LL.val D.the-type D′.the-laws stepped)) ∷ dies 9 ∷ room 8 ∷ dies 8 ∷ room 7 ∷ dies 7 ∷ room 6 ∷ dies 6 ∷ room 5 ∷ dies 5 ∷ ‵ (fat fullShare (spotOf 𝓤 H E 4 .0) l₄ 0 (vptr b o)) ∷ dies 4 ∷ room 3 ∷ dies 3 ∷ room 2 ∷ dies 2 ∷ room 1 ∷ dies 1 ∷ room 0 ∷ dies 0 ∷ Shared ∷ last ∷ [])
           (prop (Wp 𝓤 H C Λ E code-of.t-8 (post 𝓤 H (atRet E Post))))
       ends new holds steps long is-stepped i₂ i₃ i₄ i₅ last =
           exec ! C Λ E code-of.t-8 (atRet E Post) $
-          assigns ! (of-opd ! (load ! (from ! (fld ! refl (stop !))) (look-in ! 26 (sub ! 0 refl (whole !))))) (from ! (stop !)) (init ! 42 refl (EL.lawful N.the-type N′.the-laws 𝓤 H A W tt .typed (stepped .answer) _ (LL.owed D.the-type D′.the-laws stepped _ is-stepped .0) .0)) $
+          assigns ! (of-opd ! (load ! (from ! (fld ! refl (stop !))) (look-in ! 26 (sub ! 0 refl (whole !))))) (from ! (stop !)) (init ! 44 refl (EL.lawful N.the-type N′.the-laws 𝓤 H A W tt .typed (stepped .answer) _ (LL.owed D.the-type D′.the-laws stepped _ is-stepped .0) .0)) $
           move ! (6 ∷ 7 ∷ 8 ∷ 9 ∷ []) $ cell-in ! G.the-type G′.the-laws G′.the-plain fullShare (stepped .replica .register) b o (is-next stepped _ is-stepped) $ close-ref ! tt (mem G.the-row) (stepped .replica .register) {b = b} {o = o} $
-          returns ! (look ! 41 refl) $ forget ! 17 refl $ forget ! 25 refl $ forget ! 35 refl $ forget ! 41 refl $
-          move ! (41 ∷ 42 ∷ []) $ free1 ! $ move ! (39 ∷ 40 ∷ []) $ free1 ! $ move ! (37 ∷ 38 ∷ []) $ free1 ! $ move ! (35 ∷ 36 ∷ []) $ free1 ! $ move ! (33 ∷ 34 ∷ []) $ free1 ! $ move ! (31 ∷ 32 ∷ []) $ free1 ! $ move ! (29 ∷ 30 ∷ []) $ free1 ! $ move ! (27 ∷ 28 ∷ []) $ free1 ! $ move ! (25 ∷ 26 ∷ []) $ free1 ! $ move ! (23 ∷ 24 ∷ []) $ free1 ! $ move ! (21 ∷ 22 ∷ []) $ free1 ! $ move ! (19 ∷ 20 ∷ []) $ free1 ! $ move ! (17 ∷ 18 ∷ []) $ free1 ! $ move ! (15 ∷ 16 ∷ []) $ free1 ! $ move ! (13 ∷ 14 ∷ []) $ free1 ! $ move ! (11 ∷ 12 ∷ []) $ free1 ! $ move ! (9 ∷ 10 ∷ []) $ free1 ! $ free0 ! $
+          returns ! (look ! 43 refl) $ forget ! 17 refl $ forget ! 25 refl $ forget ! 35 refl $ forget ! 43 refl $
+          move ! (43 ∷ 44 ∷ []) $ free1 ! $ move ! (41 ∷ 42 ∷ []) $ free1 ! $ move ! (39 ∷ 40 ∷ []) $ free1 ! $ move ! (37 ∷ 38 ∷ []) $ free1 ! $ move ! (35 ∷ 36 ∷ []) $ free1 ! $ move ! (33 ∷ 34 ∷ []) $ free1 ! $ move ! (31 ∷ 32 ∷ []) $ free1 ! $ move ! (29 ∷ 30 ∷ []) $ free1 ! $ move ! (27 ∷ 28 ∷ []) $ free1 ! $ move ! (25 ∷ 26 ∷ []) $ free1 ! $ move ! (23 ∷ 24 ∷ []) $ free1 ! $ move ! (21 ∷ 22 ∷ []) $ free1 ! $ move ! (19 ∷ 20 ∷ []) $ free1 ! $ move ! (17 ∷ 18 ∷ []) $ free1 ! $ move ! (15 ∷ 16 ∷ []) $ free1 ! $ move ! (13 ∷ 14 ∷ []) $ free1 ! $ move ! (11 ∷ 12 ∷ []) $ free1 ! $ move ! (9 ∷ 10 ∷ []) $ free1 ! $ free0 ! $
           keep ! (0 ∷ 1 ∷ 2 ∷ 3 ∷ 4 ∷ 9 ∷ []) $ by ! (exits stepped new _ steps long (LL.owed D.the-type D′.the-laws stepped _ is-stepped .0))
 
-    module _ (C : Calls 𝓤 H) (Λ : Loops 𝓤 H) (fm : FmC 𝓤 H (W .laws) C) (known : Triple 𝓤 (C #register-replica·step) (Step 𝓤 H A at-mem run)) (known-count : Triple 𝓤 (C #register-replica·register·put-count) (PutCount 𝓤 H A at-mem run)) (known-digest : Triple 𝓤 (C #register-replica·register·put-digest) (PutDigest 𝓤 H A at-mem run)) where
-      walk : Is (ShrSlice (named 1) κ₁ u8) message (mv ∷ []) → Is (ShrSlice (named 2) κ₂ u8) verdicts (vv ∷ []) → Is (MutSlice (named 3) κ₃ u8) out (ov ∷ [])
-          → ent 𝓤 (onEntry 𝓤 H A thin.signature (κ₀, (κ₁, (κ₂, (κ₃, tt)))) (q₀, (q₁, (q₂, (q₃, tt)))) a vals) (WpFn 𝓤 H C Λ code.function (vint w8 f ∷ iv ∷ vptr b o ∷ mv ∷ vv ∷ ov ∷ []) Post)
-      walk is-message is-verdicts is-out =
-          qed W ((‵ (flft κ₀ q₀) ⊛ Tokens) ∷ ‵ (owns (u8 ∷ I.the-row ∷ MutRef (named 0) κ₀ G.the-row ∷ ShrSlice (named 1) κ₁ u8 ∷ ShrSlice (named 2) κ₂ u8 ∷ MutSlice (named 3) κ₃ u8 ∷ []) a vals) ∷ []) ∵
-          move ! (1 ∷ []) $ fsplit ! $ move ! (1 ∷ []) $ fsplit ! $ move ! (1 ∷ []) $ fsplit ! $ move ! (1 ∷ []) $ fsplit ! $ move ! (1 ∷ []) $ fsplit ! $ move ! (1 ∷ []) $ fsplit ! $
-          -- [output; true; verdicts; message; the register's reference; id; f; all tokens]
-          keep ! (4 ∷ 0 ∷ 1 ∷ 2 ∷ 3 ∷ 7 ∷ []) $ fsplit3 ! $ drop ! $ move ! (6 ∷ []) $ split ! $
-          -- [the register's token; the other tokens; obs; the borrow; output; true; verdicts; message]
-          move ! (6 ∷ []) $ use1 W (‵ Verdicts ⊛ ‵ Verdicts) (shr-slice-copy 𝓤 H A W (named 2) κ₂ u8 .twice verdicts (vv ∷ [])) $ split ! $
-          move ! (8 ∷ []) $ use1 W (‵ Message ⊛ ‵ Message) (shr-slice-copy 𝓤 H A W (named 1) κ₁ u8 .twice message (mv ∷ [])) $ split ! $
-          move ! (0 ∷ 2 ∷ []) $ join ! $ move ! (1 ∷ 2 ∷ []) $ join ! $ move ! (4 ∷ 5 ∷ 2 ∷ 3 ∷ 6 ∷ 0 ∷ 1 ∷ []) $
-          -- [obs; the borrow; the register's token; the other tokens; output; shared slices, twice; true]
-          enter ! C Λ code.function (vint w8 f ∷ iv ∷ vptr b o ∷ mv ∷ vv ∷ ov ∷ []) _ $
-          alloc1 ! (λ l₀. alloc1 ! (λ l₁. alloc1 ! (λ l₂. alloc1 ! (λ l₃. alloc1 ! (λ l₄. alloc1 ! (λ l₅. alloc1 ! (λ l₆. alloc1 ! (λ l₇. alloc1 ! (λ l₈. alloc1 ! (λ l₉. alloc1 ! (λ l₁₀. alloc1 ! (λ l₁₁. alloc1 ! (λ l₁₂. alloc1 ! (λ l₁₃. alloc1 ! (λ l₁₄. alloc1 ! (λ l₁₅. alloc1 ! (λ l₁₆. alloc0 ! $ params1 ! $
-          pass1 ! (init ! 30 refl (uint-lawful 𝓤 H A W w8 .typed f _ is-f .0)) $ pass1 ! (init ! 28 refl (LL.lawful I.the-type I′.the-laws 𝓤 H A W .typed id _ is-id .0)) $ pass1 ! (init ! 26 refl (tt, tt)) $
-          pass1 ! (init ! 24 refl (shr-slice-lawful 𝓤 H A W (named 1) κ₁ u8 .typed message (mv ∷ []) is-message .0)) $
-          pass1 ! (init ! 22 refl (shr-slice-lawful 𝓤 H A W (named 2) κ₂ u8 .typed verdicts (vv ∷ []) is-verdicts .0)) $ pass1 ! (init ! 20 refl (mut-slice-lawful 𝓤 H A W (named 3) κ₃ u8 .typed out (ov ∷ []) is-out .0)) $ pass0 ! $
-          -- the borrow is opened
-          move ! (34 ∷ 35 ∷ 36 ∷ []) $ open-ref ! tt (mem G.the-row) {b = b} {o = o} $ cell-out ! G.the-type G′.the-laws fullShare register b o (λ is-register.
-          -- [the register's cell; the open borrow; obs; auth; _16; …; _15; …; … _1; …; room for _0; …; the other tokens; output; shared slices, twice; true]
-          -- before (_7) = RegisterReplica { f, id, *register }
-          assigns ! (of-opd ! (load ! (from ! (hop ! (look ! 30 refl) (stop !))) (look ! 0 refl))) (from ! (stop !)) (init ! 18 refl (LL.lawful G.the-type G′.the-laws 𝓤 H A W .typed register _ is-register .0)) $
-          assigns ! (agg ! (and-then ! (load ! (from ! (stop !)) (look ! 34 refl)) (and-then ! (load ! (from ! (stop !)) (look ! 32 refl)) (and-then ! (load ! (from ! (stop !)) (look ! 18 refl)) (no-more !))))) (from ! (stop !)) (init ! 22 refl (LL.lawful R.the-type R′.the-laws 𝓤 H A W .typed part _ (is-part is-register) .0)) $
-          -- _11 = the output, lent again
-          assigns ! (addr ! (from ! (fld ! refl (hop ! (look-in ! 24 (sub ! 0 refl (whole !))) (stop !))))) (from ! (stop !)) (init ! 16 refl (tt, tt)) $
-          assigns ! (agg ! (and-then ! (load ! (from ! (stop !)) (look ! 16 refl)) (and-then ! (load ! (from ! (fld ! refl (stop !))) (look-in ! 24 (sub ! 1 refl (whole !)))) (no-more !)))) (from ! (stop !)) (init ! 14 refl (mut-slice-lawful 𝓤 H A W (named 3) κ₃ u8 .typed out (ov ∷ []) is-out .0)) $
-          -- stepped (_8) = step(before, message, verdicts, _11)
-          move ! (38 ∷ 39 ∷ 40 ∷ []) $ use3 W (raw (Step 𝓤 H A at-mem run .pre to-step)) (goes-step (is-part is-register)) $
-          calls-at ! fm (Step 𝓤 H A at-mem run) known to-step (and-then ! (load ! (from ! (stop !)) (look ! 23 refl)) (and-then ! (load ! (from ! (stop !)) (look ! 29 refl)) (and-then ! (load ! (from ! (stop !)) (look ! 27 refl)) (and-then ! (load ! (from ! (stop !)) (look ! 15 refl)) (no-more !))))) (λ w.
-          use1 W (later (some (λ (stepped : Stepped). (Tokens ⊛ ‵ (D.the-row .own stepped (w ∷ []))) ⊛ raw (ensured 𝓤 H A step.ended (step.clauses 𝓤 H A at-mem run) (κ₁, (κ₂, (κ₃, tt))) (part, (message, (verdicts, (out, tt)))) tt stepped)))) (id⊢ 𝓤 _) $ await ! tt $ pick ! (λ stepped.
-          split ! $ move ! (1 ∷ []) $ use1 W (some (λ (zs : Unit {0} × (Unit {0} × (Unit {0} × (List ℕ × Unit {0})))). ‵ (lasts step.ended (κ₁, (κ₂, (κ₃, tt))) (part, (message, (verdicts, (out, tt)))) zs) ⊛ raw (fact 𝓤 (Steps part (message .now) (verdicts .now) (out .now) (stepped .answer) (stepped .replica) (zs .1 .1 .1 .0) × Changes part stepped)))) (id⊢ 𝓤 _) $ pick ! (λ zs.
-          split ! $ move ! (1 ∷ []) $ heard ! (Steps part (message .now) (verdicts .now) (out .now) (stepped .answer) (stepped .replica) (zs .1 .1 .1 .0) × Changes part stepped) (λ both.
-          fsplit ! $ move ! (1 ∷ []) $ fsplit ! $ move ! (1 ∷ []) $ fsplit ! $ move ! (1 ∷ []) $ fsplit ! $ fsplit ! $ move ! (1 ∷ []) $ feqL ! (λ long.
-          move ! (5 ∷ []) $ split ! $ move ! (1 ∷ []) $ facts ! D.the-row (Is D.the-row) (shows 𝓤 H A D.the-row) stepped (w ∷ []) (λ is-stepped.
-          -- [the other tokens; the output's last list; true; …; …; …; the register's cell; the open borrow; obs; auth; _16; …; _0; …; shared slices; true]
-          land ! (from ! (stop !)) (init ! 26 refl (LL.lawful D.the-type D′.the-laws 𝓤 H A W .typed stepped _ is-stepped .0)) $ rewrite ! 26 (λ (u : Val). ‵ (fat fullShare D′.mir l₈ 0 u)) (ap only (LL.tells D.the-type D′.the-laws stepped _ is-stepped)) refl $
-          -- what is not read any more is forgotten: the contexts that follow are smaller
-          forget ! 20 refl $ forget ! 22 refl $ forget ! 24 refl $ forget ! 28 refl $ forget ! 30 refl $ forget ! 32 refl $ forget ! 34 refl $ forget ! 38 refl $ forget ! 40 refl $
-          -- _12 = stepped.holds
+      -- What `step` says that it changed is stored, and then the end.
+      stores : FmC 𝓤 H (W .laws) C → Triple 𝓤 (C #register-replica·register·put-count) (PutCount 𝓤 H A at-mem run) → Triple 𝓤 (C #register-replica·register·put-digest) (PutDigest 𝓤 H A at-mem run)
+          → (new : List ℕ) → Steps part (message .now) (verdicts .now) (out .now) (stepped .answer) (stepped .replica) new × Changes part stepped → length new ≡ length (out .now)
+          → Is G.the-row register (register-val register ∷ []) → Is D.the-row stepped (w ∷ []) → (i₂ i₃ i₄ i₅ last : Item 𝓤)
+          → Seq Go W (Tokens ∷ ‵ (finally u8 (out .name) new) ∷ i₂ ∷ i₃ ∷ i₄ ∷ i₅ ∷ ‵ (fat fullShare (lone (G.the-row .mir)) b o (register-val register))
+          ∷ ‵ (fobor κ₀ q₀ (Body (mem G.the-row) b o γ)) ∷ ‵ (fobs γ (G.the-row .coded .code register)) ∷ ‵ (fauth γ (G.the-row .coded .code register))
+          ∷ room 17 ∷ dies 17 ∷ room 16 ∷ dies 16 ∷ room 15 ∷ dies 15 ∷ room 14 ∷ dies 14 ∷ room 13 ∷ dies 13 ∷ room 12 ∷ dies 12 ∷ room 11 ∷ dies 11 ∷ room 10 ∷ dies 10 ∷ ‵ (fat fullShare (spotOf 𝓤 H E 9 .0) l₉ 0 (LL.val D.the-type D′.the-laws stepped)) ∷ dies 9 ∷ room 8 ∷ dies 8 ∷ room 7 ∷ dies 7 ∷ room 6 ∷ dies 6 ∷ room 5 ∷ dies 5 ∷ ‵ (fat fullShare (spotOf 𝓤 H E 4 .0) l₄ 0 (vptr b o)) ∷ dies 4 ∷ room 3 ∷ dies 3 ∷ room 2 ∷ dies 2 ∷ room 1 ∷ dies 1 ∷ room 0 ∷ dies 0 ∷ Shared ∷ last ∷ [])
+          (runs C Λ E code-of.t-6 (atRet E Post))
+      stores fm known-count known-digest new both long is-register is-stepped i₂ i₃ i₄ i₅ last =
+          -- _13 = stepped.holds
           assigns ! (of-opd ! (load ! (from ! (fld ! refl (stop !))) (look-in ! 26 (sub ! 1 refl (whole !))))) (from ! (stop !)) (init ! 18 refl (tt, tt)) $
           once
           (λ ending.
@@ -459,28 +436,70 @@ module _ {M : Type 1} (𝓤 : URA M) (H : Heap 𝓤) (A : Atoms 𝓤) (W : Given
           (λ holds.
           assigns-last ! (of-opd ! (load ! (from ! (fld ! (held-field .1) (stop !))) (look-in ! 26 (sub ! 5 (held-field .1) (whole !))))) (from ! (hop ! (look ! 36 refl) (fld ! refl (stop !)))) (store-in ! 6 (sub ! 1 refl (whole !)) (LL.lawful L.the-type L′.the-laws 𝓤 H A W .typed (stepped .held) _ (LL.owed D.the-type D′.the-laws stepped _ is-stepped .1 .1 .1 .1 .1 .0) .0)) $
           rewrite ! 6 (λ (r : Register). ‵ (fat fullShare (lone (G.the-row .mir)) b o (register-val r))) (held-stored part stepped (both .1) holds) refl $ ending)
-          -- _13 = stepped.prepares
+          -- _14 = stepped.prepares
           (λ rests. assigns ! (of-opd ! (load ! (from ! (fld ! refl (stop !))) (look-in ! 26 (sub ! 2 refl (whole !))))) (from ! (stop !)) (init ! 16 refl (tt, tt)) $
           branches ! (load ! (from ! (stop !)) (look ! 16 refl))
           -- a slot is put
-          (λ prepares. slot-put C Λ l₀ l₁ l₂ l₃ l₄ l₅ l₆ l₇ l₈ l₉ l₁₀ l₁₁ l₁₂ l₁₃ l₁₄ l₁₅ l₁₆ stepped w fm known-count known-digest is-register is-stepped (both .1) rests prepares ending)
+          (λ prepares. slot-put fm known-count known-digest is-register is-stepped (both .1) rests prepares ending)
           -- nothing is stored
           (λ keeps. skips ! $
           rewrite ! 6 (λ (r : Register). ‵ (fat fullShare (lone (G.the-row .mir)) b o (register-val r))) (nothing-stored part stepped (both .1) rests keeps) refl $ forget ! 16 refl $ ending)))
           -- the answer, and the end
-          (ends C Λ l₀ l₁ l₂ l₃ l₄ l₅ l₆ l₇ l₈ l₉ l₁₀ l₁₁ l₁₂ l₁₃ l₁₄ l₁₅ l₁₆ stepped w (zs .1 .1 .1 .0) _ (lent-steps f id register stepped _ _ _ _ (both .0) (both .1)) long is-stepped _ _ _ _ _)))))))))))))))))))))))))
+          (ends new _ (lent-steps f id withdrawn register stepped _ _ _ _ (both .0) (both .1)) long is-stepped _ _ _ _ _)
+
+    module _ (C : Calls 𝓤 H) (Λ : Loops 𝓤 H) (fm : FmC 𝓤 H (W .laws) C) (known : Triple 𝓤 (C #register-replica·step) (Step 𝓤 H A at-mem run)) (known-count : Triple 𝓤 (C #register-replica·register·put-count) (PutCount 𝓤 H A at-mem run)) (known-digest : Triple 𝓤 (C #register-replica·register·put-digest) (PutDigest 𝓤 H A at-mem run)) where
+      walk : Is (ShrSlice (named 1) κ₁ u8) message (mv ∷ []) → Is (ShrSlice (named 2) κ₂ u8) verdicts (vv ∷ []) → Is (MutSlice (named 3) κ₃ u8) out (ov ∷ [])
+          → ent 𝓤 (onEntry 𝓤 H A thin.signature (κ₀, (κ₁, (κ₂, (κ₃, tt)))) (q₀, (q₁, (q₂, (q₃, tt)))) a vals) (WpFn 𝓤 H C Λ code.function (vint w8 f ∷ iv ∷ cv ∷ vptr b o ∷ mv ∷ vv ∷ ov ∷ []) Post)
+      walk is-message is-verdicts is-out =
+          qed W ((‵ (flft κ₀ q₀) ⊛ Tokens) ∷ ‵ (owns (u8 ∷ I.the-row ∷ K.the-row ∷ MutRef (named 0) κ₀ G.the-row ∷ ShrSlice (named 1) κ₁ u8 ∷ ShrSlice (named 2) κ₂ u8 ∷ MutSlice (named 3) κ₃ u8 ∷ []) a vals) ∷ []) ∵
+          move ! (1 ∷ []) $ fsplit ! $ move ! (1 ∷ []) $ fsplit ! $ move ! (1 ∷ []) $ fsplit ! $ move ! (1 ∷ []) $ fsplit ! $ move ! (1 ∷ []) $ fsplit ! $ move ! (1 ∷ []) $ fsplit ! $ move ! (1 ∷ []) $ fsplit ! $
+          -- [output; true; verdicts; message; the register's reference; the withdrawn clients; id; f; all tokens]
+          keep ! (4 ∷ 0 ∷ 1 ∷ 2 ∷ 3 ∷ 8 ∷ []) $ fsplit3 ! $ drop ! $ move ! (6 ∷ []) $ split ! $
+          -- [the register's token; the other tokens; obs; the borrow; output; true; verdicts; message]
+          move ! (6 ∷ []) $ use1 W (‵ Verdicts ⊛ ‵ Verdicts) (shr-slice-copy 𝓤 H A W (named 2) κ₂ u8 .twice verdicts (vv ∷ [])) $ split ! $
+          move ! (8 ∷ []) $ use1 W (‵ Message ⊛ ‵ Message) (shr-slice-copy 𝓤 H A W (named 1) κ₁ u8 .twice message (mv ∷ [])) $ split ! $
+          move ! (0 ∷ 2 ∷ []) $ join ! $ move ! (1 ∷ 2 ∷ []) $ join ! $ move ! (4 ∷ 5 ∷ 2 ∷ 3 ∷ 6 ∷ 0 ∷ 1 ∷ []) $
+          -- [obs; the borrow; the register's token; the other tokens; output; shared slices, twice; true]
+          enter ! C Λ code.function (vint w8 f ∷ iv ∷ cv ∷ vptr b o ∷ mv ∷ vv ∷ ov ∷ []) _ $
+          alloc1 ! (λ l₀. alloc1 ! (λ l₁. alloc1 ! (λ l₂. alloc1 ! (λ l₃. alloc1 ! (λ l₄. alloc1 ! (λ l₅. alloc1 ! (λ l₆. alloc1 ! (λ l₇. alloc1 ! (λ l₈. alloc1 ! (λ l₉. alloc1 ! (λ l₁₀. alloc1 ! (λ l₁₁. alloc1 ! (λ l₁₂. alloc1 ! (λ l₁₃. alloc1 ! (λ l₁₄. alloc1 ! (λ l₁₅. alloc1 ! (λ l₁₆. alloc1 ! (λ l₁₇. alloc0 ! $ params1 ! $
+          pass1 ! (init ! 32 refl (uint-lawful 𝓤 H A W w8 .typed f _ is-f .0)) $ pass1 ! (init ! 30 refl (LL.lawful I.the-type I′.the-laws 𝓤 H A W .typed id _ is-id .0)) $
+          pass1 ! (init ! 28 refl (LL.lawful K.the-type K′.the-laws 𝓤 H A W .typed withdrawn _ is-withdrawn .0)) $ pass1 ! (init ! 26 refl (tt, tt)) $
+          pass1 ! (init ! 24 refl (shr-slice-lawful 𝓤 H A W (named 1) κ₁ u8 .typed message (mv ∷ []) is-message .0)) $
+          pass1 ! (init ! 22 refl (shr-slice-lawful 𝓤 H A W (named 2) κ₂ u8 .typed verdicts (vv ∷ []) is-verdicts .0)) $ pass1 ! (init ! 20 refl (mut-slice-lawful 𝓤 H A W (named 3) κ₃ u8 .typed out (ov ∷ []) is-out .0)) $ pass0 ! $
+          -- the borrow is opened
+          move ! (36 ∷ 37 ∷ 38 ∷ []) $ open-ref ! tt (mem G.the-row) {b = b} {o = o} $ cell-out ! G.the-type G′.the-laws fullShare register b o (λ is-register.
+          -- [the register's cell; the open borrow; obs; auth; _17; …; _16; …; … _1; …; room for _0; …; the other tokens; output; shared slices, twice; true]
+          -- before (_8) = RegisterReplica { f, id, *register, withdrawn }
+          assigns ! (of-opd ! (load ! (from ! (hop ! (look ! 30 refl) (stop !))) (look ! 0 refl))) (from ! (stop !)) (init ! 18 refl (LL.lawful G.the-type G′.the-laws 𝓤 H A W .typed register _ is-register .0)) $
+          assigns ! (agg ! (and-then ! (load ! (from ! (stop !)) (look ! 36 refl)) (and-then ! (load ! (from ! (stop !)) (look ! 34 refl)) (and-then ! (load ! (from ! (stop !)) (look ! 18 refl)) (and-then ! (load ! (from ! (stop !)) (look ! 32 refl)) (no-more !)))))) (from ! (stop !)) (init ! 22 refl (LL.lawful R.the-type R′.the-laws 𝓤 H A W .typed part _ (is-part is-register) .0)) $
+          -- _12 = the output, lent again
+          assigns ! (addr ! (from ! (fld ! refl (hop ! (look-in ! 24 (sub ! 0 refl (whole !))) (stop !))))) (from ! (stop !)) (init ! 16 refl (tt, tt)) $
+          assigns ! (agg ! (and-then ! (load ! (from ! (stop !)) (look ! 16 refl)) (and-then ! (load ! (from ! (fld ! refl (stop !))) (look-in ! 24 (sub ! 1 refl (whole !)))) (no-more !)))) (from ! (stop !)) (init ! 14 refl (mut-slice-lawful 𝓤 H A W (named 3) κ₃ u8 .typed out (ov ∷ []) is-out .0)) $
+          -- stepped (_9) = step(before, message, verdicts, _12)
+          move ! (40 ∷ 41 ∷ 42 ∷ []) $ use3 W (raw (Step 𝓤 H A at-mem run .pre to-step)) (goes-step (is-part is-register)) $
+          calls-at ! fm (Step 𝓤 H A at-mem run) known to-step (and-then ! (load ! (from ! (stop !)) (look ! 23 refl)) (and-then ! (load ! (from ! (stop !)) (look ! 29 refl)) (and-then ! (load ! (from ! (stop !)) (look ! 27 refl)) (and-then ! (load ! (from ! (stop !)) (look ! 15 refl)) (no-more !))))) (λ w.
+          use1 W (later (some (λ (stepped : Stepped). (Tokens ⊛ ‵ (D.the-row .own stepped (w ∷ []))) ⊛ raw (ensured 𝓤 H A step.ended (step.clauses 𝓤 H A at-mem run) (κ₁, (κ₂, (κ₃, tt))) (part, (message, (verdicts, (out, tt)))) tt stepped)))) (id⊢ 𝓤 _) $ await ! tt $ pick ! (λ stepped.
+          split ! $ move ! (1 ∷ []) $ use1 W (some (λ (zs : Unit {0} × (Unit {0} × (Unit {0} × (List ℕ × Unit {0})))). ‵ (lasts step.ended (κ₁, (κ₂, (κ₃, tt))) (part, (message, (verdicts, (out, tt)))) zs) ⊛ raw (fact 𝓤 (Steps part (message .now) (verdicts .now) (out .now) (stepped .answer) (stepped .replica) (zs .1 .1 .1 .0) × Changes part stepped)))) (id⊢ 𝓤 _) $ pick ! (λ zs.
+          split ! $ move ! (1 ∷ []) $ heard ! (Steps part (message .now) (verdicts .now) (out .now) (stepped .answer) (stepped .replica) (zs .1 .1 .1 .0) × Changes part stepped) (λ both.
+          fsplit ! $ move ! (1 ∷ []) $ fsplit ! $ move ! (1 ∷ []) $ fsplit ! $ move ! (1 ∷ []) $ fsplit ! $ fsplit ! $ move ! (1 ∷ []) $ feqL ! (λ long.
+          move ! (5 ∷ []) $ split ! $ move ! (1 ∷ []) $ facts ! D.the-row (Is D.the-row) (shows 𝓤 H A D.the-row) stepped (w ∷ []) (λ is-stepped.
+          -- [the other tokens; the output's last list; true; …; …; …; the register's cell; the open borrow; obs; auth; _17; …; _0; …; shared slices; true]
+          land ! (from ! (stop !)) (init ! 26 refl (LL.lawful D.the-type D′.the-laws 𝓤 H A W .typed stepped _ is-stepped .0)) $ rewrite ! 26 (λ (u : Val). ‵ (fat fullShare D′.mir l₉ 0 u)) (ap only (LL.tells D.the-type D′.the-laws stepped _ is-stepped)) refl $
+          -- what is not read any more is forgotten: the contexts that follow are smaller
+          forget ! 20 refl $ forget ! 22 refl $ forget ! 24 refl $ forget ! 28 refl $ forget ! 30 refl $ forget ! 32 refl $ forget ! 34 refl $ forget ! 38 refl $ forget ! 40 refl $ forget ! 42 refl $
+          stores C Λ l₀ l₁ l₂ l₃ l₄ l₅ l₆ l₇ l₈ l₉ l₁₀ l₁₁ l₁₂ l₁₃ l₁₄ l₁₅ l₁₆ l₁₇ stepped w fm known-count known-digest (zs .1 .1 .1 .0) both long is-register is-stepped _ _ _ _ _)))))))))))))))))))))))))
 
 module _ {M : Type 1} (𝓤 : URA M) (H : Heap 𝓤) (A : Atoms 𝓤) (W : Given 𝓤 H A) (mem : Memory → SProp 𝓤) (run : Routine → Fun 𝓤) where
   register-in-place-walks : (C : Calls 𝓤 H) (Λ : Loops 𝓤 H) → FmC 𝓤 H (W .laws) C → Triple 𝓤 (C #register-replica·step) (Step 𝓤 H A mem run) → Triple 𝓤 (C #register-replica·register·put-count) (PutCount 𝓤 H A mem run) → Triple 𝓤 (C #register-replica·register·put-digest) (PutDigest 𝓤 H A mem run)
       → Walks 𝓤 H A thin.ended stayed (WpFn 𝓤 H C Λ code.function) (thin.clauses 𝓤 H A mem run)
   register-in-place-walks C Λ fm known known-count known-digest = walked 𝓤 H A thin.ended stayed (thin.clauses 𝓤 H A mem run) (WpFn 𝓤 H C Λ code.function)
-      (λ κs. (uint-vals w8, (LL.vals I.the-type I′.the-laws, (ptr-vals, (slice-vals, (slice-vals, (slice-vals, tt)))))))
-      (λ κs. (uint-tells w8, (LL.tells I.the-type I′.the-laws, (mut-tells (named 0) (κs .0) G.the-row, (shr-slice-tells (named 1) (κs .1 .0) u8, (shr-slice-tells (named 2) (κs .1 .1 .0) u8, (mut-slice-tells (named 3) (κs .1 .1 .1 .0) u8, tt)))))))
+      (λ κs. (uint-vals w8, (LL.vals I.the-type I′.the-laws, (LL.vals K.the-type K′.the-laws, (ptr-vals, (slice-vals, (slice-vals, (slice-vals, tt))))))))
+      (λ κs. (uint-tells w8, (LL.tells I.the-type I′.the-laws, (LL.tells K.the-type K′.the-laws, (mut-tells (named 0) (κs .0) G.the-row, (shr-slice-tells (named 1) (κs .1 .0) u8, (shr-slice-tells (named 2) (κs .1 .1 .0) u8, (mut-slice-tells (named 3) (κs .1 .1 .1 .0) u8, tt))))))))
       (λ κs qs bounds a g are. via 𝓤 _ (fst∗ 𝓤 _ (emp 𝓤))
-      (walk 𝓤 H A W mem run (κs .0) (κs .1 .0) (κs .1 .1 .0) (κs .1 .1 .1 .0) bounds (qs .0) (qs .1 .0) (qs .1 .1 .0) (qs .1 .1 .1 .0) (a .1 .1 .0 .ptr .0) (a .1 .1 .0 .ptr .1) (a .1 .1 .0 .name) (a .0) (a .1 .0) (a .1 .1 .0 .now) (a .1 .1 .1 .0) (a .1 .1 .1 .1 .0) (a .1 .1 .1 .1 .1 .0) (are .0) (are .1 .0) C Λ fm known known-count known-digest (are .1 .1 .1 .0) (are .1 .1 .1 .1 .0) (are .1 .1 .1 .1 .1 .0)))
+      (walk 𝓤 H A W mem run (κs .0) (κs .1 .0) (κs .1 .1 .0) (κs .1 .1 .1 .0) bounds (qs .0) (qs .1 .0) (qs .1 .1 .0) (qs .1 .1 .1 .0) (a .1 .1 .1 .0 .ptr .0) (a .1 .1 .1 .0 .ptr .1) (a .1 .1 .1 .0 .name) (a .0) (a .1 .0) (a .1 .1 .0) (a .1 .1 .1 .0 .now) (a .1 .1 .1 .1 .0) (a .1 .1 .1 .1 .1 .0) (a .1 .1 .1 .1 .1 .1 .0) (are .0) (are .1 .0) (are .1 .1 .0) C Λ fm known known-count known-digest (are .1 .1 .1 .1 .0) (are .1 .1 .1 .1 .1 .0) (are .1 .1 .1 .1 .1 .1 .0)))
 
   all-go : AllGo 𝓤 H A W 4 (thin.signature .params) (thin.ended .kept) stayed
-  all-go = (goes-none 𝓤 H A W 4 (λ _. u8) yes (λ κs x f. refl), (goes-none 𝓤 H A W 4 (λ _. I.the-row) yes (λ κs x f. refl), (goes-ref 𝓤 H A W 4 0 tt (plain (λ _. G.the-row)), (goes-none-slice 𝓤 H A W 4 (1 ∷ []) tt (plain (λ _. u8)) yes, (goes-none-slice 𝓤 H A W 4 (2 ∷ []) tt (plain (λ _. u8)) yes, (goes-gave-slice 𝓤 H A W 4 3 tt (plain (λ _. u8)), tt))))))
+  all-go = (goes-none 𝓤 H A W 4 (λ _. u8) yes (λ κs x f. refl), (goes-none 𝓤 H A W 4 (λ _. I.the-row) yes (λ κs x f. refl), (goes-none 𝓤 H A W 4 (λ _. K.the-row) yes (λ κs x f. refl), (goes-ref 𝓤 H A W 4 0 tt (plain (λ _. G.the-row)), (goes-none-slice 𝓤 H A W 4 (1 ∷ []) tt (plain (λ _. u8)) yes, (goes-none-slice 𝓤 H A W 4 (2 ∷ []) tt (plain (λ _. u8)) yes, (goes-gave-slice 𝓤 H A W 4 3 tt (plain (λ _. u8)), tt)))))))
 
 register-in-place-meets : {M : Type 1} (𝓤 : URA M) (H : Heap 𝓤) (A : Atoms 𝓤) → Given 𝓤 H A → (mem : Memory → SProp 𝓤) (run : Routine → Fun 𝓤) (𝓣 : Tables 𝓤 H) → Triple 𝓤 (𝓣 .C #register-replica·step) (Step 𝓤 H A mem run) → Triple 𝓤 (𝓣 .C #register-replica·register·put-count) (PutCount 𝓤 H A mem run) → Triple 𝓤 (𝓣 .C #register-replica·register·put-digest) (PutDigest 𝓤 H A mem run)
     → Meets 𝓤 H A thin.signature (WpFn 𝓤 H (𝓣 .C) (𝓣 .Λ) code.function) (thin.spec 𝓤 H A mem run)

@@ -12,11 +12,11 @@ use Rattle.register_replica.proofs.step.Statement.{statement}
 use Rattle.register_replica.proofs.step.Tie as tie
 
 passed : (c : tie.After-fields)
-    → acceptance AtReplica (c .before .before .before .before .before .before .before .args .replica .f) (c .before .before .before .before .before .before .before .args .message .now) (c .before .before .before .before .before .before .before .args .verdicts .now) ≡ accepted (c .fields .given .0 .0, c .fields .given .0 .1 .0)
+    → acceptance AtReplica (c .before .before .before .before .before .before .before .args .replica .f) (c .before .before .before .before .before .before .before .args .replica .withdrawn) (c .before .before .before .before .before .before .before .args .message .now) (c .before .before .before .before .before .before .before .args .verdicts .now) ≡ accepted (c .fields .given .0 .0, c .fields .given .0 .1 .0)
 passed c = rw (c .fields .given .1) at (sym (c .before .before .accept .ensures))
 
 turned-down : (c : tie.After-number)
-    → acceptance AtReplica (c .before .before .before .before .before .before .before .args .replica .f) (c .before .before .before .before .before .before .before .args .message .now) (c .before .before .before .before .before .before .before .args .verdicts .now) ≡ refused (c .number .given .0 .0)
+    → acceptance AtReplica (c .before .before .before .before .before .before .before .args .replica .f) (c .before .before .before .before .before .before .before .args .replica .withdrawn) (c .before .before .before .before .before .before .before .args .message .now) (c .before .before .before .before .before .before .before .args .verdicts .now) ≡ refused (c .number .given .0 .0)
 turned-down c = rw (c .number .given .1) at (sym (c .before .before .accept .ensures))
 
 returns : tie.Need-returns

@@ -4,7 +4,7 @@ use Rattle.play.proofs.world.replica.Statement.{statement}
 use Rattle.play.proofs.world.replica.Tie as tie
 
 returns : tie.Need-returns
-returns c = rw (c .fresh-register .ensures)
+returns c = rw (c .before .fresh-register .ensures, c .nobody .ensures)
 
 pub replica-spec : {M : Type 1} → statement M
-replica-spec = tie.close (tie.spec (λ c κs. search needs) returns)
+replica-spec = tie.close (tie.spec (λ c κs. search needs) (λ c κs. search needs) returns)

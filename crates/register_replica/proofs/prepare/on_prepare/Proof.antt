@@ -27,7 +27,7 @@ returns c =
     let x = s .args in
     let bytes = x .message .now in
     let digest : copied .digest-array .result ≡ partAt bytes (x .fields .digest) =
-    copied .digest-array .ensures ∙ ap (filled 32) (copied .before .part .ensures) ∙ filled-whole 32 _ (prepare-digest (x .replica .f) bytes (s .pre .0 .1 .verdicts) (x .fields) (s .pre .0 .1 .passes) (s .pre .1)) in
+    copied .digest-array .ensures ∙ ap (filled 32) (copied .before .part .ensures) ∙ filled-whole 32 _ (prepare-digest (x .replica .f) (x .replica .withdrawn) bytes (s .pre .0 .1 .verdicts) (x .fields) (s .pre .0 .1 .passes) (s .pre .1)) in
     let first : shown .timestamp2 .result ≡ timestampPart (partAt bytes (x .fields .prepared)) = shown .timestamp2 .ensures ∙ ap timestampPart (shown .before .part2 .ensures) in
     let second : last .timestamp3 .result ≡ timestampPart (partAt bytes (x .fields .written)) = last .timestamp3 .ensures ∙ ap timestampPart (last .before .part3 .ensures) in
     answers (x .replica) bytes (x .fields) (x .out .now) _ _ _

@@ -18,7 +18,7 @@ write-requires c κs =
     let s = start c in
     let x = s .args in
     let passes = s .pre .0 .passes in
-    rw (c .before .part .ensures) (write-proof (x .replica .f) (x .message .now) (s .pre .0 .verdicts) (x .fields) passes (s .pre .1), write-signers (x .replica .f) (x .message .now) (s .pre .0 .verdicts) (x .fields) passes (s .pre .1), s .pre .2)
+    rw (c .before .part .ensures) (write-proof (x .replica .f) (x .replica .withdrawn) (x .message .now) (s .pre .0 .verdicts) (x .fields) passes (s .pre .1), write-signers (x .replica .f) (x .replica .withdrawn) (x .message .now) (s .pre .0 .verdicts) (x .fields) passes (s .pre .1), s .pre .2)
 
 returns : tie.Need-returns
 returns c =
