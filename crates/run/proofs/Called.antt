@@ -20,7 +20,7 @@ use Rattle.protocol.specs.declared.client.Client.{Client}
 use Rattle.protocol.specs.declared.replica.Bank.{Bank}
 use Rattle.protocol.proofs.ClientFacts.{begins-write as begins-write-facts, begins-read as begins-read-facts}
 use Rattle.protocol.proofs.Calls.{replica-called, client-called}
-use Rattle.protocol.specs.Events.{ClientEvent, write-begun, read-begun, reply-handed, madeWith, onClientEvent}
+use Rattle.protocol.specs.Events.{ClientEvent, write-begun, read-begun, reply-handed, replicaEventCall, madeWith, onClientEvent}
 use Rattle.run.specs.Calls.{calledAtReplica, calledAtClient, calledReplica, calledClient, givenAt, CallsAreRun}
 use Rattle.run.specs.Run.{Event, at-replica, at-client, begins-write, begins-read, to-client, registerOf, Run, afterAtReplica, afterAtClient, event, bankAt, clientAt, answerTo}
 use Rattle.run.proofs.Turns.{good-client, handed-takes}
@@ -40,9 +40,9 @@ module _ (old : List ℕ) (long : longest ≤ length old) where
 -- ---- All calls of a run
 
 module _ (R : Run) (output : ℕ → List ℕ) (long : (t : ℕ) → longest ≤ length (output t)) where
-  made-replica : (id : ReplicaId) → R .correct-replica id ≡ true → madeBank (R .f) id ≡ freshBank (R .f) id
+  made-replica : (id : ReplicaId) → R .correct-replica id ≡ true → madeBank (R .f) id (R .office-key id) ≡ freshBank (R .f) id (R .office-key id)
   unfolding madeBank guard
-  made-replica id c = rw (R .f-in-range, R .replicas-in-range id c)
+  made-replica id c = rw (R .f-in-range, R .replicas-in-range id c, R .keys-in-range id c .0)
 
   made-client : (id : ClientId) → R .correct-client id ≡ true → madeWith (R .f) id (R .first-nonce id) ≡ freshClient (R .f) id (R .first-nonce id)
   unfolding guard
@@ -75,7 +75,8 @@ module _ (R : Run) (output : ℕ → List ℕ) (long : (t : ℕ) → longest ≤
 
   answers-to : (t : ℕ) (e : Event) → event R t ≡ some e → givenAt R output t e ≡ given (registerOf e) (output t) (answerTo R t (some e))
   unfolding givenAt answerTo
-  answers-to t (at-replica id e) q = rw (replicas id (R .at-correct t (at-replica id e) q) t) (replica-called (output t) (long t) e (bankAt R id t) .gives)
+  answers-to t (at-replica id e) q =
+      ap (λ (bank : Bank). replicaEventCall e (output t) bank .gives) (replicas id (R .at-correct t (at-replica id e) q) t) ∙ replica-called (output t) (long t) e (bankAt R id t) .gives
   answers-to t (at-client id e) q =
       rw (clients id (R .at-correct t (at-client id e) q) t) (client-called (output t) (long t) id e (clientAt R id t) .gives (registerOf (at-client id e)) (event-for id t e q))
 

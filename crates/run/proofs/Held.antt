@@ -14,7 +14,6 @@ use Rattle.base.specs.declared.party.ReplicaId.{ReplicaId}
 use Rattle.base.proofs.Registers.{place-below}
 use Rattle.wire.specs.Message.{Message, READ-STAMP, READ, STAMP, WRITTEN, CARD}
 use Rattle.wire.specs.Proof.{PreparedProof}
-use Rattle.protocol.specs.Client.{send}
 use Rattle.protocol.specs.RegisterReplica.{heldTimestamp, heldProof, freshRegister}
 use Rattle.protocol.specs.declared.replica.RegisterReplica.{RegisterReplica}
 use Rattle.run.specs.Premises.{Premises}
@@ -50,7 +49,7 @@ module _ (R : Run) (x : RegisterId) where
     -- A replica that sent WRITTEN holds that timestamp or a later one.
     pub written-held : (t s : ℕ) → Said R x (replica id) (WRITTEN id s) t → s ≤ held id t
     written-held t s e =
-        let step = register-step R x id c (e .time) (send (WRITTEN id s)) (said-answers R x id (WRITTEN id s) t e) in
+        let step = register-step R x id c (e .time) (WRITTEN id s) (said-answers R x id (WRITTEN id s) t e) in
         let same : step .reply .message ≡ WRITTEN id s = cc (step .answer-is, e .answered) in
         let then : s ≤ held id (suc (e .time)) = rw (step .next-is) (step .facts .written-sent id s same .1) in
         let since = held-rises (suc (e .time)) t (e .earlier) in
@@ -59,7 +58,7 @@ module _ (R : Run) (x : RegisterId) where
   -- In every run, whatever verdicts were handed over.
   pub signers-of-held : SignersOfHeld R x
   unfolding bankAt freshRegister
-  signers-of-held id c zero = subst (λ (part : RegisterReplica). SignersHeld (part .register .held)) (sym (fresh-part (R .f) id (registerPlace x) (place-below x))) refl
+  signers-of-held id c zero = subst (λ (part : RegisterReplica). SignersHeld (part .register .held)) (sym (fresh-part (R .f) id (R .office-key id) (registerPlace x) (place-below x))) refl
   signers-of-held id c (suc t) = go (register-turn R x id c t) (signers-of-held id c t)
     where
       go : RegisterTurn R x id t → SignersHeld (registerAt R x id t .held) → SignersHeld (registerAt R x id (suc t) .held)
@@ -80,15 +79,15 @@ module _ (R : Run) (x : RegisterId) where
     pub stamp-showed : Said R x (replica id) (STAMP id nonce proof by) t → Showed id t (READ-STAMP by nonce) by (preparedTimestamp proof)
     stamp-showed e =
         let a = said-answers R x id (STAMP id nonce proof by) t e in
-        let step = register-step R x id c (e .time) (send (STAMP id nonce proof by)) a in
+        let step = register-step R x id c (e .time) (STAMP id nonce proof by) a in
         let same : step .reply .message ≡ STAMP id nonce proof by = cc (step .answer-is, e .answered) in
         let q = step .facts .stamp-sent id nonce proof by same in
-        record { time = e .time; earlier = e .earlier; shows = shown-held (e .time) (q .1); asked = step-said R P x id (e .time) step (send (STAMP id nonce proof by)) a (READ-STAMP by nonce) (q .2) c′ }
+        record { time = e .time; earlier = e .earlier; shows = shown-held (e .time) (q .1); asked = step-said R P x id (e .time) step (STAMP id nonce proof by) a (READ-STAMP by nonce) (q .2) c′ }
 
     pub card-showed : (card : List ℕ) → Said R x (replica id) (CARD id nonce card proof by) t → Showed id t (READ by nonce) by (preparedTimestamp proof)
     card-showed card e =
         let a = said-answers R x id (CARD id nonce card proof by) t e in
-        let step = register-step R x id c (e .time) (send (CARD id nonce card proof by)) a in
+        let step = register-step R x id c (e .time) (CARD id nonce card proof by) a in
         let same : step .reply .message ≡ CARD id nonce card proof by = cc (step .answer-is, e .answered) in
         let q = step .facts .card-sent id nonce card proof by same in
-        record { time = e .time; earlier = e .earlier; shows = shown-held (e .time) (q .1); asked = step-said R P x id (e .time) step (send (CARD id nonce card proof by)) a (READ by nonce) (q .2) c′ }
+        record { time = e .time; earlier = e .earlier; shows = shown-held (e .time) (q .1); asked = step-said R P x id (e .time) step (CARD id nonce card proof by) a (READ by nonce) (q .2) c′ }

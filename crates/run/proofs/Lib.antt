@@ -13,4 +13,5 @@ pub mod SentMessages
 pub mod Slots
 pub mod Stages
 pub mod Turns
+pub mod Withdrawals
 pub mod Writes

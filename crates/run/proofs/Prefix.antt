@@ -16,7 +16,7 @@ use Rattle.wire.specs.Decode.{decode}
 use Rattle.wire.specs.Message.{Message}
 use Rattle.wire.specs.Signatures.{Signature, signaturesOf}
 use Rattle.wire.specs.declared.message.Party.the-variants.{Replica as AtReplica, Client as AtClient}
-use Rattle.protocol.specs.Events.{request-handed, write-begun, read-begun, reply-handed}
+use Rattle.protocol.specs.Events.{request-handed, order-handed, write-begun, read-begun, reply-handed}
 use Rattle.run.specs.Claims.{Claims}
 use Rattle.run.specs.Prefix.{prefix}
 use Rattle.run.specs.Premises.{TrueVerdicts, TrueFor, TrueAt, eventCard, CardOfRun, Premises}
@@ -100,6 +100,7 @@ module _ (R : Run) (n : ℕ) where
   true-at t (some (at-client id (write-begun x card))) l h = tt
   true-at t (some (at-client id (read-begun x))) l h = tt
   true-at t (some (at-replica id (request-handed bytes verdicts))) l h = true-for t bytes verdicts (decode AtReplica bytes) l h
+  true-at t (some (at-replica id (order-handed order))) l h = tt
   true-at t (some (at-client id (reply-handed bytes verdicts))) l h = true-for t bytes verdicts (decode AtClient bytes) l h
 
   none-true : (t : ℕ) → TrueAt S t none

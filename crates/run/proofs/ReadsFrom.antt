@@ -15,7 +15,6 @@ use Rattle.base.specs.declared.replica_set.ReplicaSet.{ReplicaSet}
 use Rattle.wire.specs.Acceptance.{client}
 use Rattle.wire.specs.Message.{PREPARE, PREPARED}
 use Rattle.wire.specs.Sha256.{sha256}
-use Rattle.protocol.specs.Client.{send}
 use Rattle.protocol.proofs.RegisterFacts.{clientOf}
 use Rattle.run.specs.ReadsFrom.{Write, CarriesCorrect, ReadsFrom}
 use Rattle.run.specs.Claims.{Finished}
@@ -36,7 +35,7 @@ module _ (R : Run) (x : RegisterId) (P : Premises R) where
     earlier : time < t
     by : ReplicaId
     step : RegisterStep R x by time
-    answers : Answers R x by time (send (PREPARED by s d))
+    answers : Answers R x by time (PREPARED by s d)
     sends : step .reply .message ≡ PREPARED by s d
 
   signed : (t s : ℕ) (d : List ℕ) (who : ReplicaSet) → Backed R x t s d who → Signed t s d
@@ -44,7 +43,7 @@ module _ (R : Run) (x : RegisterId) (P : Premises R) where
       let one = meet R (P .few-faulty) (has who) (has who) (b .enough) (b .enough) in
       let said = b .signed (one .at) (one .in-p) (one .in-r) in
       let answers = said-answers R x (one .at) (PREPARED (one .at) s d) t said in
-      let step = register-step R x (one .at) (one .in-r) (said .time) (send (PREPARED (one .at) s d)) answers in
+      let step = register-step R x (one .at) (one .in-r) (said .time) (PREPARED (one .at) s d) answers in
       record { time = said .time; earlier = said .earlier; by = one .at; step = step; answers = answers; sends = cc (step .answer-is, said .answered) }
 
   backed-writer : (t s : ℕ) (d : List ℕ) (who : ReplicaSet) → Backed R x t s d who → isWriter (clientOf s) ≡ true
@@ -56,7 +55,7 @@ module _ (R : Run) (x : RegisterId) (P : Premises R) where
   backed-write t s d who c b =
       let it = signed t s d who b in
       let (shown, last, is) = it .step .facts .prepared-asked (it .by) s d (it .sends) in
-      let said : Said R x (client (clientOf s)) (PREPARE (clientOf s) s d shown last) (it .time) = step-said R P x (it .by) (it .time) (it .step) (send (PREPARED (it .by) s d)) (it .answers) (PREPARE (clientOf s) s d shown last) is c in
+      let said : Said R x (client (clientOf s)) (PREPARE (clientOf s) s d shown last) (it .time) = step-said R P x (it .by) (it .time) (it .step) (PREPARED (it .by) s d) (it .answers) (PREPARE (clientOf s) s d shown last) is c in
       let (w, own, at, of, when) = write-of R x (clientOf s) c (said .time) s d shown last (said .by) (said .register-is) (said .answered) in
       let before = it .earlier in
       let before′ = said .earlier in

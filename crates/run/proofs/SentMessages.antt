@@ -26,7 +26,7 @@ use Rattle.wire.specs.Signatures.{Signature, signedBy, signaturesOf}
 use Rattle.wire.proofs.OneForm.{found-register, decoded-register, decoded-legal}
 use Rattle.wire.proofs.RoundTrip.{body-message, body-register}
 use Rattle.wire.specs.declared.message.Party.the-variants.{Replica as AtReplica, Client as AtClient}
-use Rattle.protocol.specs.Client.{Answer, send}
+use Rattle.protocol.specs.Client.{send}
 use Rattle.protocol.proofs.ClientCases.{LegalAnswer}
 use Rattle.protocol.proofs.Fit.{LegalMessage}
 use Rattle.run.specs.Premises.{TrueVerdicts, TrueFor, TrueAt, Premises}
@@ -40,7 +40,7 @@ module _ (R : Run) where
   said-later x party message t t′ l s = let before = s .earlier in record { time = s .time; earlier = omega arith; by = s .by; register-is = s .register-is; answered = s .answered }
 
   -- A replica that said a message answered with it.
-  pub said-answers : (x : RegisterId) (id : ReplicaId) (message : Message) (t : ℕ) (e : Said R x (replica id) message t) → Answers R x id (e .time) (send message)
+  pub said-answers : (x : RegisterId) (id : ReplicaId) (message : Message) (t : ℕ) (e : Said R x (replica id) message t) → Answers R x id (e .time) message
   said-answers x id message t e = (e .by, e .register-is, e .answered)
 
   register-byte : (x : RegisterId) → isRegister x ≡ true → x .0 < 256
@@ -49,10 +49,10 @@ module _ (R : Run) where
   -- What a correct party sends is legal, for the register of its event.
   pub sent-legal : (party : Sender) → Correct R party → (t : ℕ) (message : Message) (at : At R t party) → answerAt R t ≡ accepted (send message) → Legal (registerOf (at .0)) message
   sent-legal (replica id) c t m at a =
-      let s = register-step R (registerOf (at .0)) id c t (send m) (at, refl, a) in
+      let s = register-step R (registerOf (at .0)) id c t m (at, refl, a) in
       let same : s .reply .message ≡ m = cc (s .answer-is) in
       let small = decoded-register AtReplica (s .bytes) (registerIn (s .bytes)) (s .message) (s .admitted .decodes) (R .have-bytes t (to-replica id (s .bytes) (s .verdicts)) (s .event-is)) in
-      subst LegalMessage same (s .facts .legal) (registerOf (at .0)) (subst (λ (x : RegisterId). x .0 < 256) (step-register R (registerOf (at .0)) id t s (send m) (at, refl, a)) small)
+      subst LegalMessage same (s .facts .legal) (registerOf (at .0)) (subst (λ (x : RegisterId). x .0 < 256) (step-register R (registerOf (at .0)) id t s m (at, refl, a)) small)
   sent-legal (client id) c t m at a = go (client-turn R id c t)
     where
       -- The event is this one, and so its register.
@@ -145,11 +145,11 @@ module _ (R : Run) where
             (subst (λ (b : List ℕ). Sent R (senderOf (h .message)) b t) (covered AtClient (h .bytes) (clientAt R id t .register) (h .message) small (h .admitted .decodes)) sent)
 
     -- So was the message that a replica takes, for the register that it is for.
-    pub step-said : (x : RegisterId) (id : ReplicaId) (t : ℕ) (s : RegisterStep R x id t) (answer : Answer) → Answers R x id t answer → (m : Message) → s .message ≡ m
+    pub step-said : (x : RegisterId) (id : ReplicaId) (t : ℕ) (s : RegisterStep R x id t) (reply : Message) → Answers R x id t reply → (m : Message) → s .message ≡ m
         → Correct R (senderOf m) → Said R x (senderOf m) m t
     unfolding TrueAt
-    step-said x id t s answer a m e c =
-        subst (λ (y : RegisterId). Said R y (senderOf m) m t) (step-register R x id t s answer a)
+    step-said x id t s reply a m e c =
+        subst (λ (y : RegisterId). Said R y (senderOf m) m t) (step-register R x id t s reply a)
         (subst (λ (n : Message). Correct R (senderOf n) → Said R (registerIn (s .bytes)) (senderOf n) n t) e own c)
       where
         own : Correct R (senderOf (s .message)) → Said R (registerIn (s .bytes)) (senderOf (s .message)) (s .message) t

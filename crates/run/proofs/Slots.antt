@@ -106,7 +106,7 @@ module _ (R : Run) (x : RegisterId) where
       go : (Said R x (replica id) (PREPARED id s d) t → Has (registerAt R x id t .slots) s d) → RegisterTurn R x id t → Has (registerAt R x id (suc t) .slots) s d
       go ih (rests same silent) =
           split-last (e .time) t (e .earlier)
-          (λ z. absurd (silent (send (PREPARED id s d)) (subst (λ (u : ℕ). Answers R x id u (send (PREPARED id s d))) z (said-answers R x id (PREPARED id s d) (suc t) e))))
+          (λ z. absurd (silent (PREPARED id s d) (subst (λ (u : ℕ). Answers R x id u (PREPARED id s d)) z (said-answers R x id (PREPARED id s d) (suc t) e))))
           (λ z. rw same (ih (before z)))
       go ih (steps step) =
           split-last (e .time) t (e .earlier)
@@ -117,7 +117,7 @@ module _ (R : Run) (x : RegisterId) where
   module _ (id : ReplicaId) (c : R .correct-replica id ≡ true) (s : ℕ) (d d′ : List ℕ) where
     one-ordered : (t : ℕ) (e : Said R x (replica id) (PREPARED id s d) t) (e′ : Said R x (replica id) (PREPARED id s d′) t) → e .time ≤ e′ .time → d ≡ d′
     one-ordered t e e′ l =
-        let step = register-step R x id c (e′ .time) (send (PREPARED id s d′)) (said-answers R x id (PREPARED id s d′) t e′) in
+        let step = register-step R x id c (e′ .time) (PREPARED id s d′) (said-answers R x id (PREPARED id s d′) t e′) in
         let left = prepared-step id (e′ .time) s d′ step (e′ .answered) in
         go left (slots id c (suc (e′ .time)) s d (left .0) (record { time = e .time; earlier = omega arith; by = e .by; register-is = e .register-is; answered = e .answered }))
       where

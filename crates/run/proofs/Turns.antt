@@ -10,8 +10,10 @@ use borrow.Author.Tests.{eqb-true, eqb-false, eq-eqb}
 use lib.Dec.{eqb}
 use lib.ListN.{length, length-replicate, length-set}
 use Rattle.base.specs.BigEndian.{Bytes}
+use Rattle.base.specs.ClientSet.{nobody}
 use Rattle.base.specs.Outcome.{Outcome, accepted, refused}
 use Rattle.base.specs.Party.{replicaCount, isWriter, registerPlace}
+use Rattle.base.specs.declared.client_set.ClientSet.{ClientSet}
 use Rattle.base.specs.declared.party.ClientId.{ClientId}
 use Rattle.base.specs.declared.party.RegisterId.{RegisterId}
 use Rattle.base.specs.declared.party.ReplicaId.{ReplicaId}
@@ -29,6 +31,7 @@ use Rattle.base.specs.Timestamp.{start}
 use Rattle.protocol.specs.Parts.{startCard}
 use Rattle.protocol.specs.Bank.{bankPart, withBankPart, freshBank, placeIn, bankStep}
 use Rattle.protocol.specs.Client.{Answer, send, Turn, beginWrite, beginRead, onReply, clientStep}
+use Rattle.protocol.specs.Order.{withWithdrawn, takeOrder}
 use Rattle.protocol.specs.RegisterReplica.{Reply, freshRegister, onRequest, registerStep}
 use Rattle.protocol.specs.Viewer.{onViewerReply, viewerStep}
 use Rattle.protocol.specs.declared.client.Client.{Client}
@@ -40,13 +43,14 @@ use Rattle.protocol.specs.declared.replica.RegisterReplica.{RegisterReplica}
 use Rattle.protocol.proofs.BankFacts.{fresh-part, part-elsewhere, part-there}
 use Rattle.protocol.proofs.Fit.{SlotsFit, HeldFits, RegisterReplicaFits, ClientFits}
 use Rattle.protocol.proofs.FreshRecords.{fresh-replica-fits, fresh-client-fits}
+use Rattle.protocol.proofs.OrderFacts.{took}
 use Rattle.protocol.proofs.RegisterFacts.{RegisterFacts, register-facts}
 use Rattle.protocol.proofs.ClientCases.{Begun, PhaseFits, ClientFacts}
 use Rattle.protocol.proofs.ClientFacts.{begins-write as begins-write-facts, begins-read as begins-read-facts, client-facts, viewer-facts}
 use Rattle.protocol.proofs.Towards.{client-takes, viewer-takes}
 use Rattle.wire.specs.Acceptance.{Sender, replica, client}
-use Rattle.protocol.specs.Events.{ClientEvent, request-handed, write-begun, read-begun, reply-handed, bankTurn, nextBank, bankAnswer, handedStep, onClientEvent, nextClient, clientAnswer}
-use Rattle.run.specs.Run.{Event, at-replica, at-client, begins-write, begins-read, to-replica, to-client, Run, partyOf, registerOf, event, bankAt, registerReplicaAt, registerAt, clientAt, answerTo, answerAt, At}
+use Rattle.protocol.specs.Events.{ReplicaEvent, ClientEvent, request-handed, order-handed, write-begun, read-begun, reply-handed, BankTurn, bankTurn, orderTurn, onReplicaEvent, nextBank, bankAnswer, handedStep, onClientEvent, nextClient, clientAnswer}
+use Rattle.run.specs.Run.{Event, at-replica, at-client, begins-write, begins-read, to-replica, order-to, to-client, Run, partyOf, registerOf, event, bankAt, registerReplicaAt, registerAt, clientAt, answerTo, answerAt, At}
 
 -- Ids are told by their numbers.
 pub same-replica : (a b : ReplicaId) → a .0 ≡ b .0 → a ≡ b
@@ -59,10 +63,20 @@ same-client a b e = ap (λ (n : ℕ). record { 0 = n }) e
 abbrev pub clientTakes : ClientId → Client → List ℕ → Message → Outcome Turn
 clientTakes id before own message = cond (isWriter id) (onReply before own message) (onViewerReply before message)
 
+-- What a bank takes: 2 to 11 let it through, and its register steps.
+pub bank-parts : (before : Bank) (bytes verdicts : List ℕ) (reply : Reply) → bankStep before bytes verdicts ≡ accepted reply
+    → (register : RegisterId) × (message : Message) × Admitted AtReplica (before .f) (before .withdrawn) bytes verdicts register message × (onRequest (bankPart (placeIn bytes) before) message ≡ accepted reply)
+unfolding bankStep registerStep
+bank-parts before bytes verdicts reply e = admitted-then AtReplica (before .f) (before .withdrawn) bytes verdicts (λ sent. onRequest (bankPart (placeIn bytes) before) (sent .1)) reply e
+
 module _ (R : Run) where
   -- The party answers nothing at event t: it is not its event, or it is refused.
   abbrev pub Silent : Sender → ℕ → Type 0
   Silent party t = At R t party → (answer : Answer) → answerAt R t ≡ accepted answer → ⊥
+
+  -- It sends nothing: it answers nothing, or takes an order.
+  abbrev pub SendsNothing : Sender → ℕ → Type 0
+  SendsNothing party t = At R t party → (message : Message) → answerAt R t ≡ accepted (send message) → ⊥
 
   -- There is no event, or it is another party's.
   no-event : (t : ℕ) (party : Sender) → event R t ≡ none → Silent party t
@@ -79,6 +93,7 @@ module _ (R : Run) where
   pub record GoodBank (id : ReplicaId) (before : Bank) : Type 0 where
     pub f-is : before .f ≡ R .f
     pub id-is : before .id ≡ id
+    pub key-is : before .key ≡ R .office-key id
     pub long : length (before .registers) ≡ 16
     pub fit : (at : ℕ) → at < 16 → RegisterReplicaFits (bankPart at before)
 
@@ -89,33 +104,37 @@ module _ (R : Run) where
     message : Message
     reply : Reply
     event-is : event R t ≡ some (to-replica id bytes verdicts)
-    admitted : Admitted AtReplica (bankAt R id t .f) bytes verdicts (registerIn bytes) message
+    admitted : Admitted AtReplica (bankAt R id t .f) (bankAt R id t .withdrawn) bytes verdicts (registerIn bytes) message
     stepped : onRequest (bankPart (placeIn bytes) (bankAt R id t)) message ≡ accepted reply
     facts : RegisterFacts (bankPart (placeIn bytes) (bankAt R id t)) verdicts message reply
     next-is : bankAt R id (suc t) ≡ withBankPart (placeIn bytes) (reply .next) (bankAt R id t)
     answer-is : answerAt R t ≡ accepted (send (reply .message))
 
   data WholeTurn (id : ReplicaId) (t : ℕ) : Type 0 where
-    all-rest : bankAt R id (suc t) ≡ bankAt R id t → Silent (replica id) t → WholeTurn id t
+    -- The registers stay: an order changes the withdrawn clients alone.
+    all-rest : (withdrawn : ClientSet) → bankAt R id (suc t) ≡ withWithdrawn withdrawn (bankAt R id t) → SendsNothing (replica id) t → WholeTurn id t
     one-steps : BankStep id t → WholeTurn id t
 
-  pub bank-outcome : (id : ReplicaId) (t : ℕ) (bytes verdicts : List ℕ) (out : Outcome Reply) → event R t ≡ some (to-replica id bytes verdicts)
-      → bankStep (bankAt R id t) bytes verdicts ≡ out → (bankAt R id (suc t) ≡ nextBank (bankAt R id t) (bankTurn (placeIn bytes) (bankAt R id t) out)) × (answerAt R t ≡ bankAnswer (bankTurn (placeIn bytes) (bankAt R id t) out))
-  unfolding bankAt answerTo
-  bank-outcome id t bytes verdicts out e q = (rw (e, eq-eqb (id .0) (id .0) refl, q), rw (e, q))
+  -- The whole bank stays.
+  stays : (id : ReplicaId) (t : ℕ) → bankAt R id (suc t) ≡ bankAt R id t → Silent (replica id) t → WholeTurn id t
+  stays id t same silent = all-rest (bankAt R id t .withdrawn) same (λ at message a. silent at (send message) a)
 
-  bank-parts : (before : Bank) (bytes verdicts : List ℕ) (reply : Reply) → bankStep before bytes verdicts ≡ accepted reply
-      → (register : RegisterId) × (message : Message) × Admitted AtReplica (before .f) bytes verdicts register message × (onRequest (bankPart (placeIn bytes) before) message ≡ accepted reply)
-  unfolding bankStep registerStep
-  bank-parts before bytes verdicts reply e = admitted-then AtReplica (before .f) bytes verdicts (λ sent. onRequest (bankPart (placeIn bytes) before) (sent .1)) reply e
+  -- What an event leaves of its replica, and its answer.
+  pub bank-outcome : (id : ReplicaId) (t : ℕ) (e : ReplicaEvent) (out : Outcome BankTurn) → event R t ≡ some (at-replica id e)
+      → onReplicaEvent e (bankAt R id t) ≡ out → (bankAt R id (suc t) ≡ nextBank (bankAt R id t) out) × (answerAt R t ≡ bankAnswer out)
+  unfolding bankAt answerTo
+  bank-outcome id t e out q is = (rw (q, eq-eqb (id .0) (id .0) refl, is), rw (q, is))
+
+  refused-stays : (id : ReplicaId) (t : ℕ) (e : ReplicaEvent) (n : ℕ) → event R t ≡ some (at-replica id e) → onReplicaEvent e (bankAt R id t) ≡ refused n → WholeTurn id t
+  refused-stays id t e n q is = let both = bank-outcome id t e (refused n) q is in stays id t (both .0) (λ at answer a. apart (cc (both .1)))
 
   bank-here : (id : ReplicaId) (t : ℕ) (bytes verdicts : List ℕ) → GoodBank id (bankAt R id t) → event R t ≡ some (to-replica id bytes verdicts) → WholeTurn id t
   bank-here id t bytes verdicts good e = go (bankStep (bankAt R id t) bytes verdicts) refl
     where
       go : (out : Outcome Reply) → bankStep (bankAt R id t) bytes verdicts ≡ out → WholeTurn id t
-      go (refused n) q = let both = bank-outcome id t bytes verdicts (refused n) e q in all-rest (both .0) (λ at answer a. apart (cc (both .1)))
+      go (refused n) q = refused-stays id t (request-handed bytes verdicts) n e (ap (bankTurn (placeIn bytes) (bankAt R id t)) q)
       go (accepted reply) q =
-          let both = bank-outcome id t bytes verdicts (accepted reply) e q in
+          let both = bank-outcome id t (request-handed bytes verdicts) _ e (ap (bankTurn (placeIn bytes) (bankAt R id t)) q) in
           let (register, message, passed, taken) = bank-parts (bankAt R id t) bytes verdicts reply q in
           let is = found-register AtReplica bytes register message (passed .decodes) in
           let message-fits = decoded-fits AtReplica bytes register message (passed .decodes) (R .have-bytes t (to-replica id bytes verdicts) e) in
@@ -125,25 +144,38 @@ module _ (R : Run) where
             message = message;
             reply = reply;
             event-is = e;
-            admitted = subst (λ (x : RegisterId). Admitted AtReplica (bankAt R id t .f) bytes verdicts x message) (sym is) passed;
+            admitted = subst (λ (x : RegisterId). Admitted AtReplica (bankAt R id t .f) (bankAt R id t .withdrawn) bytes verdicts x message) (sym is) passed;
             stepped = taken;
             facts = register-facts (bankPart (placeIn bytes) (bankAt R id t)) verdicts message reply (good .fit (placeIn bytes) (place-below (registerIn bytes))) message-fits (passed .may-send) (passed .passed) taken;
             next-is = both .0;
             answer-is = both .1;
           })
 
+  bank-ordered : (id : ReplicaId) (t : ℕ) (order : List ℕ) → event R t ≡ some (order-to id order) → WholeTurn id t
+  bank-ordered id t order e = go (takeOrder (bankAt R id t) order) refl
+    where
+      go : (out : Outcome Bank) → takeOrder (bankAt R id t) order ≡ out → WholeTurn id t
+      go (refused n) q = refused-stays id t (order-handed order) n e (ap orderTurn q)
+      go (accepted next) q =
+          let both = bank-outcome id t (order-handed order) _ e (ap orderTurn q) in
+          all-rest _ (both .0 ∙ took (bankAt R id t) order next q .next-is) (λ at message a. apart (cc (both .1)))
+
+  own-bank-turn : (id : ReplicaId) (t : ℕ) → GoodBank id (bankAt R id t) → (e : ReplicaEvent) → event R t ≡ some (at-replica id e) → WholeTurn id t
+  own-bank-turn id t good (request-handed bytes verdicts) q = bank-here id t bytes verdicts good q
+  own-bank-turn id t good (order-handed order) q = bank-ordered id t order q
+
   bank-turn-of : (id : ReplicaId) (t : ℕ) → GoodBank id (bankAt R id t) → (e : Option Event) → event R t ≡ e → WholeTurn id t
   unfolding bankAt
-  bank-turn-of id t good none q = all-rest (rw q) (no-event t (replica id) q)
-  bank-turn-of id t good (some (at-client at e)) q = all-rest (rw q) (elsewhere t (replica id) (at-client at e) q (λ p. apart (cc)))
-  bank-turn-of id t good (some (at-replica at (request-handed bytes verdicts))) q = go (eqb (at .0) (id .0)) refl
+  bank-turn-of id t good none q = stays id t (rw q) (no-event t (replica id) q)
+  bank-turn-of id t good (some (at-client at e)) q = stays id t (rw q) (elsewhere t (replica id) (at-client at e) q (λ p. apart (cc)))
+  bank-turn-of id t good (some (at-replica at e)) q = go (eqb (at .0) (id .0)) refl
     where
       go : (b : Bool) → eqb (at .0) (id .0) ≡ b → WholeTurn id t
       go true k =
           let same = same-replica at id (eqb-true (at .0) (id .0) k) in
-          bank-here id t bytes verdicts good (q ∙ ap (λ (i : ReplicaId). some (to-replica i bytes verdicts)) same)
+          own-bank-turn id t good e (q ∙ ap (λ (i : ReplicaId). some (at-replica i e)) same)
       go false k =
-          all-rest (rw (q, k)) (elsewhere t (replica id) (to-replica at bytes verdicts) q
+          stays id t (rw (q, k)) (elsewhere t (replica id) (at-replica at e) q
           (λ p. let same : at ≡ id = cc in eqb-false (at .0) (id .0) k (ap (λ (i : ReplicaId). i .0) same)))
 
   -- The part that stepped fits, and so do the others.
@@ -164,11 +196,11 @@ module _ (R : Run) where
       go true e = subst (λ (p : ℕ). RegisterReplicaFits (bankPart p (withBankPart (placeIn (s .bytes)) (s .reply .next) (bankAt R id t)))) (sym (eqb-true at (placeIn (s .bytes)) e)) stepped
       go false e = subst RegisterReplicaFits (sym (part-elsewhere (bankAt R id t) (placeIn (s .bytes)) (s .reply .next) at (eqb-false at (placeIn (s .bytes)) e))) (good .fit at inside)
 
-  fresh-bank : (id : ReplicaId) → R .correct-replica id ≡ true → GoodBank id (freshBank (R .f) id)
+  fresh-bank : (id : ReplicaId) → R .correct-replica id ≡ true → GoodBank id (freshBank (R .f) id (R .office-key id))
   fresh-bank id c =
       let range = correct-replica-range id c in
       let low : id .0 < 256 = omega arith in
-      record { f-is = refl; id-is = refl; long = length-replicate 16 freshRegister; fit = λ at inside. subst RegisterReplicaFits (sym (fresh-part (R .f) id at inside)) (fresh-replica-fits (R .f) id low) }
+      record { f-is = refl; id-is = refl; key-is = refl; long = length-replicate 16 freshRegister; fit = λ at inside. subst RegisterReplicaFits (sym (fresh-part (R .f) id (R .office-key id) at inside)) (fresh-replica-fits (R .f) id low) }
 
   pub good-bank : (id : ReplicaId) → R .correct-replica id ≡ true → (t : ℕ) → GoodBank id (bankAt R id t)
   unfolding bankAt
@@ -176,12 +208,21 @@ module _ (R : Run) where
   good-bank id c (suc t) = go (good-bank id c t) (bank-turn-of id t (good-bank id c t) (event R t) refl)
     where
       go : GoodBank id (bankAt R id t) → WholeTurn id t → GoodBank id (bankAt R id (suc t))
-      go good (all-rest same silent) = subst (GoodBank id) (sym same) good
+      go good (all-rest withdrawn same silent) =
+          subst (GoodBank id) (sym same)
+          (record {
+            f-is = good .f-is;
+            id-is = good .id-is;
+            key-is = good .key-is;
+            long = good .long;
+            fit = λ at inside. let fits = good .fit at inside in record { id-fits = fits .id-fits; slots-fit = fits .slots-fit; held-fits = fits .held-fits };
+          })
       go good (one-steps s) =
           subst (GoodBank id) (sym (s .next-is))
           (record {
             f-is = good .f-is;
             id-is = good .id-is;
+            key-is = good .key-is;
             long = length-set (bankAt R id t .registers) (placeIn (s .bytes)) (s .reply .next .register) ∙ good .long;
             fit = step-fit id t good s;
           })
@@ -189,9 +230,9 @@ module _ (R : Run) where
   -- ---- One register of a replica: it steps with the messages at its place, and rests with all others
 
   module _ (x : RegisterId) where
-    -- The replica's event t is for this register, and answered so.
-    abbrev pub Answers : ReplicaId → ℕ → Answer → Type 0
-    Answers id t answer = (at : At R t (replica id)) × (registerOf (at .0) ≡ x) × (answerAt R t ≡ accepted answer)
+    -- The replica's event t is for this register, and answered with this message.
+    abbrev pub Answers : ReplicaId → ℕ → Message → Type 0
+    Answers id t message = (at : At R t (replica id)) × (registerOf (at .0) ≡ x) × (answerAt R t ≡ accepted (send message))
 
     pub record RegisterStep (id : ReplicaId) (t : ℕ) : Type 0 where
       pub bytes : List ℕ
@@ -199,7 +240,7 @@ module _ (R : Run) where
       pub message : Message
       pub reply : Reply
       pub event-is : event R t ≡ some (to-replica id bytes verdicts)
-      pub admitted : Admitted AtReplica (bankAt R id t .f) bytes verdicts (registerIn bytes) message
+      pub admitted : Admitted AtReplica (bankAt R id t .f) (bankAt R id t .withdrawn) bytes verdicts (registerIn bytes) message
       pub placed : placeIn bytes ≡ registerPlace x
       pub stepped : onRequest (registerReplicaAt R x id t) message ≡ accepted reply
       pub facts : RegisterFacts (registerReplicaAt R x id t) verdicts message reply
@@ -207,7 +248,7 @@ module _ (R : Run) where
       pub answer-is : answerAt R t ≡ accepted (send (reply .message))
 
     pub data RegisterTurn (id : ReplicaId) (t : ℕ) : Type 0 where
-      rests : registerAt R x id (suc t) ≡ registerAt R x id t → ((answer : Answer) → Answers id t answer → ⊥) → RegisterTurn id t
+      rests : registerAt R x id (suc t) ≡ registerAt R x id t → ((message : Message) → Answers id t message → ⊥) → RegisterTurn id t
       steps : RegisterStep id t → RegisterTurn id t
 
     -- The step of a message at this register's place, and of one at another.
@@ -234,7 +275,7 @@ module _ (R : Run) where
         rests
         (ap (λ (bank : Bank). bankPart (registerPlace x) bank .register) (s .next-is)
         ∙ ap (λ (part : RegisterReplica). part .register) (part-elsewhere (bankAt R id t) (placeIn (s .bytes)) (s .reply .next) (registerPlace x) (λ e. other (sym e))))
-        (λ answer (at, is, a).
+        (λ message (at, is, a).
         let one : at .0 ≡ to-replica id (s .bytes) (s .verdicts) = cc (at .1, s .event-is) in
         other (ap registerPlace (sym (ap registerOf one) ∙ is)))
 
@@ -242,7 +283,7 @@ module _ (R : Run) where
     register-turn id c t = go (bank-turn-of id t (good-bank id c t) (event R t) refl)
       where
         go : WholeTurn id t → RegisterTurn id t
-        go (all-rest same silent) = rests (ap (λ (bank : Bank). bankPart (registerPlace x) bank .register) same) (λ answer (at, is, a). silent at answer a)
+        go (all-rest withdrawn same silent) = rests (ap (λ (bank : Bank). bankPart (registerPlace x) bank .register) same) (λ message (at, is, a). silent at message a)
         go (one-steps s) = by (eqb (placeIn (s .bytes)) (registerPlace x)) refl
           where
             by : (b : Bool) → eqb (placeIn (s .bytes)) (registerPlace x) ≡ b → RegisterTurn id t
@@ -250,16 +291,16 @@ module _ (R : Run) where
             by false e = away id t s (eqb-false (placeIn (s .bytes)) (registerPlace x) e)
 
     -- A replica that answers for the register has stepped with it,
-    pub register-step : (id : ReplicaId) → R .correct-replica id ≡ true → (t : ℕ) (answer : Answer) → Answers id t answer → RegisterStep id t
-    register-step id c t answer a = go (register-turn id c t)
+    pub register-step : (id : ReplicaId) → R .correct-replica id ≡ true → (t : ℕ) (message : Message) → Answers id t message → RegisterStep id t
+    register-step id c t message a = go (register-turn id c t)
       where
         go : RegisterTurn id t → RegisterStep id t
-        go (rests same silent) = absurd (silent answer a)
+        go (rests same silent) = absurd (silent message a)
         go (steps s) = s
 
     -- with a message for it.
-    pub step-register : (id : ReplicaId) (t : ℕ) (s : RegisterStep id t) (answer : Answer) → Answers id t answer → registerIn (s .bytes) ≡ x
-    step-register id t s answer (at, is, a) = let one : at .0 ≡ to-replica id (s .bytes) (s .verdicts) = cc (at .1, s .event-is) in sym (ap registerOf one) ∙ is
+    pub step-register : (id : ReplicaId) (t : ℕ) (s : RegisterStep id t) (message : Message) → Answers id t message → registerIn (s .bytes) ≡ x
+    step-register id t s message (at, is, a) = let one : at .0 ≡ to-replica id (s .bytes) (s .verdicts) = cc (at .1, s .event-is) in sym (ap registerOf one) ∙ is
 
   -- ---- Clients
 
@@ -283,7 +324,7 @@ module _ (R : Run) where
     pub message : Message
     pub turn : Turn
     pub event-is : event R t ≡ some (to-client id bytes verdicts)
-    pub admitted : Admitted AtClient (clientAt R id t .f) bytes verdicts (clientAt R id t .register) message
+    pub admitted : Admitted AtClient (clientAt R id t .f) nobody bytes verdicts (clientAt R id t .register) message
     pub stepped : clientTakes id (clientAt R id t) (signature bytes) message ≡ accepted turn
     pub facts : ClientFacts (clientAt R id t) verdicts message turn
     pub step : ClientStep id t turn
@@ -325,7 +366,7 @@ module _ (R : Run) where
   -- What a client takes, at either engine: the message, the step itself, and its facts.
   abbrev pub TakesMessage : (List ℕ → Message → Outcome Turn) → Client → List ℕ → List ℕ → Turn → Type 0
   TakesMessage engine before bytes verdicts turn =
-      (message : Message) × Admitted AtClient (before .f) bytes verdicts (before .register) message × (engine (signature bytes) message ≡ accepted turn) × ClientFacts before verdicts message turn
+      (message : Message) × Admitted AtClient (before .f) nobody bytes verdicts (before .register) message × (engine (signature bytes) message ≡ accepted turn) × ClientFacts before verdicts message turn
 
   writer-takes : (before : Client) (bytes verdicts : List ℕ) (turn : Turn) → ClientFits before → PhaseFits (before .phase) → Bytes bytes → clientStep before bytes verdicts ≡ accepted turn
       → TakesMessage (onReply before) before bytes verdicts turn

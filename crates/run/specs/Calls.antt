@@ -10,7 +10,7 @@ use Rattle.base.specs.declared.party.ClientId.{ClientId}
 use Rattle.base.specs.declared.party.ReplicaId.{ReplicaId}
 use Rattle.protocol.specs.Bank.{madeBank}
 use Rattle.protocol.specs.Client.{Given, given}
-use Rattle.protocol.specs.Events.{replicaEventCall, givenByReplica, madeWith, clientEventCall, givenByClient}
+use Rattle.protocol.specs.Events.{replicaEventCall, madeWith, clientEventCall, givenByClient}
 use Rattle.protocol.specs.declared.client.Client.{Client}
 use Rattle.protocol.specs.declared.replica.Bank.{Bank}
 use Rattle.run.specs.Run.{Event, at-replica, at-client, registerOf, Run, event, bankAt, clientAt, answerAt}
@@ -30,7 +30,7 @@ calledAtClient id (some (at-client at e)) old before = cond (eqb (at .0) (id .0)
 module _ (R : Run) (output : ℕ → List ℕ) where
   -- The records before event t: those that set-up made, handed from call to call.
   unfoldable pub calledReplica : ReplicaId → ℕ → Bank
-  calledReplica id zero = madeBank (R .f) id
+  calledReplica id zero = madeBank (R .f) id (R .office-key id)
   calledReplica id (suc t) = calledAtReplica id (event R t) (output t) (calledReplica id t)
 
   unfoldable pub calledClient : ClientId → ℕ → Client
@@ -39,7 +39,7 @@ module _ (R : Run) (output : ℕ → List ℕ) where
 
   -- What the call of an event at time t gives back.
   unfoldable pub givenAt : ℕ → Event → Given
-  givenAt t (at-replica id e) = givenByReplica (replicaEventCall e (output t) (calledReplica id t))
+  givenAt t (at-replica id e) = replicaEventCall e (output t) (calledReplica id t) .gives
   givenAt t (at-client id e) = givenByClient (clientEventCall id e (output t) (calledClient id t))
 
   pub record CallsAreRun : Type 0 where

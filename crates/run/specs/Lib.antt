@@ -8,3 +8,4 @@ pub mod Replies
 pub mod Run
 pub mod Views
 pub mod Vouching
+pub mod Withdrawals

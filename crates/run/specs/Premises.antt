@@ -14,7 +14,7 @@ use Rattle.wire.specs.Message.{Message, READ-STAMP, PREPARE, WRITE, READ, STAMP
 use Rattle.wire.specs.Sha256.{sha256}
 use Rattle.wire.specs.Signatures.{Signature, signaturesOf}
 use Rattle.wire.specs.declared.message.Party.the-variants.{Replica as AtReplica, Client as AtClient}
-use Rattle.protocol.specs.Events.{request-handed, write-begun, read-begun, reply-handed}
+use Rattle.protocol.specs.Events.{request-handed, order-handed, write-begun, read-begun, reply-handed}
 use Rattle.run.specs.Run.{Event, at-replica, at-client, Run, event, answerAt, Correct, Sent}
 
 module _ (R : Run) where
@@ -36,6 +36,7 @@ module _ (R : Run) where
   TrueAt t (some (at-client id (write-begun x card))) = Unit {0}
   TrueAt t (some (at-client id (read-begun x))) = Unit {0}
   TrueAt t (some (at-replica id (request-handed bytes verdicts))) = TrueFor t bytes verdicts (decode AtReplica bytes)
+  TrueAt t (some (at-replica id (order-handed order))) = Unit {0}
   TrueAt t (some (at-client id (reply-handed bytes verdicts))) = TrueFor t bytes verdicts (decode AtClient bytes)
 
   -- "The cards of a run are those that a write was begun with or that a message carried, in events not refused"
@@ -55,6 +56,7 @@ module _ (R : Run) where
   eventCard (some (at-client id (write-begun x card))) = some card
   eventCard (some (at-client id (read-begun x))) = none
   eventCard (some (at-replica id (request-handed bytes verdicts))) = carriedBy (decode AtReplica bytes)
+  eventCard (some (at-replica id (order-handed order))) = none
   eventCard (some (at-client id (reply-handed bytes verdicts))) = carriedBy (decode AtClient bytes)
 
   -- Event t is not refused.

@@ -12,9 +12,10 @@ use Rattle.base.specs.Party.{isFaultBound, isReplica, isClient, isWriter, regis
 use Rattle.base.specs.declared.party.ClientId.{ClientId}
 use Rattle.base.specs.declared.party.RegisterId.{RegisterId}
 use Rattle.base.specs.declared.party.ReplicaId.{ReplicaId}
+use Rattle.lms.specs.Lms.{isPublicKey}
 use Rattle.protocol.specs.Bank.{bankPart, freshBank}
 use Rattle.protocol.specs.Client.{Answer, send, freshClient}
-use Rattle.protocol.specs.Events.{ReplicaEvent, ClientEvent, request-handed, write-begun, read-begun, reply-handed, replicaEventRegister, clientEventRegister, onReplicaEvent, nextBank, bankAnswer, onClientEvent, nextClient, clientAnswer}
+use Rattle.protocol.specs.Events.{ReplicaEvent, ClientEvent, request-handed, order-handed, write-begun, read-begun, reply-handed, replicaEventRegister, clientEventRegister, onReplicaEvent, nextBank, bankAnswer, onClientEvent, nextClient, clientAnswer}
 use Rattle.protocol.specs.declared.client.Client.{Client}
 use Rattle.protocol.specs.declared.replica.Bank.{Bank}
 use Rattle.protocol.specs.declared.replica.Register.{Register}
@@ -36,6 +37,9 @@ begins-read id x = at-client id (read-begun x)
 abbrev pub to-replica : ReplicaId → List ℕ → List ℕ → Event
 to-replica id bytes verdicts = at-replica id (request-handed bytes verdicts)
 
+abbrev pub order-to : ReplicaId → List ℕ → Event
+order-to id order = at-replica id (order-handed order)
+
 abbrev pub to-client : ClientId → List ℕ → List ℕ → Event
 to-client id bytes verdicts = at-client id (reply-handed bytes verdicts)
 
@@ -51,6 +55,7 @@ registerOf (at-client id e) = clientEventRegister e
 -- Bytes are below 256.
 abbrev pub HasBytes : Event → Type 0
 HasBytes (at-replica id (request-handed bytes verdicts)) = Bytes bytes
+HasBytes (at-replica id (order-handed order)) = Bytes order
 HasBytes (at-client id (write-begun x card)) = Bytes card
 HasBytes (at-client id (read-begun x)) = Unit {0}
 HasBytes (at-client id (reply-handed bytes verdicts)) = Bytes bytes
@@ -59,17 +64,20 @@ abbrev pub CorrectIn : (ReplicaId → Bool) → (ClientId → Bool) → Sender �
 CorrectIn correct-replica correct-client (replica id) = correct-replica id ≡ true
 CorrectIn correct-replica correct-client (client id) = correct-client id ≡ true
 
--- A run: the fault bound, who is correct, the correct clients' first nonces, and the events. "Each is set up once, before
--- the first event, with the run's f and its own number, a desk with any first nonce but 0."
+-- A run: the fault bound, who is correct, the correct clients' first nonces, the correct replicas' keys, and the events. "Each is set up
+-- once, before the first event, with the run's f and its own number, a desk with any first nonce but 0." Document 02, #105: "The holder is
+-- set up with the key"; nobody says that all have one key.
 pub record Run : Type 0 where
   pub f : ℕ
   pub correct-replica : ReplicaId → Bool
   pub correct-client : ClientId → Bool
   pub first-nonce : ClientId → ℕ
+  pub office-key : ReplicaId → List ℕ
   pub events : List Event
   pub f-in-range : isFaultBound f ≡ true
   pub replicas-in-range : (id : ReplicaId) → correct-replica id ≡ true → isReplica f id ≡ true
   pub clients-in-range : (id : ClientId) → correct-client id ≡ true → (isClient id ≡ true) × (1 ≤ first-nonce id) × (first-nonce id < 2 ^ 64)
+  pub keys-in-range : (id : ReplicaId) → correct-replica id ≡ true → (isPublicKey (office-key id) ≡ true) × Bytes (office-key id)
   -- A viewing client has no write to begin.
   pub writers-begin : (t : ℕ) (id : ClientId) (x : RegisterId) (card : List ℕ) → getElem? events t ≡ some (begins-write id x card) → isWriter id ≡ true
   pub have-bytes : (t : ℕ) (e : Event) → getElem? events t ≡ some e → HasBytes e
@@ -93,7 +101,7 @@ module _ (R : Run) where
 
   -- The records before event t, "at first the fresh one".
   unfoldable pub bankAt : ReplicaId → ℕ → Bank
-  bankAt id zero = freshBank (R .f) id
+  bankAt id zero = freshBank (R .f) id (R .office-key id)
   bankAt id (suc t) = afterAtReplica id (event t) (bankAt id t)
 
   unfoldable pub clientAt : ClientId → ℕ → Client

@@ -46,6 +46,9 @@ client-3 = record { 0 = 3 }
 abbrev pub client-4 : ClientId
 client-4 = record { 0 = 4 }
 
+abbrev pub client-5 : ClientId
+client-5 = record { 0 = 5 }
+
 -- A viewing client.
 abbrev pub viewer-65 : ClientId
 viewer-65 = record { 0 = 65 }
@@ -60,11 +63,17 @@ abbrev pub 1·4 : ℕ
 abbrev pub 2·2 : ℕ
 2·2 = 514
 
+abbrev pub 2·5 : ℕ
+2·5 = 517
+
 abbrev pub 3·1 : ℕ
 3·1 = 769
 
 abbrev pub at-1·1 : Timestamp
 at-1·1 = record { count = 1; client = client-1 }
+
+abbrev pub at-1·4 : Timestamp
+at-1·4 = record { count = 1; client = client-4 }
 
 -- Sets of replicas as 16 bits, replica 1 lowest: 1, 2 and 3, and 1, 2 and 4.
 abbrev pub by-1-2-3 : ReplicaSet

@@ -4,6 +4,7 @@ pub mod Cards
 pub mod Cast
 pub mod Computing
 pub mod FirstWrite
+pub mod GoodOrder
 pub mod Meeting
 pub mod NotEmpty
 pub mod Replay
@@ -12,3 +13,4 @@ pub mod Story
 pub mod TwoRegisters
 pub mod VerdictsNeeded
 pub mod Viewing
+pub mod Withdrawn

@@ -19,7 +19,7 @@ use Rattle.protocol.specs.Client.{Answer, freshClient}
 use Rattle.protocol.specs.Bank.{freshBank}
 use Rattle.protocol.specs.declared.client.Client.{Client}
 use Rattle.protocol.specs.declared.replica.Bank.{Bank}
-use Rattle.protocol.specs.Events.{onReplicaEvent, nextBank, bankAnswer, onClientEvent, nextClient, clientAnswer}
+use Rattle.protocol.specs.Events.{ReplicaEvent, BankTurn, onReplicaEvent, nextBank, bankAnswer, onClientEvent, nextClient, clientAnswer}
 use Rattle.run.specs.Run.{Event, at-replica, at-client, registerOf, afterAtReplica, afterAtClient, Run, event, bankAt, clientAt, answerTo}
 use Rattle.base.proofs.Same.{same-equal}
 use Rattle.witness.proofs.Answers.{code}
@@ -68,7 +68,7 @@ abbrev client-of : ℕ → ClientId
 client-of i = record { 0 = i }
 
 abbrev no-replica : Bank
-no-replica = freshBank 1 (replica-of 0)
+no-replica = freshBank 1 (replica-of 0) []
 
 abbrev no-client : Client
 no-client = freshClient 1 (client-of 0) 1
@@ -89,35 +89,44 @@ withReplica store id next = record { replicas = set (store .replicas) (id .0) ne
 abbrev withClient : Store → ClientId → Client → Store
 withClient store id next = record { replicas = store .replicas; clients = set (store .clients) (id .0) next }
 
+-- How a replica steps as it is played: as `onReplicaEvent` says, or with an order's outcome as told, since no proof computes the hashes of its
+-- signature check.
+abbrev pub Stepping : Type 0
+Stepping = ReplicaEvent → Bank → Outcome BankTurn
+
 -- The answer to an event, and the store afterwards: a `let`, so that the step is computed once for both.
 record Played : Type 0 where
   answer : Outcome Answer
   next : Store
 
-abbrev play : Store → Event → Played
-play store (at-replica id e) =
+abbrev play : Stepping → Store → Event → Played
+play step store (at-replica id e) =
     let before = replicaIn store id in
-    let turn = onReplicaEvent e before in
+    let turn = step e before in
     record { answer = bankAnswer turn; next = withReplica store id (nextBank before turn) }
-play store (at-client id e) =
+play step store (at-client id e) =
     let before = clientIn store id in
     let turn = onClientEvent id e before in
     record { answer = clientAnswer turn; next = withClient store id (nextClient before turn) }
 
 -- The lines' answers are those of their events, all at parties of the store.
-unfoldable pub plays : Store → List Line → Bool
+unfoldable pub playsBy : Stepping → Store → List Line → Bool
 unfolding code
-plays store [] = true
-plays store (line ∷ lines) =
-    let played = play store (line .event) in
-    (inStore store (line .event) && same (code (registerOf (line .event)) (played .answer)) (code (registerOf (line .event)) (line .answer))) && plays (played .next) lines
+playsBy step store [] = true
+playsBy step store (line ∷ lines) =
+    let played = play step store (line .event) in
+    (inStore store (line .event) && same (code (registerOf (line .event)) (played .answer)) (code (registerOf (line .event)) (line .answer))) && playsBy step (played .next) lines
+
+unfoldable pub plays : Store → List Line → Bool
+unfolding playsBy
+plays store lines = playsBy onReplicaEvent store lines
 
 module _ (R : Run) where
   -- The fresh records of replicas 1 to 4 and clients 1 to c; place 0 is no party's.
   abbrev pub freshStore : ℕ → Store
   freshStore c =
       record {
-        replicas = records 5 (λ i. freshBank (R .f) (replica-of i));
+        replicas = records 5 (λ i. freshBank (R .f) (replica-of i) (R .office-key (replica-of i)));
         clients = records (suc c) (λ i. freshClient (R .f) (client-of i) (R .first-nonce (client-of i)));
       }
 
@@ -130,7 +139,7 @@ module _ (R : Run) where
   unfolding bankAt clientAt
   fresh-holds c =
       record {
-        replicas = records-right no-replica 5 (λ i. freshBank (R .f) (replica-of i));
+        replicas = records-right no-replica 5 (λ i. freshBank (R .f) (replica-of i) (R .office-key (replica-of i)));
         clients = records-right no-client (suc c) (λ i. freshClient (R .f) (client-of i) (R .first-nonce (client-of i)));
       }
 
@@ -143,45 +152,68 @@ module _ (R : Run) where
   unfolding clientAt
   next-client t e found i = ap (λ (x : Option Event). afterAtClient (client-of i) x (clientAt R (client-of i) t)) (sym found)
 
-  still-holds : (t : ℕ) (store : Store) (e : Event) → event R t ≡ some e → inStore store e ≡ true → Holds t store → Holds (suc t) (play store e .next)
-  still-holds t store (at-replica id e) found there holds =
-      record {
-        replicas = λ i inside.
-            steps-right no-replica (store .replicas) (λ j. bankAt R (replica-of j) t) (id .0) (λ b. nextBank b (onReplicaEvent e b)) (ltb-true (id .0) (length (store .replicas)) there) (holds .replicas) i inside
-            ∙ next-replica t (at-replica id e) found i;
-        clients = λ i inside. holds .clients i inside ∙ next-client t (at-replica id e) found i;
-      }
-  still-holds t store (at-client id e) found there holds =
-      record {
-        replicas = λ i inside. holds .replicas i inside ∙ next-replica t (at-client id e) found i;
-        clients = λ i inside.
-            steps-right no-client (store .clients) (λ j. clientAt R (client-of j) t) (id .0) (λ c. nextClient c (onClientEvent id e c)) (ltb-true (id .0) (length (store .clients)) there) (holds .clients) i inside
-            ∙ next-client t (at-client id e) found i;
-      }
+  -- The replicas of the run step so.
+  abbrev pub Rightly : Stepping → Type 0
+  Rightly step = (t : ℕ) (id : ReplicaId) (e : ReplicaEvent) → event R t ≡ some (at-replica id e) → step e (bankAt R id t) ≡ onReplicaEvent e (bankAt R id t)
 
-  answers-right : (t : ℕ) (store : Store) (e : Event) → inStore store e ≡ true → Holds t store → answerTo R t (some e) ≡ play store e .answer
-  unfolding answerTo
-  answers-right t store (at-replica id e) there holds = ap (λ (b : Bank). bankAnswer (onReplicaEvent e b)) (sym (holds .replicas (id .0) (ltb-true (id .0) (length (store .replicas)) there)))
-  answers-right t store (at-client id e) there holds = ap (λ (c : Client). clientAnswer (onClientEvent id e c)) (sym (holds .clients (id .0) (ltb-true (id .0) (length (store .clients)) there)))
+  module _ (step : Stepping) (right : Rightly step) where
+    -- Of party i: its own event, or another's.
+    steps-so : (t : ℕ) (id : ReplicaId) (e : ReplicaEvent) → event R t ≡ some (at-replica id e) → (i : ℕ)
+        → cond (eqb (id .0) i) (nextBank (bankAt R (replica-of i) t) (step e (bankAt R (replica-of i) t))) (bankAt R (replica-of i) t)
+        ≡ cond (eqb (id .0) i) (nextBank (bankAt R (replica-of i) t) (onReplicaEvent e (bankAt R (replica-of i) t))) (bankAt R (replica-of i) t)
+    steps-so t id e found i = go (eqb (id .0) i) refl
+      where
+        left : Stepping → ℕ → Bank
+        left by j = nextBank (bankAt R (replica-of j) t) (by e (bankAt R (replica-of j) t))
 
-  each-played : (t : ℕ) (store : Store) (lines : List Line) → ((i : ℕ) → event R (t + i) ≡ getElem? (eventsOf lines) i) → Holds t store → plays store lines ≡ true
-      → Each (λ s line. code (registerOf (line .event)) (answerTo R s (some (line .event))) ≡ code (registerOf (line .event)) (line .answer)) t lines
-  unfolding plays
-  each-played t store [] events holds test = tt
-  each-played t store (line ∷ lines) events holds test =
-      let x = registerOf (line .event) in
-      let both = and-true-both (inStore store (line .event) && same (code x (play store (line .event) .answer)) (code x (line .answer))) (plays (play store (line .event) .next) lines) test in
-      let here = and-true-both (inStore store (line .event)) (same (code x (play store (line .event) .answer)) (code x (line .answer))) (both .0) in
-      let now : t + 0 ≡ t = omega arith in
-      let found : event R t ≡ some (line .event) = subst (λ (s : ℕ). event R s ≡ some (line .event)) now (events 0) in (
-        ap (code x) (answers-right t store (line .event) (here .0) holds) ∙ same-equal (code x (play store (line .event) .answer)) (code x (line .answer)) (here .1),
-        each-played (suc t) (play store (line .event) .next) lines (λ i. let then : t + suc i ≡ suc t + i = omega arith in subst (λ (s : ℕ). event R s ≡ getElem? (eventsOf lines) i) then (events (suc i)))
-            (still-holds t store (line .event) found (here .0) holds) (both .1),
-      )
+        go : (own : Bool) → eqb (id .0) i ≡ own → cond own (left step i) (bankAt R (replica-of i) t) ≡ cond own (left onReplicaEvent i) (bankAt R (replica-of i) t)
+        go true k = subst (λ (j : ℕ). left step j ≡ left onReplicaEvent j) (eqb-true (id .0) i k) (ap (nextBank (bankAt R id t)) (right t id e found))
+        go false k = refl
+
+    still-holds : (t : ℕ) (store : Store) (e : Event) → event R t ≡ some e → inStore store e ≡ true → Holds t store → Holds (suc t) (play step store e .next)
+    still-holds t store (at-replica id e) found there holds =
+        record {
+          replicas = λ i inside.
+              steps-right no-replica (store .replicas) (λ j. bankAt R (replica-of j) t) (id .0) (λ b. nextBank b (step e b)) (ltb-true (id .0) (length (store .replicas)) there) (holds .replicas) i inside
+              ∙ steps-so t id e found i ∙ next-replica t (at-replica id e) found i;
+          clients = λ i inside. holds .clients i inside ∙ next-client t (at-replica id e) found i;
+        }
+    still-holds t store (at-client id e) found there holds =
+        record {
+          replicas = λ i inside. holds .replicas i inside ∙ next-replica t (at-client id e) found i;
+          clients = λ i inside.
+              steps-right no-client (store .clients) (λ j. clientAt R (client-of j) t) (id .0) (λ c. nextClient c (onClientEvent id e c)) (ltb-true (id .0) (length (store .clients)) there) (holds .clients) i inside
+              ∙ next-client t (at-client id e) found i;
+        }
+
+    answers-right : (t : ℕ) (store : Store) (e : Event) → event R t ≡ some e → inStore store e ≡ true → Holds t store → answerTo R t (some e) ≡ play step store e .answer
+    unfolding answerTo
+    answers-right t store (at-replica id e) found there holds =
+        ap bankAnswer (sym (right t id e found)) ∙ ap (λ (b : Bank). bankAnswer (step e b)) (sym (holds .replicas (id .0) (ltb-true (id .0) (length (store .replicas)) there)))
+    answers-right t store (at-client id e) found there holds = ap (λ (c : Client). clientAnswer (onClientEvent id e c)) (sym (holds .clients (id .0) (ltb-true (id .0) (length (store .clients)) there)))
+
+    each-played : (t : ℕ) (store : Store) (lines : List Line) → ((i : ℕ) → event R (t + i) ≡ getElem? (eventsOf lines) i) → Holds t store → playsBy step store lines ≡ true
+        → Each (λ s line. code (registerOf (line .event)) (answerTo R s (some (line .event))) ≡ code (registerOf (line .event)) (line .answer)) t lines
+    unfolding playsBy
+    each-played t store [] events holds test = tt
+    each-played t store (line ∷ lines) events holds test =
+        let x = registerOf (line .event) in
+        let both = and-true-both (inStore store (line .event) && same (code x (play step store (line .event) .answer)) (code x (line .answer))) (playsBy step (play step store (line .event) .next) lines) test in
+        let here = and-true-both (inStore store (line .event)) (same (code x (play step store (line .event) .answer)) (code x (line .answer))) (both .0) in
+        let now : t + 0 ≡ t = omega arith in
+        let found : event R t ≡ some (line .event) = subst (λ (s : ℕ). event R s ≡ some (line .event)) now (events 0) in (
+          ap (code x) (answers-right t store (line .event) found (here .0) holds) ∙ same-equal (code x (play step store (line .event) .answer)) (code x (line .answer)) (here .1),
+          each-played (suc t) (play step store (line .event) .next) lines (λ i. let then : t + suc i ≡ suc t + i = omega arith in subst (λ (s : ℕ). event R s ≡ getElem? (eventsOf lines) i) then (events (suc i)))
+              (still-holds t store (line .event) found (here .0) holds) (both .1),
+        )
+
+    pub playedBy : (c : ℕ) (lines : List Line) → R .events ≡ eventsOf lines → playsBy step (freshStore c) lines ≡ true → Told R lines
+    playedBy c lines told test =
+        record {
+          events = told;
+          answers = each-played 0 (freshStore c) lines (λ i. let now : 0 + i ≡ i = omega arith in subst (λ (s : ℕ). event R s ≡ getElem? (eventsOf lines) i) (sym now) (ap (λ (es : List Event). getElem? es i) told)) (fresh-holds c) test;
+        }
 
   pub played : (c : ℕ) (lines : List Line) → R .events ≡ eventsOf lines → plays (freshStore c) lines ≡ true → Told R lines
-  played c lines told test =
-      record {
-        events = told;
-        answers = each-played 0 (freshStore c) lines (λ i. let now : 0 + i ≡ i = omega arith in subst (λ (s : ℕ). event R s ≡ getElem? (eventsOf lines) i) (sym now) (ap (λ (es : List Event). getElem? es i) told)) (fresh-holds c) test;
-      }
+  unfolding plays
+  played c lines told test = playedBy onReplicaEvent (λ t id e found. refl) c lines told test

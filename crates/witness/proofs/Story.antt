@@ -9,11 +9,11 @@ use native.Mathlib.Nat.{zero-add}
 use native.Mathlib.Omega.{arith}
 use borrow.Author.Tests.{eqb-true, eq-eqb, ltb-true, lt-leb}
 use lib.Dec.{eqb, leb, ltb, lit<, lit≤}
-use lib.ListN.{length, getElem?}
+use lib.ListN.{length, getElem?, replicate}
 use Rattle.base.proofs.Apart.{apart}
 use Rattle.base.proofs.Booleans.{and-true-both}
 use Rattle.base.proofs.Range.{inside, bounds}
-use Rattle.base.specs.BigEndian.{Bytes}
+use Rattle.base.specs.BigEndian.{Bytes, fromBytes}
 use Rattle.base.specs.Outcome.{Outcome, accepted, refused}
 use Rattle.base.specs.Party.{isWriter, isViewer}
 use Rattle.base.specs.Range.{within}
@@ -23,8 +23,9 @@ use Rattle.base.specs.declared.party.RegisterId.{RegisterId}
 use Rattle.base.specs.declared.party.ReplicaId.{ReplicaId}
 use Rattle.base.specs.declared.replica_set.ReplicaSet.{ReplicaSet}
 use Rattle.base.specs.declared.timestamp.Timestamp.{Timestamp}
+use Rattle.lms.specs.Lms.{isPublicKey}
 use Rattle.protocol.specs.Client.{Answer, send, waits, done, ended}
-use Rattle.protocol.specs.Events.{request-handed, write-begun, read-begun, reply-handed}
+use Rattle.protocol.specs.Events.{request-handed, order-handed, write-begun, read-begun, reply-handed}
 use Rattle.run.proofs.SentMessages.{said-later}
 use Rattle.run.specs.Claims.{GoesOn, Begins, Finished, Viewed, Genuine}
 use Rattle.run.specs.Premises.{TrueVerdicts, TrueFor, TrueAt, eventCard, Accepted, CardOfRun, FewFaulty, Premises}
@@ -88,7 +89,7 @@ tested test t (line ∷ lines) h =
     let both = and-true-both (test t line) (each test (suc t) lines) h in
     (both .0, tested test (suc t) lines (both .1))
 
-each-tested : (test : ℕ → Line → Bool) (t : ℕ) (lines : List Line) (line : Line) → each test 0 lines ≡ true → getElem? lines t ≡ some line → test t line ≡ true
+pub each-tested : (test : ℕ → Line → Bool) (t : ℕ) (lines : List Line) (line : Line) → each test 0 lines ≡ true → getElem? lines t ≡ some line → test t line ≡ true
 each-tested test t lines line h found = each-at (λ s l. test s l ≡ true) t lines line (tested test 0 lines h) found
 
 -- A line's event.
@@ -101,7 +102,7 @@ event-in t [] = refl
 event-in zero (line ∷ lines) = refl
 event-in (suc t) (line ∷ lines) = event-in t lines
 
-lineOf : (lines : List Line) (t : ℕ) (e : Event) → getElem? (eventsOf lines) t ≡ some e → (line : Line) × (getElem? lines t ≡ some line) × (line .event ≡ e)
+pub lineOf : (lines : List Line) (t : ℕ) (e : Event) → getElem? (eventsOf lines) t ≡ some e → (line : Line) × (getElem? lines t ≡ some line) × (line .event ≡ e)
 lineOf lines t e found = go (getElem? lines t) refl
   where
     go : (l : Option Line) → getElem? lines t ≡ l → (line : Line) × (getElem? lines t ≡ some line) × (line .event ≡ e)
@@ -129,6 +130,7 @@ unfolding allBytes
 hasBytes (at-client id (write-begun x card)) = allBytes card
 hasBytes (at-client id (read-begun x)) = true
 hasBytes (at-replica id (request-handed bytes verdicts)) = allBytes bytes
+hasBytes (at-replica id (order-handed order)) = allBytes order
 hasBytes (at-client id (reply-handed bytes verdicts)) = allBytes bytes
 
 pub has-bytes : (e : Event) → hasBytes e ≡ true → HasBytes e
@@ -136,12 +138,14 @@ unfolding hasBytes
 has-bytes (at-client id (write-begun x card)) h = all-bytes card h
 has-bytes (at-client id (read-begun x)) h = tt
 has-bytes (at-replica id (request-handed bytes verdicts)) h = all-bytes bytes h
+has-bytes (at-replica id (order-handed order)) h = all-bytes order h
 has-bytes (at-client id (reply-handed bytes verdicts)) h = all-bytes bytes h
 
 abbrev writerBegins : Event → Bool
 writerBegins (at-client id (write-begun x card)) = isWriter id
 writerBegins (at-client id (read-begun x)) = true
 writerBegins (at-replica id (request-handed bytes verdicts)) = true
+writerBegins (at-replica id (order-handed order)) = true
 writerBegins (at-client id (reply-handed bytes verdicts)) = true
 
 abbrev pub correctIn : (ReplicaId → Bool) → (ClientId → Bool) → Sender → Bool
@@ -163,6 +167,14 @@ replicasTo r id = within 1 r (id .0)
 abbrev pub clientsTo : ℕ → ClientId → Bool
 clientsTo c id = within 1 c (id .0)
 
+-- The replicas' key where no order is good: the type codes, zeros behind.
+abbrev pub zeroKey : List ℕ
+zeroKey = 0 ∷ 0 ∷ 0 ∷ 5 ∷ 0 ∷ 0 ∷ 0 ∷ 4 ∷ replicate 48 0
+
+pub zero-key : (isPublicKey zeroKey ≡ true) × Bytes zeroKey
+unfolding isPublicKey fromBytes allBytes
+zero-key = (refl, all-bytes zeroKey refl)
+
 abbrev pub wellTold : ℕ → ℕ → ℕ → Line → Bool
 wellTold r c t line = hasBytes (line .event) && (writerBegins (line .event) && correctIn (replicasTo r) (clientsTo c) (partyOf (line .event)))
 
@@ -176,21 +188,27 @@ module _ (r c : ℕ) (at-most-four : r ≤ 4) (at-most-96 : c ≤ 96) (lines : L
       let rest = and-true-both (writerBegins e) (correctIn (replicasTo r) (clientsTo c) (partyOf e)) (both .1) in
       (both .0, rest .0, rest .1)
 
-  abbrev pub told : Run
-  told =
+  -- All replicas have this key.
+  abbrev pub toldUnder : (key : List ℕ) → (isPublicKey key ≡ true) × Bytes key → Run
+  toldUnder key is-key =
       record {
         f = 1;
         correct-replica = replicasTo r;
         correct-client = clientsTo c;
         first-nonce = λ id. 1;
+        office-key = λ id. key;
         events = eventsOf lines;
         f-in-range = inside 1 5 1 (lit≤ tt) (lit≤ tt);
         replicas-in-range = λ id h. let b = bounds 1 r (id .0) h in inside 1 4 (id .0) (b .0) (omega arith);
         clients-in-range = λ id h. let b = bounds 1 c (id .0) h in (inside 1 96 (id .0) (b .0) (omega arith), lit≤ tt, lit< tt);
+        keys-in-range = λ id h. is-key;
         writers-begin = λ t id x card found. well-told t (begins-write id x card) found .1;
         have-bytes = λ t e found. has-bytes e (well-told t e found .0);
         at-correct = λ t e found. correct-in (replicasTo r) (clientsTo c) (partyOf e) (well-told t e found .2);
       }
+
+  abbrev pub told : Run
+  told = toldUnder zeroKey zero-key
 
 -- ---- Who sent what
 
@@ -274,6 +292,7 @@ module _ (R : Run) (lines : List Line) where
   trueEvent t (at-client id (write-begun x card)) = true
   trueEvent t (at-client id (read-begun x)) = true
   trueEvent t (at-replica id (request-handed bytes verdicts)) = trueFor t bytes verdicts (decode AtReplica bytes)
+  trueEvent t (at-replica id (order-handed order)) = true
   trueEvent t (at-client id (reply-handed bytes verdicts)) = trueFor t bytes verdicts (decode AtClient bytes)
 
   -- Each verdict of the run is true.
@@ -355,6 +374,7 @@ module _ (R : Run) (lines : List Line) (told : Told R lines) where
   true-event t (at-client id (write-begun x card)) h = tt
   true-event t (at-client id (read-begun x)) h = tt
   true-event t (at-replica id (request-handed bytes verdicts)) h = true-for t bytes verdicts (decode AtReplica bytes) h
+  true-event t (at-replica id (order-handed order)) h = tt
   true-event t (at-client id (reply-handed bytes verdicts)) h = true-for t bytes verdicts (decode AtClient bytes) h
 
   pub true-verdicts : AllTrue R lines → (t : ℕ) → TrueAt R t (event R t)
