@@ -106,7 +106,7 @@ impl Asker {
         room: usize,
     ) -> Result<Message, Refusal> {
         check_room(room)?;
-        let reply = Receiver::Client.check(bytes, verdicts, self.f)?;
+        let reply = Receiver::Client.check(bytes, verdicts, self.f, &BTreeSet::new())?;
         reply.check_card()?;
         refuse_if(18, reply.register() != self.register)?;
         Ok(reply)

@@ -1,4 +1,4 @@
-//! Messages, their parts, and the tests 1 to 11, 14, 19 and 20, which need no record.
+//! Messages, their parts, and the tests 1 to 11, 14, 19, 20 and 23, which need no register's record.
 use super::card::{keeps_table, STARTING_CARD};
 use super::sha256::sha256;
 use std::collections::BTreeSet;
@@ -433,8 +433,14 @@ impl Receiver {
         Ok(message)
     }
 
-    /// Tests 2 to 11, with 19 and 20 behind 6.
-    pub fn check(self, bytes: &[u8], verdicts: &[u8], f: u8) -> Result<Message, Refusal> {
+    /// Tests 2 to 11, with 19 and 20 behind 6 and 23 behind 8. At a client nobody is withdrawn.
+    pub fn check(
+        self,
+        bytes: &[u8],
+        verdicts: &[u8],
+        f: u8,
+        withdrawn: &BTreeSet<u8>,
+    ) -> Result<Message, Refusal> {
         let message = self.read(bytes)?;
         refuse_if(6, !self.senders(f).contains(&message.sender))?;
         let views = self == Receiver::Replica && VIEWERS.contains(&message.sender);
@@ -445,6 +451,7 @@ impl Receiver {
             verdicts.len() != message.signatures() || verdicts.iter().any(|&verdict| verdict > 1),
         )?;
         refuse_if(8, verdicts[0] == 0)?;
+        refuse_if(23, withdrawn.contains(&message.sender))?;
         refuse_if(9, message.quorums().any(|entries| !is_quorum(entries, f)))?;
         refuse_if(10, verdicts[1..].contains(&0))?;
         refuse_if(

@@ -1,10 +1,12 @@
 //! An independent model of the registers, written from the specification and not from the proved code: replicas, clients,
-//! viewing clients, messages, cards and digests, and what a script of calls prints. The comparisons in tests/ and the bench
-//! rest on it.
+//! viewing clients, messages, cards, digests and withdrawal orders, and what a script of calls prints. The comparisons in tests/
+//! and the bench rest on it.
 pub mod asker;
 pub mod card;
 pub mod client;
+pub mod lms;
 pub mod message;
+pub mod order;
 pub mod random;
 pub mod replica;
 pub mod script;

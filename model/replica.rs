@@ -1,6 +1,8 @@
-//! The model of a replica (a holder of document 01): sixteen registers, and above them the replica that keeps them.
+//! The model of a replica (a holder of document 01): sixteen registers, and above them the replica that keeps them and takes
+//! orders.
 use super::card::STARTING_CARD;
 use super::message::*;
+use super::order::{check_key, check_order};
 use std::collections::{BTreeMap, BTreeSet};
 
 /// What a replica prepared last for a client (a line of document 01).
@@ -56,7 +58,7 @@ impl Register {
             .map_or_else(BTreeSet::new, |held| held.proof.signers())
     }
 
-    /// The reply of replica `id` to a request that has passed 1 to 11.
+    /// The reply of replica `id` to a request that has passed 1 to 11 and 23.
     fn answer(&mut self, id: u8, request: Message) -> Result<Message, Refusal> {
         let register = request.register();
         let reply = |kind| Message::new(kind, id, register);
@@ -129,23 +131,36 @@ impl Register {
 
 #[derive(Clone)]
 pub struct Replica {
-    f: u8,
+    pub f: u8,
     id: u8,
     /// All sixteen, by number.
     pub registers: BTreeMap<u8, Register>,
+    /// The clients that orders have named, for every register.
+    pub withdrawn: BTreeSet<u8>,
+    /// The office's.
+    key: Vec<u8>,
 }
 
 impl Replica {
-    pub fn new(f: u8, id: u8) -> Result<Replica, Refusal> {
+    pub fn new(f: u8, id: u8, key: &[u8]) -> Result<Replica, Refusal> {
         refuse_if(16, !FAULT_BOUNDS.contains(&f))?;
         refuse_if(16, !(1..=replicas(f)).contains(&id))?;
+        check_key(key)?;
         Ok(Replica {
             f,
             id,
             registers: REGISTERS
                 .map(|register| (register, Register::new()))
                 .collect(),
+            withdrawn: BTreeSet::new(),
+            key: key.to_vec(),
         })
+    }
+
+    pub fn take_order(&mut self, order: &[u8]) -> Result<(), Refusal> {
+        let client = check_order(&self.key, order)?;
+        self.withdrawn.insert(client);
+        Ok(())
     }
 
     pub fn receive(
@@ -155,7 +170,7 @@ impl Replica {
         room: usize,
     ) -> Result<Answer, Refusal> {
         check_room(room)?;
-        let request = Receiver::Replica.check(bytes, verdicts, self.f)?;
+        let request = Receiver::Replica.check(bytes, verdicts, self.f, &self.withdrawn)?;
         let register = self.registers.get_mut(&request.register());
         let register = register.expect("a number that has passed 20");
         let reply = register.answer(self.id, request)?;

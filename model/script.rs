@@ -9,6 +9,9 @@ use std::str::FromStr;
 
 /// A script may name the first messages alone by their number.
 pub const KEPT_MESSAGES: usize = 200;
+/// The longest key and the longest order that a line may have.
+pub const LONGEST_KEY: usize = 64;
+pub const LONGEST_ORDER: usize = 2048;
 /// The output that a call is lent if its line does not say.
 pub const FULL_OUTPUT: usize = 1600;
 
@@ -21,6 +24,7 @@ pub enum Output {
     Counted,
     Done(Done),
     Ended,
+    Taken,
     Refused(Refusal),
     Kept,
     Restored,
@@ -37,6 +41,7 @@ impl fmt::Display for Output {
             Output::Counted => write!(to, "counted"),
             Output::Done(done) => write!(to, "done {done}"),
             Output::Ended => write!(to, "ended"),
+            Output::Taken => write!(to, "taken"),
             Output::Refused(refusal) => write!(to, "refused {refusal}"),
             Output::Kept => write!(to, "kept"),
             Output::Restored => write!(to, "restored"),
@@ -83,6 +88,10 @@ pub fn unhex(word: &str) -> Option<Vec<u8>> {
     pairs
         .map(|pair| Some(value(*pair.first()?)? << 4 | value(*pair.get(1)?)?))
         .collect()
+}
+
+fn unhex_up_to(longest: usize, word: &str) -> Option<Vec<u8>> {
+    unhex(word).filter(|bytes| bytes.len() <= longest)
 }
 
 /// A decimal number, of digits alone.
@@ -170,16 +179,16 @@ impl Player {
         output.unwrap_or(Output::Unread)
     }
 
-    /// Everything but the calls.
+    /// Everything but the calls that are lent an output.
     fn arrange(&mut self, words: &[&str]) -> Option<Output> {
         match *words {
             ["new"] => {
                 *self = Player::default();
                 Some(Output::New)
             }
-            ["replica", f, id] => {
-                let (f, id) = (number(f)?, number(id)?);
-                Some(self.replicas.set_up(id, Replica::new(f, id)))
+            ["replica", f, id, key] => {
+                let (f, id, key) = (number(f)?, number(id)?, unhex_up_to(LONGEST_KEY, key)?);
+                Some(self.replicas.set_up(id, Replica::new(f, id, &key)))
             }
             ["client", f, id, nonce] => {
                 let (f, id, nonce) = (number(f)?, number(id)?, number(nonce)?);
@@ -195,6 +204,13 @@ impl Player {
             ["restore", "replica", id] => self.replicas.restore(id),
             ["restore", "client", id] => self.clients.restore(id),
             ["restore", "viewer", id] => self.viewers.restore(id),
+            ["order", id, order] => {
+                let order = unhex_up_to(LONGEST_ORDER, order)?;
+                Some(match self.replicas.get(id)?.take_order(&order) {
+                    Ok(()) => Output::Taken,
+                    Err(refusal) => Output::Refused(refusal),
+                })
+            }
             _ => None,
         }
     }

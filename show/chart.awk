@@ -257,6 +257,11 @@ function begins(client,    what, i) {
     sends(client)
 }
 
+function takes_order(at) {
+    if (says == "refused") box("wrong", at, "order: " said)
+    else box("disk", at, "order: " withdrawn(order) " is withdrawn")
+}
+
 # A comment of the user's, without its marks.
 function remark(s) {
     sub(/^#* */, "", s)
@@ -278,6 +283,7 @@ function rows(    n) {
         else if (call == "to-replica") n = replica_row(n)
         else if (call == "to-client") n = client_row(n)
         else if (begins_operation(call)) begins(whom)
+        else if (call == "order") takes_order(whom)
         else if (call == "keep") box("disk", whom, "image taken")
         else if (call == "restore") box("disk", whom, "back from its image")
         else if (says == "refused") caption("unread", short(line[n]) ": " said)

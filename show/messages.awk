@@ -1,9 +1,11 @@
-# What a script and its answers mean, for lines.awk and chart.awk. Four files are read first, `part` says which: the tables of
-# refusals and of a script's lines, for their words, the script, and its answers, each in the line with the number of its call.
+# What a script and its answers mean, for lines.awk and chart.awk. Five files are read first, `part` says which: the tables of
+# refusals and of a script's lines, for their words, the script, the same as the program read it, of which orders are kept, and its
+# answers, each in the line with the number of its call.
 
 part == "refusals" && in_table("| | in short |") { split($0, cell, " *[|] *"); refusal_words[cell[2]] = cell[3] }
 part == "forms" && in_table("| line of a script |") { note_forms($0) }
 part == "script" { line[FNR] = $0; lines = FNR }
+part == "spelled" && $1 == "order" { order_of[FNR] = $3 }
 part == "answers" { answer[FNR] = $0; answers = FNR }
 
 BEGIN {
@@ -98,6 +100,9 @@ function named(hex) {
     return kind_name[kind(hex)] (shown(hex) == "" ? "" : " " shown(hex)) for_register(register(hex))
 }
 
+# The client that an order withdraws.
+function withdrawn(hex) { return "client " value(hex, 2, 1) }
+
 # The party that sent a message, by what it says itself.
 function source(hex) { return (kind(hex) > 4 ? "replica " : "client ") sender(hex) }
 
@@ -113,8 +118,8 @@ function role(name) { return name == "viewer" ? "client" : name }
 function is_comment(s) { return s == "" || substr(s, 1, 1) == "#" }
 
 # Takes a line apart: call and whom it is about, by role in `whom` and by its own name in `named_party`, the register of a
-# beginning (asked), the card of a write (text), the message that is handed over; and its answer. Remembers what was sent, and
-# which parties are set up.
+# beginning (asked), the card of a write (text), the message that is handed over, an order's bytes; and its answer. Remembers what
+# was sent, and which parties are set up.
 function take(n,    word, from) {
     split(line[n], word, " ")
     from = word[1] == "lent" ? 2 : 0
@@ -129,10 +134,14 @@ function take(n,    word, from) {
         message = substr(handed, 1, 1) != "@" ? handed : number_of(handed) in sent ? sent[number_of(handed)] : ""
     } else if (begins_operation(call))
         about(call == "view" ? "viewer" : "client", word[from + 2])
+    else if (call == "order")
+        about("replica", word[from + 2])
     else if (call == "keep" || call == "restore")
         about(word[from + 2], word[from + 3])
     else if (sets_up(call))
         about(call, word[from + 3])
+    order = order_of[n]
+    order_name = call == "order" ? word[from + 3] : ""
     asked = begins_operation(call) ? word[from + 3] : ""
     text = call == "write" ? word[from + 4] : ""
     said = answer[n]
@@ -187,6 +196,9 @@ function meaningless(s,    word) {
     if (call == "restore" && !(named_party in kept)) return "nothing is kept of " named_party
     if (handed ~ /^@[0-9]+$/ && !(number_of(handed) in sent)) return "message " number_of(handed) " was not sent"
     if (number_of(handed) > 200) return "only the first 200 messages have numbers"
+    if (call == "order" && word[1] == "lent") return "no output is lent with an order"
+    if (order == "?") return "there is no file " order_name " that can be read"
+    if (length(order) > 4096) return "an order has at most 2,048 bytes"
     return "the form is " (word[1] == "lent" && word[3] in form ? "lent N " form[word[3]] : form[word[1]])
 }
 

@@ -7,14 +7,19 @@ mod forge;
 mod generate;
 #[path = "../model/mod.rs"]
 mod model;
+mod office;
 mod tally;
 
 use generate::Script;
 use model::random;
 use model::script::{Output, Player};
+use office::Office;
 use std::io::{self, Write};
 use std::process::{Command, ExitCode, Stdio};
 use tally::Tally;
+
+/// One action in so many is an order.
+const ORDER_IN: usize = 300;
 
 /// What the program prints for a script.
 fn run_program(program: &str, lines: &[String]) -> io::Result<Vec<String>> {
@@ -169,13 +174,14 @@ fn compare_script(program: &str, seed: u64, script: Script, tally: &mut Tally) -
 fn compare(program: &str, seed: u64, calls: usize) -> io::Result<bool> {
     let mut random = random::Random::new(seed);
     let mut tally = Tally::default();
-    for script in generate::fixed(&mut random) {
+    let office = Office::new(&mut random, ORDER_IN);
+    for script in generate::fixed(&mut random, &office) {
         if !compare_script(program, seed, script, &mut tally)? {
             return Ok(false);
         }
     }
     while tally.calls < calls {
-        let script = generate::script(&mut random);
+        let script = generate::script(&mut random, &office);
         if !compare_script(program, seed, script, &mut tally)? {
             return Ok(false);
         }

@@ -2,10 +2,15 @@
 use crate::forge::*;
 use crate::model::card::STARTING_CARD;
 use crate::model::message::*;
+use crate::model::order::ZERO_KEY;
 use crate::model::random::Random;
 use crate::model::script::{all_genuine, hex, Output, Player, KEPT_MESSAGES};
 use crate::model::sha256::sha256;
-use crate::tally::{ELSEWHERE, FOREIGN, NO_PROOF, OWN_PROOF, RIVAL, TWIN};
+use crate::office::*;
+use crate::tally::{
+    AGAIN, BAD_KEY, ELSEWHERE, FOREIGN, FORGED, NO_PROOF, ORDER, OWN_PROOF, RIVAL, SCREEN, TWIN,
+    UNPROVED,
+};
 use std::collections::{BTreeMap, BTreeSet};
 
 /// Below the 1,048,576 bytes that the proved program reads, with room for the longest line.
@@ -44,6 +49,22 @@ impl Script {
         self.bytes += line.len() + 1;
         self.lines.push(line);
         &self.expected[self.expected.len() - 1]
+    }
+
+    /// Hands an order to a replica that is set up, or to none.
+    fn hand_order(&mut self, id: u8, order: &[u8]) {
+        let replica = self.player.replica(id);
+        let client = order.get(2).copied().unwrap_or(0);
+        let again = replica.is_some_and(|replica| replica.withdrawn.contains(&client));
+        if *self.add(format!("{ORDER} {id} {}", hex(order))) != Output::Taken {
+            return;
+        }
+        if again {
+            self.note(ORDER, AGAIN);
+        }
+        if is_viewer(client) {
+            self.note(ORDER, SCREEN);
+        }
     }
 
     fn note(&mut self, column: &'static str, row: &'static str) {
@@ -221,7 +242,10 @@ impl ClientView {
 struct Run<'a> {
     random: &'a mut Random,
     script: &'a mut Script,
+    office: &'a Office,
     f: u8,
+    /// Of the office's keys the one that most replicas have.
+    key: usize,
     style: Style,
     /// Whether last counts are shown, after which little else can happen.
     extremes: bool,
@@ -237,23 +261,35 @@ struct Run<'a> {
     /// Proofs that clients showed, with their registers, and the cards of the prepared ones.
     proofs: Vec<(u8, PreparedProof, Vec<u8>)>,
     written: Vec<(u8, WrittenProof)>,
+    /// Orders without defects, which go to several replicas.
+    orders: Vec<Vec<u8>>,
     kept_replicas: BTreeSet<u8>,
     kept_clients: BTreeMap<u8, ClientView>,
 }
 
 /// A script of runs, one after the other.
-pub fn script(random: &mut Random) -> Script {
+pub fn script(random: &mut Random, office: &Office) -> Script {
     let mut script = Script::default();
     while !script.is_full() {
-        Run::new(random, &mut script).play();
+        Run::new(random, &mut script, office).play();
     }
     script
 }
 
-/// A request of each kind from each number at one replica, so that none is left to chance.
-fn every_sender(random: &mut Random) -> Script {
+/// A script with a replica 1 that has this key.
+fn with_replica(key: &[u8]) -> Script {
     let mut script = Script::default();
-    script.add("replica 1 1".to_string());
+    script.add(format!("replica 1 1 {}", hex(key)));
+    script
+}
+
+/// A request of each kind from each number at one replica, so that none is left to chance; first it is handed these orders,
+/// each three times.
+fn every_sender(random: &mut Random, key: &[u8], orders: &[Vec<u8>]) -> Script {
+    let mut script = with_replica(key);
+    for order in [orders; 3].concat() {
+        script.hand_order(1, &order);
+    }
     for kind in READ_TIMESTAMP..=READ {
         for sender in 0..=u8::MAX {
             let request = sound(random, kind, sender, 1, 1);
@@ -263,10 +299,45 @@ fn every_sender(random: &mut Random) -> Script {
     script
 }
 
+fn hand_read(script: &mut Script, sender: u8) {
+    let request = Message {
+        nonce: Some(1),
+        ..Message::new(READ, sender, 1)
+    };
+    script.add(format!("to-replica 1 {} +", hex(&request.encode())));
+}
+
+/// An order against each number, genuine all the same, then a READ of that number and of the next one.
+fn every_order(random: &mut Random, office: &Office) -> Script {
+    let mut script = with_replica(&office.key(0));
+    for client in 0..=u8::MAX {
+        script.hand_order(1, &office.order(random, 0, client));
+        hand_read(&mut script, client);
+        hand_read(&mut script, client.wrapping_add(1));
+    }
+    script
+}
+
+/// An order with a bit changed in each part, and orders with leaves of the tree and others, under keys that are made for them.
+fn every_part(random: &mut Random, office: &Office) -> Script {
+    let mut script = with_replica(&office.key(0));
+    let order = office.order(random, 0, 1);
+    for part in parts() {
+        let mut spoiled = order.clone();
+        flip(random, &mut spoiled, part);
+        script.hand_order(1, &spoiled);
+    }
+    for leaf in (0..=34).chain([63, 64, 255, 1 << 16, 1 << 31, u32::MAX]) {
+        let (order, key) = order_and_key(random, 1, leaf);
+        script.add(format!("replica 1 1 {}", hex(&key)));
+        script.hand_order(1, &order);
+    }
+    script
+}
+
 /// Every request and every beginning for each number of a register.
 fn every_register(random: &mut Random) -> Script {
-    let mut script = Script::default();
-    script.add("replica 1 1".to_string());
+    let mut script = with_replica(&ZERO_KEY);
     for kind in [WRITE, PREPARE, READ_TIMESTAMP, READ] {
         for register in 0..=u8::MAX {
             let request = sound(random, kind, 1, register, 1);
@@ -296,8 +367,18 @@ fn every_reply(awaited: u8) -> Script {
 }
 
 /// What every comparison begins with. The replies are a script for each register: `script_player` takes 1 MiB of one.
-pub fn fixed(random: &mut Random) -> Vec<Script> {
-    let mut scripts = vec![every_sender(random), every_register(random)];
+pub fn fixed(random: &mut Random, office: &Office) -> Vec<Script> {
+    let odd_clients = CLIENTS.step_by(2);
+    let orders: Vec<_> = odd_clients
+        .map(|client| office.order(random, 0, client))
+        .collect();
+    let mut scripts = vec![
+        every_sender(random, &ZERO_KEY, &[]),
+        every_sender(random, &office.key(0), &orders),
+        every_order(random, office),
+        every_part(random, office),
+        every_register(random),
+    ];
     scripts.extend(REGISTERS.map(every_reply));
     scripts
 }
@@ -338,7 +419,7 @@ fn entry_verdict(message: &Message, shown_for: impl Iterator<Item = u8>) -> u8 {
 }
 
 impl<'a> Run<'a> {
-    fn new(random: &'a mut Random, script: &'a mut Script) -> Run<'a> {
+    fn new(random: &'a mut Random, script: &'a mut Script, office: &'a Office) -> Run<'a> {
         let f = 1 + random.weighted(&[50, 20, 12, 9, 9]) as u8;
         let style = [LEGAL, DAMAGED, BYZANTINE, FORGED_QUORUMS, FAULTY_CLIENTS];
         let style = style
@@ -362,6 +443,7 @@ impl<'a> Run<'a> {
         }
         Run {
             f,
+            key: random.below(KEYS),
             style,
             extremes: random.percent(30),
             clients,
@@ -372,17 +454,21 @@ impl<'a> Run<'a> {
             mail: Vec::new(),
             proofs: Vec::new(),
             written: Vec::new(),
+            orders: Vec::new(),
             kept_replicas: BTreeSet::new(),
             kept_clients: BTreeMap::new(),
             random,
             script,
+            office,
         }
     }
 
     fn play(&mut self) {
         self.script.add("new".to_string());
         for id in 1..=replicas(self.f) {
-            self.script.add(format!("replica {} {id}", self.f));
+            let key = self.some_key(8);
+            self.script
+                .add(format!("replica {} {id} {}", self.f, hex(&key)));
         }
         for at in 0..self.clients.len() {
             self.set_up_client(self.clients[at].id);
@@ -428,6 +514,9 @@ impl<'a> Run<'a> {
     fn act(&mut self) {
         if self.random.percent(2) {
             self.lowest_count = self.lowest_count.saturating_add(1);
+        }
+        if self.random.below(self.office.one_in) == 0 {
+            return self.hand_order();
         }
         let style = &self.style;
         let weights = [
@@ -689,18 +778,50 @@ impl<'a> Run<'a> {
 
     /// Hands over a message; `number` names one that was sent, with zeros for its signature.
     fn hand(&mut self, party: Party, delivery: Delivery, number: Option<usize>) -> Output {
-        let Delivery { message, verdicts } = delivery;
+        let Delivery { message, verdicts } = &delivery;
         let lent = self.lent(14);
-        let genuine = verdicts == all_genuine(&message) && self.random.percent(70);
+        let genuine = *verdicts == all_genuine(message) && self.random.percent(70);
         let verdicts = if genuine {
             "+".to_string()
         } else {
-            hex(&verdicts)
+            hex(verdicts)
         };
-        let word = number.map_or(hex(&message), |number| format!("@{number}"));
+        let word = number.map_or(hex(message), |number| format!("@{number}"));
         let (Party::Replica(id) | Party::Client(id)) = party;
         let line = format!("{lent}{} {id} {word} {verdicts}", party.call());
-        self.play_line(party, line, &message)
+        let answer = self.play_line(party, line, message);
+        if let Party::Replica(id) = party {
+            self.note_shut_out(id, &delivery, &answer);
+        }
+        answer
+    }
+
+    fn withdrawn_at(&self, replica: u8) -> Vec<u8> {
+        let replica = self.script.player.replica(replica);
+        replica.map_or(Vec::new(), |replica| {
+            replica.withdrawn.iter().copied().collect()
+        })
+    }
+
+    /// Of a withdrawn client's message 8 is tested before 23, and 9 to 11 behind it.
+    fn note_shut_out(&mut self, id: u8, delivery: &Delivery, answer: &Output) {
+        let Some(replica) = self.script.player.replica(id) else {
+            return;
+        };
+        let Delivery { message, verdicts } = delivery;
+        let nobody = BTreeSet::new();
+        let row = match answer {
+            Output::Refused(8) if replica.withdrawn.contains(&message[3]) => FORGED,
+            Output::Refused(23)
+                if Receiver::Replica
+                    .check(message, verdicts, replica.f, &nobody)
+                    .is_err() =>
+            {
+                UNPROVED
+            }
+            _ => return,
+        };
+        self.script.note(Party::Replica(id).call(), row);
     }
 
     /// With defects as often as the style has them.
@@ -710,8 +831,14 @@ impl<'a> Run<'a> {
             self.hand(party, delivery, None);
             return;
         }
-        let delivery = self.judged(&message);
+        let mut delivery = self.judged(&message);
         let has_foreign = delivery.verdicts.contains(&0);
+        let shut_out =
+            matches!(party, Party::Replica(id) if self.withdrawn_at(id).contains(&message.sender));
+        if shut_out && self.random.percent(15) {
+            let at = self.random.below(delivery.verdicts.len());
+            delivery.verdicts[at] = 0;
+        }
         if self.hand(party, delivery, None) == Output::Refused(10) && has_foreign {
             self.script.note(party.call(), FOREIGN);
         }
@@ -892,13 +1019,18 @@ impl<'a> Run<'a> {
 
     /// A request in the name of some client.
     fn forge_request(&mut self) {
+        let replica = self.favoured_replica();
+        let withdrawn = self.withdrawn_at(replica);
         let sender = match self.random.below(100) {
+            0..=19 if !withdrawn.is_empty() => self.random.pick(&withdrawn),
             0..=89 => self.random.pick(&self.senders),
             90..=95 => 1 + self.random.byte() % 64,
             _ => self.random.byte(),
         };
         let signature = self.random.bytes();
-        let kind = 1 + self.random.weighted(&[12, 46, 27, 15]) as u8;
+        // a viewing client may only READ
+        let read = if is_viewer(sender) { 400 } else { 15 };
+        let kind = 1 + self.random.weighted(&[12, 46, 27, read]) as u8;
         let register = good_register(self.random);
         let mut request = Message {
             signature,
@@ -916,7 +1048,6 @@ impl<'a> Run<'a> {
                 request.nonce = Some(self.random.pick(&[0, 1, u64::MAX, any]));
             }
         }
-        let replica = self.favoured_replica();
         self.hand_message(Party::Replica(replica), request);
     }
 
@@ -1004,9 +1135,16 @@ impl<'a> Run<'a> {
         let f = self.random.pick(&[0, 1, 2, 3, 4, 5, 6, 255]);
         if self.random.percent(50) {
             let n = replicas(f.clamp(1, 5));
-            let id = self.random.pick(&[0, 1, n, n + 1, n + 1, 17, 65, 255]);
-            if *self.script.add(format!("replica {f} {id}")) == Output::Ready {
-                self.kept_replicas.remove(&id);
+            let id = self
+                .random
+                .pick(&[0, 1, 1, 1, n, n, n + 1, n + 1, 17, 65, 255]);
+            let key = self.key_to_set_up();
+            let line = format!("replica {f} {id} {}", hex(&key));
+            let good_numbers = FAULT_BOUNDS.contains(&f) && (1..=n).contains(&id);
+            match *self.script.add(line) {
+                Output::Ready => drop(self.kept_replicas.remove(&id)),
+                Output::Refused(_) if good_numbers => self.script.note("replica", BAD_KEY),
+                _ => (),
             }
         } else {
             let id = self.random.pick(&[0, 1, 64, 65, 96, 97, 255]);
@@ -1016,6 +1154,55 @@ impl<'a> Run<'a> {
                 self.note_fresh(id);
             }
         }
+    }
+
+    /// One of the office's keys; so often of 100 another than most replicas have.
+    fn some_key(&mut self, percent: usize) -> Vec<u8> {
+        let other = usize::from(self.random.percent(percent));
+        self.office.key((self.key + other) % KEYS)
+    }
+
+    fn key_to_set_up(&mut self) -> Vec<u8> {
+        let key = self.some_key(20);
+        if self.random.percent(50) {
+            bad_key(self.random, key)
+        } else {
+            key
+        }
+    }
+
+    /// An order to a replica: the office hands out each to several.
+    fn hand_order(&mut self) {
+        let known = !self.orders.is_empty() && self.random.percent(70);
+        let order = if known {
+            self.random.pick(&self.orders)
+        } else {
+            self.new_order()
+        };
+        let spoils = self.style.defects > 0 && self.random.percent(40);
+        let order = if spoils {
+            spoiled_order(self.random, order)
+        } else {
+            order
+        };
+        let replica = self.favoured_replica();
+        self.script.hand_order(replica, &order);
+    }
+
+    fn new_order(&mut self) -> Vec<u8> {
+        let client = match self.random.below(20) {
+            0 => 1 + self.random.below(96) as u8,
+            1..=10 => self.random.pick(&self.senders),
+            _ => self.clients[self.random.below(self.clients.len())].id,
+        };
+        let other = usize::from(self.random.percent(8));
+        let key = (self.key + other) % KEYS;
+        if self.style.defects > 0 && self.random.percent(15) {
+            return self.office.misfit(self.random, key, client);
+        }
+        let order = self.office.order(self.random, key, client);
+        self.orders.push(order.clone());
+        order
     }
 
     /// Lines that call nobody: parties that are never set up, and words that are no command.
@@ -1036,6 +1223,14 @@ impl<'a> Run<'a> {
             "write 1 0000",
             "write 1 x 0000",
             "keep replica 17",
+            "replica 1 1",
+            "replica 1 1 0",
+            "replica 1 1 - -",
+            "order 17 -",
+            "order 1",
+            "order 1 - -",
+            "order 1 +",
+            "lent 1600 order 1 -",
             "keep viewer 1",
             "restore client 65",
             "restore viewer 97",

@@ -1,5 +1,5 @@
 //! Compares the static library of the crate `bank`, through its Rust wrapper, with the model: whatever scripts of random runs
-//! hand to replicas, and after each call the sixteen registers.
+//! hand to replicas, and after each call the sixteen registers and the withdrawn clients.
 //!
 //! `library [SEED [CALLS]]`
 mod arguments;
@@ -8,30 +8,36 @@ mod generate;
 #[allow(dead_code)] // the other comparisons use more of it
 #[path = "../model/mod.rs"]
 mod model;
+mod office;
 #[allow(dead_code)] // the comparison of scripts uses more of it
 mod tally;
 #[path = "../rust/bank.rs"]
 mod wrapper;
 
 use generate::Script;
-use model::message::{bits_of, Message, Timestamp};
+use model::message::{bits_of, Message, Timestamp, VIEWERS};
 use model::random;
 use model::replica;
 use model::script::{self, unhex, Output, Player};
-use std::collections::BTreeMap;
+use office::Office;
+use std::collections::{BTreeMap, BTreeSet};
 use std::process::ExitCode;
-use tally::Tally;
-use wrapper::{Answer, Bank, Register, ReplicaId, LONGEST_MESSAGE};
+use tally::{Tally, ORDER};
+use wrapper::{Answer, Bank, ClientSet, Register, ReplicaId, Taking, LONGEST_MESSAGE};
 
 const UNTOUCHED: u8 = 165;
 
 /// What is compared of a script, as it calls it.
-const CALL: &str = "to-replica";
+const TO_REPLICA: &str = "to-replica";
+const CALLS: [&str; 2] = [TO_REPLICA, ORDER];
+
+/// One action in so many is an order: fewer than in the comparison of scripts, of which half as many do.
+const ORDER_IN: usize = 600;
 
 // A line that does not say how much it lends lends enough.
 const _: () = assert!(script::FULL_OUTPUT >= LONGEST_MESSAGE);
 
-/// What was handed to a replica: message, verdicts, and the length of the output.
+/// A message with its verdicts, and the length of the output.
 #[derive(Clone)]
 struct Request {
     message: Vec<u8>,
@@ -39,41 +45,91 @@ struct Request {
     room: usize,
 }
 
+/// What was handed to a replica.
+#[derive(Clone)]
+enum Call {
+    Request(Request),
+    Order(Vec<u8>),
+}
+
+impl Call {
+    /// The register that alone may change.
+    fn register(&self) -> Option<u8> {
+        match self {
+            Call::Request(request) => Message::decode(&request.message).ok()?.register,
+            Call::Order(_) => None,
+        }
+    }
+}
+
+/// What a call gives, but for the number that a script gives to a message.
+#[derive(PartialEq)]
+enum Given {
+    Sent(Vec<u8>),
+    Taken,
+    Refused(u8),
+}
+
+impl Given {
+    /// What the model answered to such a call.
+    fn of(output: &Output) -> Option<Given> {
+        match output {
+            Output::Sent(_, message) => Some(Given::Sent(message.clone())),
+            Output::Taken => Some(Given::Taken),
+            Output::Refused(refusal) => Some(Given::Refused(*refusal)),
+            _ => None,
+        }
+    }
+}
+
 /// A replica of the library, with all that was handed to it: a record is not copied, so a disk is restored by playing
-/// its requests again.
+/// its calls again.
 struct Server {
     f: u8,
     id: u8,
+    key: Vec<u8>,
     bank: Bank,
-    requests: Vec<Request>,
+    calls: Vec<Call>,
 }
 
 impl Server {
-    fn set_up(f: u8, id: u8) -> Option<Server> {
+    fn set_up(f: u8, id: u8, key: Vec<u8>) -> Option<Server> {
         Some(Server {
             f,
             id,
-            bank: Bank::fresh(f, ReplicaId(id))?,
-            requests: Vec::new(),
+            bank: Bank::fresh(f, ReplicaId(id), &key)?,
+            key,
+            calls: Vec::new(),
         })
     }
 
     fn copy(&self) -> Option<Server> {
-        let mut copy = Server::set_up(self.f, self.id)?;
-        for request in &self.requests {
-            // what it answered then was compared when it was handed over
-            copy.hand_over(request.clone())?.ok();
+        let mut copy = Server::set_up(self.f, self.id, self.key.clone())?;
+        for call in &self.calls {
+            // what it gave then was compared when it was called
+            copy.call(call.clone())?;
         }
         Some(copy)
     }
 
-    /// The message sent, or the refusal's number; `None` where the output has another byte than it should.
-    fn hand_over(&mut self, request: Request) -> Option<Result<Vec<u8>, u8>> {
+    /// What a call gives; `None` where the output has another byte than it should.
+    fn call(&mut self, call: Call) -> Option<Given> {
+        let given = match &call {
+            Call::Request(request) => self.hand_over(request),
+            Call::Order(order) => Some(match self.bank.take_order(order) {
+                Taking::Taken => Given::Taken,
+                Taking::Refused(refusal) => Given::Refused(refusal),
+            }),
+        };
+        self.calls.push(call);
+        given
+    }
+
+    fn hand_over(&mut self, request: &Request) -> Option<Given> {
         let mut out = vec![UNTOUCHED; request.room];
         let answer = self
             .bank
             .step(&request.message, &request.verdicts, &mut out);
-        self.requests.push(request);
         let length = match answer {
             Answer::Send(length) => length,
             Answer::Refused(_) => 0,
@@ -84,31 +140,21 @@ impl Server {
         }
         out.truncate(length);
         Some(match answer {
-            Answer::Send(_) => Ok(out),
-            Answer::Refused(refusal) => Err(refusal),
+            Answer::Send(_) => Given::Sent(out),
+            Answer::Refused(refusal) => Given::Refused(refusal),
         })
     }
-}
 
-impl Server {
-    /// Whether it answers as expected, leaves each register as the model's replica has it, and all but the message's as they
-    /// were.
-    fn answers_alike(
-        &mut self,
-        request: Request,
-        expected: &Output,
-        model: &replica::Replica,
-    ) -> bool {
+    /// Whether it answers as expected, leaves each register and the withdrawn clients as the model's replica has them, and all
+    /// registers but the message's as they were.
+    fn answers_alike(&mut self, call: Call, expected: &Output, model: &replica::Replica) -> bool {
         let before = self.bank.registers().clone();
-        let asked = Message::decode(&request.message).ok();
-        let asked = asked.and_then(|message| message.register);
-        let same_answer = match (self.hand_over(request), expected) {
-            (Some(Ok(message)), Output::Sent(_, expected)) => message == *expected,
-            (Some(Err(refusal)), Output::Refused(expected)) => refusal == *expected,
-            _ => false,
-        };
+        let asked = call.register();
+        let given = self.call(call);
+        let same_answer = given.is_some() && given == Given::of(expected);
         let mut registers = (1..).zip(self.bank.registers().iter().zip(&before));
         same_answer
+            && *self.bank.withdrawn() == client_set(&model.withdrawn)
             && registers.all(|(id, (after, before))| {
                 *after == record(&model.registers[&id]) && (asked == Some(id) || after == before)
             })
@@ -146,6 +192,22 @@ fn record(register: &replica::Register) -> Register {
     Register { slots, held }
 }
 
+/// Clients of the model as the library keeps them.
+fn client_set(clients: &BTreeSet<u8>) -> ClientSet {
+    let mut set = ClientSet {
+        writers: 0,
+        viewers: 0,
+    };
+    for &client in clients {
+        if VIEWERS.contains(&client) {
+            set.viewers |= 1 << (client - VIEWERS.start());
+        } else {
+            set.writers |= 1 << (client - 1);
+        }
+    }
+    set
+}
+
 fn timestamp(Timestamp { count, client }: Timestamp) -> wrapper::Timestamp {
     wrapper::Timestamp { count, client }
 }
@@ -163,8 +225,8 @@ struct Library {
 }
 
 impl Library {
-    fn set_up(&mut self, f: u8, id: u8) -> Output {
-        let Some(server) = Server::set_up(f, id) else {
+    fn set_up(&mut self, f: u8, id: u8, key: Vec<u8>) -> Output {
+        let Some(server) = Server::set_up(f, id, key) else {
             return Output::Refused(16);
         };
         self.servers.insert(id, server);
@@ -178,8 +240,9 @@ impl Library {
         let words: Vec<&str> = call.split(' ').collect();
         match *words {
             ["new"] => *self = Library::default(),
-            ["replica", f, id] => {
-                return Some(self.set_up(f.parse().ok()?, id.parse().ok()?) == *expected)
+            ["replica", f, id, key] => {
+                let (f, id, key) = (f.parse().ok()?, id.parse().ok()?, unhex(key)?);
+                return Some(self.set_up(f, id, key) == *expected);
             }
             ["keep", "replica", id] => {
                 let id = id.parse().ok()?;
@@ -189,24 +252,38 @@ impl Library {
                 let id = id.parse().ok()?;
                 self.servers.insert(id, self.kept.get(&id)?.copy()?);
             }
-            [CALL, id, message, verdicts] => {
+            [ORDER, id, order] => {
+                let order = Call::Order(unhex(order)?);
+                return self.answers_alike(id, order, expected, model);
+            }
+            [TO_REPLICA, id, message, verdicts] => {
                 let message = unhex(message)?;
                 let verdicts = match verdicts {
                     "+" => script::all_genuine(&message),
                     _ => unhex(verdicts)?,
                 };
-                let request = Request {
+                let request = Call::Request(Request {
                     message,
                     verdicts,
                     room,
-                };
-                let id = id.parse().ok()?;
-                let server = self.servers.get_mut(&id)?;
-                return Some(server.answers_alike(request, expected, model.replica(id)?));
+                });
+                return self.answers_alike(id, request, expected, model);
             }
             _ => {}
         }
         Some(true)
+    }
+
+    fn answers_alike(
+        &mut self,
+        id: &str,
+        call: Call,
+        expected: &Output,
+        model: &Player,
+    ) -> Option<bool> {
+        let id = id.parse().ok()?;
+        let server = self.servers.get_mut(&id)?;
+        Some(server.answers_alike(call, expected, model.replica(id)?))
     }
 }
 
@@ -221,9 +298,9 @@ fn compare(script: &Script, tally: &mut Tally) -> Result<(), String> {
             continue;
         }
         if library.agrees(&spelled, expected, &model) != Some(true) {
-            return Err(format!("{spelled}\nmust give {expected}, and leave the sixteen registers that the model has"));
+            return Err(format!("{spelled}\nmust give {expected}, and leave the sixteen registers and the withdrawn clients that the model has"));
         }
-        if line.contains(CALL) {
+        if CALLS.iter().any(|call| line.contains(call)) {
             tally.count(line, expected);
         }
     }
@@ -235,11 +312,12 @@ fn compare(script: &Script, tally: &mut Tally) -> Result<(), String> {
 fn compare_scripts(seed: u64, calls: usize) -> Result<Tally, String> {
     let mut random = random::Random::new(seed);
     let mut tally = Tally::default();
-    for script in generate::fixed(&mut random) {
+    let office = Office::new(&mut random, ORDER_IN);
+    for script in generate::fixed(&mut random, &office) {
         compare(&script, &mut tally)?;
     }
     while tally.calls < calls {
-        compare(&generate::script(&mut random), &mut tally)?;
+        compare(&generate::script(&mut random, &office), &mut tally)?;
     }
     Ok(tally)
 }
@@ -254,7 +332,7 @@ fn main() -> ExitCode {
             return ExitCode::FAILURE;
         }
     };
-    let shortfalls = tally.shortfalls_of(CALL);
+    let shortfalls = CALLS.map(|call| tally.shortfalls_of(call)).concat();
     for shortfall in &shortfalls {
         println!("too seldom: {shortfall}");
     }

@@ -1,6 +1,6 @@
 //! How often each call had each answer, and whether that is often enough.
 use crate::generate::{Finished, Script};
-use crate::model::message::{Done, Message, Timestamp, CARD, KIND_NAMES, LONGEST_MESSAGE};
+use crate::model::message::{Done, Message, Timestamp, CARD, KIND_NAMES, LONGEST_MESSAGE, VIEWERS};
 use crate::model::script::{lent, unhex, Output};
 use std::cmp::Ordering;
 use std::collections::{BTreeMap, BTreeSet};
@@ -15,6 +15,10 @@ const BOTH_LONG: [&str; 2] = ["both, 2", "both, 9"];
 /// Views that are done while some replica holds a smaller timestamp than they show, the same, or a larger one.
 const HELD: [&str; 3] = ["held less", "held same", "held more"];
 const DONE: &str = "done";
+const TAKEN: &str = "taken";
+
+/// What a script calls an order.
+pub const ORDER: &str = "order";
 
 /// Operations that are done: with other signers than the replicas that were counted, or that showed the card; with CARDs of the
 /// timestamp that others signed than the first one; with a signer above 8; at 0.0, after a proof.
@@ -30,6 +34,22 @@ pub const ELSEWHERE: &str = "elsewhere";
 /// PREPAREs of clients that have finished writes of other registers: with a written proof, which is of this one, or none.
 pub const OWN_PROOF: &str = "own proof";
 pub const NO_PROOF: &str = "no proof";
+/// Set-ups refused with 16 for the key alone.
+pub const BAD_KEY: &str = "16, key";
+/// Orders taken against a client that is withdrawn already, or against a viewing client.
+pub const AGAIN: &str = "again";
+pub const SCREEN: &str = "a viewer's";
+/// Requests refused with 23, by kind, and those of viewing clients.
+const SHUT_OUT: [&str; 5] = [
+    "23, R-STAMP",
+    "23, PREPARE",
+    "23, WRITE",
+    "23, READ",
+    "23, viewer",
+];
+/// Withdrawn clients' messages: refused with 8, before 23, or with 23 although 9, 10 or 11 would refuse them too.
+pub const FORGED: &str = "8, not 23";
+pub const UNPROVED: &str = "23, not 9";
 /// Refused with 20 for the number beside the registers, below or above, or not refused for the last one.
 const REGISTER: [&str; 3] = ["register 0", "register 17", "register 16"];
 
@@ -52,11 +72,11 @@ struct Column {
 }
 
 /// All that can occur, by documents 01 and 02.
-const COLUMNS: [Column; 9] = [
+const COLUMNS: [Column; 10] = [
     Column {
         name: "replica",
         is_call: false,
-        rows: &["ready", "kept", "restored"],
+        rows: &["ready", "kept", "restored", BAD_KEY],
         refusals: &[16],
     },
     Column {
@@ -97,6 +117,12 @@ const COLUMNS: [Column; 9] = [
         refusals: &[1, 17, 20],
     },
     Column {
+        name: ORDER,
+        is_call: true,
+        rows: &[TAKEN, AGAIN, SCREEN],
+        refusals: &[21, 22],
+    },
+    Column {
         name: "to-replica",
         is_call: true,
         rows: &[
@@ -114,11 +140,20 @@ const COLUMNS: [Column; 9] = [
             RIVAL,
             TWIN,
             FOREIGN,
+            SHUT_OUT[0],
+            SHUT_OUT[1],
+            SHUT_OUT[2],
+            SHUT_OUT[3],
+            SHUT_OUT[4],
+            FORGED,
+            UNPROVED,
             REGISTER[0],
             REGISTER[1],
             REGISTER[2],
         ],
-        refusals: &[1, 2, 3, 4, 5, 6, 7, 8, 9, 10, 11, 12, 13, 14, 15, 19, 20],
+        refusals: &[
+            1, 2, 3, 4, 5, 6, 7, 8, 9, 10, 11, 12, 13, 14, 15, 19, 20, 23,
+        ],
     },
     Column {
         name: "to-client",
@@ -194,8 +229,10 @@ fn rows() -> Vec<String> {
         names(&["counted", DONE]),
         names(&HELD),
         names(&SIGNERS),
-        names(&["ended"]),
-        (1..=20).map(refusal_row).collect(),
+        names(&["ended", TAKEN, AGAIN, SCREEN]),
+        (1..=23).map(refusal_row).collect(),
+        names(&[BAD_KEY, FORGED, UNPROVED]),
+        names(&SHUT_OUT),
         names(&LENT),
         names(&[LONGEST]),
         names(&LONG),
@@ -300,6 +337,7 @@ impl Tally {
             self.note_output(column, room);
             self.note_message(column, call, output);
             self.note_register(column, call, output);
+            self.note_shut_out(column, call, output);
         }
     }
 
@@ -386,6 +424,17 @@ impl Tally {
             _ => return,
         };
         self.note(column, row);
+    }
+
+    fn note_shut_out(&mut self, column: &Column, call: &str, output: &Output) {
+        let (Output::Refused(23), Some(message)) = (output, handed(call)) else {
+            return;
+        };
+        let kind = usize::from(message[2]);
+        self.note(column, SHUT_OUT[kind - 1]);
+        if VIEWERS.contains(&message[3]) {
+            self.note(column, SHUT_OUT[4]);
+        }
     }
 
     fn times(&self, column: &Column, row: &str) -> usize {

@@ -5,6 +5,7 @@ use crate::model::message::*;
 use crate::model::random::Random;
 use crate::program::{hex, Failure, Line, Program};
 use crate::tally::Tally;
+use std::collections::BTreeSet;
 
 const LINES: usize = 12_000;
 /// The program has room for so many.
@@ -68,7 +69,8 @@ fn delivery(random: &mut Random, f: u8) -> Delivery {
 }
 
 fn judgement(receiver: Receiver, delivery: &Delivery, f: u8, tally: &mut Tally) -> String {
-    let said = match receiver.check(&delivery.message, &delivery.verdicts, f) {
+    let nobody = BTreeSet::new();
+    let said = match receiver.check(&delivery.message, &delivery.verdicts, f, &nobody) {
         Ok(_) => "accepted".to_string(),
         Err(refusal) => format!("refused {refusal}"),
     };

@@ -1,4 +1,4 @@
-//! Compares the programs `cards`, `messages` and `player` with the model, on random input.
+//! Compares the programs `cards`, `messages`, `player` and `lms_vectors` with the model, on random input.
 //!
 //! `programs DIRECTORY [SEED]`: DIRECTORY has the programs. Built by
 //! `rustc -O --edition 2021 tests/programs/main.rs -o target/programs`.
@@ -15,6 +15,7 @@ mod odd;
 mod player;
 mod plays;
 mod program;
+mod signatures;
 mod tally;
 
 use model::random::Random;
@@ -31,7 +32,7 @@ struct Comparison {
     floors: &'static [(&'static str, usize)],
 }
 
-const COMPARISONS: [Comparison; 4] = [
+const COMPARISONS: [Comparison; 5] = [
     Comparison {
         name: "cards",
         run: cards::compare,
@@ -51,6 +52,11 @@ const COMPARISONS: [Comparison; 4] = [
         name: "player",
         run: plays::compare,
         floors: &plays::FLOORS,
+    },
+    Comparison {
+        name: "lms_vectors",
+        run: signatures::compare,
+        floors: &signatures::FLOORS,
     },
 ];
 
@@ -99,6 +105,6 @@ fn main() -> ExitCode {
     if passed < COMPARISONS.len() {
         return ExitCode::FAILURE;
     }
-    println!("cards, messages and player compared, seed {seed}: all equal");
+    println!("cards, messages, player and lms_vectors compared, seed {seed}: all equal");
     ExitCode::SUCCESS
 }

@@ -1,6 +1,8 @@
-//! The model of the run player: four replicas and four clients, f = 1, first nonce 1, register 1, all verdicts 1.
+//! The model of the run player: four replicas and four clients, f = 1, first nonce 1, register 1, all verdicts 1. There are no
+//! orders, so the replicas have the zero key.
 use crate::model::client::Client;
 use crate::model::message::{Answer, Done, Message, Refusal, LONGEST_MESSAGE};
+use crate::model::order::ZERO_KEY;
 use crate::model::replica::Replica;
 use std::fmt;
 
@@ -68,7 +70,7 @@ fn card(word: &[u8]) -> Option<Vec<u8>> {
 
 impl Player {
     pub fn new() -> Player {
-        let replica = |id| Replica::new(1, id).expect("a replica's number");
+        let replica = |id| Replica::new(1, id, &ZERO_KEY).expect("a replica's number");
         let client = |id| Client::new(1, id, 1).expect("a client's number");
         Player {
             replicas: (1..=PARTIES).map(replica).collect(),

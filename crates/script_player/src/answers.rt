@@ -37,8 +37,10 @@ pub const COUNTED: u8 = 5;
 
 pub const ENDED: u8 = 6;
 
+pub const TAKEN: u8 = 7;
+
 // The line itself is said.
-pub const COMMENT: u8 = 7;
+pub const COMMENT: u8 = 8;
 
 // An outcome, with the card of Done beside it.
 pub struct Answer {
@@ -105,7 +107,7 @@ fn print_said(said: u8, line: &[u8]) {
         return;
     }
     console::print(word(
-        b"unread new ready kept restored counted ended",
+        b"unread new ready kept restored counted ended taken",
         said as usize,
     ));
 }

@@ -4,6 +4,7 @@ use crate::answers::COUNTED;
 use crate::answers::ENDED;
 use crate::answers::Outcome;
 use crate::answers::READY;
+use crate::answers::UNREAD;
 use crate::answers::finish;
 use crate::answers::plain;
 use crate::answers::untouched;
@@ -102,6 +103,8 @@ fn call(
         Call::Read(register) => begin_read(client, register, out),
         Call::HandOver(n, m) => step(client, front(message, n), front(verdicts, m), out),
         Call::Copy(said) => kept(client, Outcome::Said(said)),
+        // A client takes no orders, and has no key.
+        _ => kept(client, Outcome::Said(UNREAD)),
     }
 }
 

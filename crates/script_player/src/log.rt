@@ -29,8 +29,12 @@ pub type Message = [u8; 4_096];
 
 pub type Verdicts = [u8; 400];
 
-// So many bytes of a card are taken.
+// So many bytes of a card, a key or an order are taken.
 const CARD: usize = 64;
+
+const KEY: usize = 64;
+
+const ORDER: usize = 2_048;
 
 pub fn empty() -> Store {
     [0; 321_600]
@@ -110,18 +114,49 @@ fn hand_over(
     Call::HandOver(n, m)
 }
 
+// The bytes that a word writes, of which there are at most so many.
+fn short_hex(word: &[u8], most: usize, to: &mut [u8]) -> Length {
+    let Length::Count(n) = hex(word, to) else {
+        return Length::NoHex;
+    };
+    if n > most {
+        return Length::NoHex;
+    }
+    Length::Count(n)
+}
+
 // `write ID REGISTER CARD`
 fn write(line: &[u8], card: &mut Message) -> Call {
     let Digit::Value(register) = decimal_byte(word(line, 2)) else {
         return Call::Copy(UNREAD);
     };
-    let Length::Count(n) = hex(rest(line, 3), card) else {
+    let Length::Count(n) = short_hex(rest(line, 3), CARD, card) else {
         return Call::Copy(UNREAD);
     };
-    if n > CARD {
-        return Call::Copy(UNREAD);
-    }
     Call::Write(register, n)
+}
+
+// `replica F ID KEY`
+fn set_up_replica(f: u8, id: u8, line: &[u8], key: &mut Message) -> Call {
+    let Length::Count(n) = short_hex(rest(line, 3), KEY, key) else {
+        return Call::Copy(UNREAD);
+    };
+    Call::SetUpReplica(f, id, n)
+}
+
+fn set_up(whom: Whom, f: u8, id: u8, nonce: u64, line: &[u8], key: &mut Message) -> Call {
+    match whom {
+        Whom::Replica => set_up_replica(f, id, line, key),
+        _ => Call::SetUp(f, id, nonce),
+    }
+}
+
+// `order ID ORDER`
+fn order(line: &[u8], bytes: &mut Message) -> Call {
+    let Length::Count(n) = short_hex(rest(line, 2), ORDER, bytes) else {
+        return Call::Copy(UNREAD);
+    };
+    Call::Order(n)
 }
 
 // The call of a task, with what its line hands over stored; a call whose words cannot be read only copies.
@@ -136,7 +171,9 @@ pub fn handed(
     let call = task.call;
     let whom = task.whom;
     match call {
+        Call::SetUp(f, id, nonce) => set_up(whom, f, id, nonce, line, bytes),
         Call::Write(_, _) => write(line, bytes),
+        Call::Order(_) => order(line, bytes),
         Call::HandOver(_, _) => hand_over(party(whom), line, store, sent, bytes, ones),
         _ => call,
     }

@@ -1,6 +1,7 @@
 // Plays scripts with replicas, clients and viewing clients, a line a call, and prints each answer. Bytes are in hex, `-` for none.
 //   new                                set all parties and messages aside
-//   replica F ID, client F ID NONCE,   set a party up
+//   replica F ID KEY,                  set a party up
+//   client F ID NONCE,
 //   viewer F ID NONCE
 //   write ID REGISTER CARD,            begin a client's write or read, or a viewing client's view
 //   read ID REGISTER, view ID REGISTER
@@ -8,6 +9,7 @@
 //   to-client ID MESSAGE VERDICTS,     as verdicts `+` for a 1 per signature
 //   to-viewer ID MESSAGE VERDICTS
 //   lent N CALL                        the same with an output of N bytes, 0 to 1,600, in place of 1,600
+//   order ID ORDER                     hand an order to a replica
 //   keep PARTY ID, restore PARTY ID    copy a party's record aside, and put it back; PARTY is replica, client or viewer
 //   # TEXT                             is printed as it stands
 // Any other line, and one about a party that is not set up, is unread.

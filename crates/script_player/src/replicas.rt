@@ -1,6 +1,7 @@
 // Calls of a replica, which has a bank of sixteen registers.
 use crate::answers::Outcome;
 use crate::answers::READY;
+use crate::answers::TAKEN;
 use crate::answers::UNREAD;
 use crate::answers::finish;
 use crate::answers::plain;
@@ -17,6 +18,7 @@ use crate::tasks::lent;
 use base::party::ReplicaId;
 use base::party::Setup;
 use base::slices::front;
+use base::taking::Taking;
 use protocol::replica::Bank;
 use protocol::replica::ReplicaAnswer;
 
@@ -27,12 +29,12 @@ struct ReplicaCalled {
 }
 
 pub fn nobody() -> Bank {
-    bank::fresh(0, ReplicaId(0)).bank
+    bank::fresh(0, ReplicaId(0), b"").bank
 }
 
 // A refused set-up leaves what was set up before.
-fn set_up(before: Bank, f: u8, id: u8) -> ReplicaCalled {
-    let made = bank::fresh(f, ReplicaId(id));
+fn set_up(before: Bank, f: u8, id: u8, key: &[u8]) -> ReplicaCalled {
+    let made = bank::fresh(f, ReplicaId(id), key);
     let setup = made.setup;
     let bank = made.bank;
     match setup {
@@ -64,6 +66,23 @@ fn step(before: Bank, message: &[u8], verdicts: &[u8], out: &mut [u8]) -> Replic
     }
 }
 
+fn taking_outcome(taking: Taking) -> Outcome {
+    match taking {
+        Taking::Taken => Outcome::Said(TAKEN),
+        Taking::Refused(number) => Outcome::Refused(number),
+    }
+}
+
+fn take_order(before: Bank, order: &[u8]) -> ReplicaCalled {
+    let left = bank::take_order(before, order);
+    let answer = left.answer;
+    let bank = left.bank;
+    ReplicaCalled {
+        bank: bank,
+        outcome: taking_outcome(answer),
+    }
+}
+
 fn call(
     bank: Bank,
     call: Call,
@@ -72,13 +91,14 @@ fn call(
     out: &mut [u8],
 ) -> ReplicaCalled {
     match call {
-        Call::SetUp(f, id, _) => set_up(bank, f, id),
+        Call::SetUpReplica(f, id, n) => set_up(bank, f, id, front(message, n)),
         Call::HandOver(n, m) => step(bank, front(message, n), front(verdicts, m), out),
+        Call::Order(n) => take_order(bank, front(message, n)),
         Call::Copy(said) => ReplicaCalled {
             bank: bank,
             outcome: Outcome::Said(said),
         },
-        // A replica begins nothing.
+        // A replica begins nothing, and is set up with a key.
         _ => ReplicaCalled {
             bank: bank,
             outcome: Outcome::Said(UNREAD),

@@ -29,11 +29,15 @@ pub enum Whom {
 pub enum Call {
     // f, number and first nonce; a replica has no use for the nonce.
     SetUp(u8, u8, u64),
+    // A replica's f and number, and the length of its key.
+    SetUpReplica(u8, u8, usize),
     // The register, and the card's length.
     Write(u8, usize),
     // The register. A viewing client's view is a read too.
     Read(u8),
     HandOver(usize, usize),
+    // The order's length.
+    Order(usize),
     // Its record is copied, and the word is said.
     Copy(u8),
 }
@@ -89,7 +93,9 @@ const KEEP: usize = 10;
 
 const RESTORE: usize = 11;
 
-const NO_COMMAND: usize = 12;
+const ORDER: usize = 12;
+
+const NO_COMMAND: usize = 13;
 
 pub fn nothing_held() -> Held {
     [false; 230]
@@ -191,7 +197,7 @@ fn command(name: &[u8]) -> usize {
     let mut n = 0;
     while n < NO_COMMAND {
         let listed = word(
-            b"to-replica to-client to-viewer write read view lent replica client viewer keep restore",
+            b"to-replica to-client to-viewer write read view lent replica client viewer keep restore order",
             n,
         );
         if check::same(listed, name) {
@@ -308,11 +314,13 @@ pub fn lent(line: &[u8]) -> usize
 // What a line asks for.
 pub fn of_line(line: &[u8], held: &Held) -> Task {
     match command(word(line, 0)) {
-        REPLICA => set_up(Whom::Replica, word(line, 1), rest(line, 2), b"0"),
+        REPLICA => set_up(Whom::Replica, word(line, 1), word(line, 2), b"0"),
         CLIENT => set_up(Whom::Client, word(line, 1), word(line, 2), rest(line, 3)),
         VIEWER => set_up(Whom::Viewer, word(line, 1), word(line, 2), rest(line, 3)),
         KEEP => of_copy(line, held),
         RESTORE => of_copy(line, held),
+        // no output is lent with an order
+        ORDER => of_named(Whom::Replica, Call::Order(0), line, held),
         NO_COMMAND => other(line),
         _ => of_call(behind_lent(line), held),
     }

@@ -87,8 +87,8 @@ fn call(
         Call::Read(register) => begin_view(viewer, register, out),
         Call::HandOver(n, m) => step(viewer, front(message, n), front(verdicts, m), out),
         Call::Copy(said) => kept(viewer, Outcome::Said(said)),
-        // A viewing client writes nothing.
-        Call::Write(_, _) => kept(viewer, Outcome::Said(UNREAD)),
+        // A viewing client writes nothing, takes no orders, and has no key.
+        _ => kept(viewer, Outcome::Said(UNREAD)),
     }
 }
 
