@@ -1,6 +1,7 @@
 //! Compares the proved bank with the plain one on many requests, and prints for each step of `steps` what it costs
 //! either: time, instructions (by callgrind) and bytes copied (listed by `copies`, whose output is the standard input).
 //! With the argument `rows` it prints the rows of docs/SPEED.md's table. Run by `bench/run`.
+#[allow(dead_code)] // orders are timed by themselves
 #[path = "../rust/bank.rs"]
 mod bank;
 mod plain_bank;

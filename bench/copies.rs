@@ -3,6 +3,7 @@
 //!
 //! The three functions are defined here, so that the linker takes them and not the C library's. Copies of up to about a
 //! hundred bytes of known length are no calls, and are not counted: the compiler writes them out.
+#[allow(dead_code)] // orders are timed by themselves
 #[path = "../rust/bank.rs"]
 mod bank;
 mod plain_bank;

@@ -185,7 +185,7 @@ fn read(message: &[u8]) -> Result<Request<'_>, u8> {
 }
 
 /// Tests 7 to 11. Gives the signers of the prepared proof.
-fn check(request: &Request, f: u8, verdicts: &[u8]) -> Result<u16, u8> {
+fn check(request: &Request, f: u8, withdrawn: u128, verdicts: &[u8]) -> Result<u16, u8> {
     let proofs = || request.prepared.iter().chain(&request.written);
     let signatures = 1 + proofs().map(|p| p.entries.len() / ENTRY).sum::<usize>();
     // the bits that some verdict has, and those that all have
@@ -199,6 +199,9 @@ fn check(request: &Request, f: u8, verdicts: &[u8]) -> Result<u16, u8> {
     }
     if verdicts[0] == 0 {
         return Err(8);
+    }
+    if withdrawn >> request.sender & 1 == 1 {
+        return Err(23);
     }
     let prepared = request.prepared.map_or(Some(0), |p| signers(p.entries, f));
     let written = request.written.map_or(Some(0), |p| signers(p.entries, f));
@@ -302,6 +305,8 @@ pub struct Bank {
     f: u8,
     id: u8,
     registers: [Register; REGISTERS],
+    /// Client c is bit c.
+    pub withdrawn: u128,
 }
 
 impl Bank {
@@ -311,6 +316,7 @@ impl Bank {
             f,
             id,
             registers: [const { Register::FRESH }; REGISTERS],
+            withdrawn: 0,
         })
     }
 
@@ -323,7 +329,7 @@ impl Bank {
             return Err(1);
         }
         let request = read(message)?;
-        let signers = check(&request, self.f, verdicts)?;
+        let signers = check(&request, self.f, self.withdrawn, verdicts)?;
         let register = &mut self.registers[usize::from(request.register) - 1];
         match request.kind {
             1 => register.read_stamp(self.id, &request, out),

@@ -26,7 +26,9 @@ pub trait Served {
 
 impl Served for bank::Bank {
     fn made() -> Self {
-        bank::Bank::fresh(F, bank::ReplicaId(1)).unwrap()
+        let mut key = [0; bank::KEY];
+        [key[3], key[7]] = [5, 4];
+        bank::Bank::fresh(F, bank::ReplicaId(1), &key).unwrap()
     }
 
     #[inline(always)]
