@@ -47,8 +47,7 @@ impl ReplicaSet {
     pub fn to_bytes(self) -> [u8; 2]
         ensures { λ r. ⌜ r ≡ toBytes 2 (self .0) ⌝ }
     {
-        let bits = self.0;
-        [(bits / 256) as u8, (bits % 256) as u8]
+        crate::big_endian::to_two(self.0)
     }
 
     // Whether the set has a quorum of the replicas 1 to n.

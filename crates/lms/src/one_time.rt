@@ -10,7 +10,7 @@ use crate::layout::Y_AT;
 use crate::strings::hash;
 use crate::strings::head;
 use crate::strings::part;
-use crate::strings::two_bytes;
+use base::big_endian::to_two;
 use base::bytes::put;
 use base::slices::front;
 use wire::layout::DIGEST;
@@ -87,7 +87,7 @@ fn with_checksum(values: &[u8; DIGEST]) -> [u8; CHAINS]
     ensures { λ r. ⌜ r ≡ checked (now (values .entry)) ⌝ }
 {
     let sum = checksum(values);
-    let behind = two_bytes(sum);
+    let behind = to_two(sum);
     let mut all = [0u8; CHAINS];
     put(&mut all, 0, values);
     put(&mut all, DIGEST, &behind);

@@ -1,6 +1,8 @@
-// Strings: parts of them, numbers as strings, and hashes.
+// Strings: parts of them, what a hash starts with, and hashes.
 use crate::layout::HEAD;
 use crate::layout::IDENTIFIER;
+use base::big_endian::to_four;
+use base::big_endian::to_two;
 use base::bytes::put;
 use base::slices::behind;
 use wire::arrays::digest_array;
@@ -9,7 +11,7 @@ ghost use mathlib.Core.Path.{_≡_};
 ghost use Prim.Native.Nat.{_+_, _≤_};
 ghost use lib.ListN.{length};
 ghost use Rattle.wire.specs.Sha256.{sha256};
-ghost use Rattle.lms.specs.LmOts.{u16str, u32str, part, head};
+ghost use Rattle.lms.specs.LmOts.{part, head};
 
 pub(super) fn part(bytes: &[u8], at: usize) -> [u8; DIGEST]
     requires { ⌜ at + 32 ≤ length (now bytes) ⌝ }
@@ -18,34 +20,13 @@ pub(super) fn part(bytes: &[u8], at: usize) -> [u8; DIGEST]
     digest_array(behind(bytes, at))
 }
 
-pub(super) fn two_bytes(x: u16) -> [u8; 2]
-    ensures { λ r. ⌜ r ≡ u16str x ⌝ }
-{
-    [(x / 256 % 256) as u8, (x % 256) as u8]
-}
-
-fn four_bytes(x: u32) -> [u8; 4]
-    ensures { λ r. ⌜ r ≡ u32str x ⌝ }
-{
-    // The number without its last byte, its last two, its last three.
-    let x1 = x / 256;
-    let x2 = x1 / 256;
-    let x3 = x2 / 256;
-    [
-        (x3 % 256) as u8,
-        (x2 % 256) as u8,
-        (x1 % 256) as u8,
-        (x % 256) as u8,
-    ]
-}
-
 // What a hash starts with.
 pub(super) fn head(identifier: &[u8; IDENTIFIER], q: u32, d: u16) -> [u8; HEAD]
     ensures { λ r. ⌜ r ≡ head (now (identifier .entry)) q d ⌝ }
 {
     let mut head = [0u8; HEAD];
-    let four = four_bytes(q);
-    let two = two_bytes(d);
+    let four = to_four(q);
+    let two = to_two(d);
     put(&mut head, 0, identifier);
     put(&mut head, IDENTIFIER, &four);
     put(&mut head, IDENTIFIER + 4, &two);

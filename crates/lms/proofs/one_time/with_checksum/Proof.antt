@@ -18,7 +18,7 @@ returns c =
     let front = laid 0 32 _ (one .last .0) [] values refl (omega arith) (omega arith) (one .ensures) in
     let both = laid 32 34 _ (two .last .0) values _ front (omega arith) (omega arith) (two .ensures) in
     let sum = c .before .before .before .before .before .before .before .before .before .checksum .ensures in
-    let behind = c .before .before .before .before .before .before .before .before .two-bytes .ensures ∙ ap u16str sum in
+    let behind = c .before .before .before .before .before .before .before .before .to-two .ensures ∙ ap u16str sum in
     full 34 (two .last .0) _ (omega arith) both ∙ ap (λ (x : List ℕ). values ++ x) behind
 
 pub with-checksum-spec : {M : Type 1} → statement M

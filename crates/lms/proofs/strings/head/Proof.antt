@@ -19,8 +19,8 @@ returns c =
     let front = laid 0 16 _ (one .last .0) [] I refl (omega arith) (omega arith) (one .ensures) in
     let next = laid 16 20 _ (two .last .0) I _ front (omega arith) (omega arith) (two .ensures) in
     let all = laid 20 22 _ (three .last .0) _ _ next (omega arith) (omega arith) (three .ensures) in
-    let q = c .before .before .before .before .before .before .before .before .before .before .before .before .before .four-bytes .ensures in
-    let d = c .before .before .before .before .before .before .before .before .before .before .before .before .two-bytes .ensures in
+    let q = c .before .before .before .before .before .before .before .before .before .before .before .before .before .to-four .ensures in
+    let d = c .before .before .before .before .before .before .before .before .before .before .before .before .to-two .ensures in
     full 22 (three .last .0) _ (omega arith) all ∙ rw (q, d) (append-assoc I (u32str (a .q)) (u16str (a .d)))
 
 pub head-spec : {M : Type 1} → statement M
