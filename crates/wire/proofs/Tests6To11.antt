@@ -43,7 +43,7 @@ use Rattle.wire.proofs.FirstRefusal.{proven-smallest, proof-missing}
 use Rattle.wire.proofs.Windows.{front-some}
 use Rattle.wire.proofs.Rows.{Taken, read-stamp, prepare, write, read, stamp, prepared, written, card}
 
--- The timestamp field, if it is checked-there.
+-- The timestamp field, if there is one.
 abbrev pub timestampAt : List ℕ → Option ℕ
 timestampAt bytes = cond (bit (mapIn bytes) 3) (some (timestampIn bytes)) none
 

@@ -3,7 +3,6 @@ use crate::layout::DIGEST;
 use base::big_endian::from_four;
 ghost use mathlib.Core.Path.{_≡_};
 ghost use mathlib.Core.List.{_∷_, []};
-ghost use lib.ListN.{length};
 ghost use Rattle.base.specs.BigEndian.{toBytes};
 ghost use Rattle.base.specs.Same.{same};
 ghost use Rattle.wire.specs.Sha256.{hashBytes};

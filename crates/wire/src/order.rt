@@ -7,7 +7,7 @@ use base::slices::front;
 ghost use mathlib.Core.Path.{_≡_};
 ghost use Rattle.wire.specs.Order.{clientNamed, orderCovered, orderSignature, isOrder};
 
-pub const ORDER: usize = 1299;
+const ORDER: usize = 1_299;
 
 // The bytes in front of the signature.
 const COVERED: usize = 7;
