@@ -1,9 +1,9 @@
 //! Messages with verdicts for the program `messages`: what tests 2 to 11, with 19 and 20, make of them.
 use crate::forge::{bad_register, good_register, sound, spoiled, whole, Delivery};
-use crate::messages::{letter, receiver, ROOM};
+use crate::messages::{letter, receiver};
 use crate::model::message::*;
 use crate::model::random::Random;
-use crate::program::{hex, Failure, Line, Program};
+use crate::program::{hex, Failure, Line, Program, HUGE_BUFFER};
 use crate::tally::Tally;
 use std::collections::BTreeSet;
 
@@ -97,5 +97,5 @@ fn line(random: &mut Random, tally: &mut Tally) -> Line {
 
 pub fn compare(program: &Program, random: &mut Random, tally: &mut Tally) -> Result<(), Failure> {
     let lines: Vec<Line> = (0..LINES).map(|_| line(random, tally)).collect();
-    program.must_answer(&lines, ROOM)
+    program.must_answer(&lines, HUGE_BUFFER)
 }

@@ -3,11 +3,10 @@ use crate::cards::{damaged_card, good_card};
 use crate::forge::trimmed;
 use crate::model::message::*;
 use crate::model::random::Random;
-use crate::program::{hex, Failure, Line, Program};
+use crate::program::{hex, Failure, Line, Program, HUGE_BUFFER};
 use crate::tally::Tally;
 
 const PAIRS: usize = 10_000;
-pub const ROOM: usize = 262_144;
 
 pub const FLOORS: [(&str, usize); 23] = [
     ("first later", 1_000),
@@ -394,6 +393,6 @@ fn lines(random: &mut Random, tally: &mut Tally) -> [Line; 3] {
 
 pub fn compare(program: &Program, random: &mut Random, tally: &mut Tally) -> Result<(), Failure> {
     let lines: Vec<Line> = (0..PAIRS).flat_map(|_| lines(random, tally)).collect();
-    program.must_answer(&lines, ROOM)?;
-    program.must_say_rest(ROOM)
+    program.must_answer(&lines, HUGE_BUFFER)?;
+    program.must_say_rest(HUGE_BUFFER)
 }

@@ -3,6 +3,9 @@ use std::fmt;
 use std::io::{self, Write};
 use std::process::{Command, Stdio};
 
+/// How much of its input a program takes that reads into `console::huge_buffer`.
+pub const HUGE_BUFFER: usize = 262_144;
+
 pub struct Program {
     path: String,
 }

@@ -3,13 +3,11 @@
 use crate::model::lms::{verifies, Identifier, Signer, LEAVES};
 use crate::model::random::Random;
 use crate::model::script::{hex, unhex};
-use crate::program::{Failure, Line, Program};
+use crate::program::{Failure, Line, Program, HUGE_BUFFER};
 use crate::tally::Tally;
 use std::fs;
 
 const LINES: usize = 300;
-/// The input that the program takes.
-const ROOM: usize = 262_144;
 /// The digest takes 4,096 bytes, so a longer message has no signature.
 const LONGEST_MESSAGE: usize = 4_042;
 
@@ -151,6 +149,6 @@ pub fn compare(program: &Program, random: &mut Random, tally: &mut Tally) -> Res
         }
     };
     let lines: Vec<Line> = (0..LINES).map(|_| line()).collect();
-    program.must_answer(&lines, ROOM)?;
-    program.must_say_rest(ROOM)
+    program.must_answer(&lines, HUGE_BUFFER)?;
+    program.must_say_rest(HUGE_BUFFER)
 }

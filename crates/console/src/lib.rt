@@ -1,4 +1,4 @@
-// Text on standard output, for the programs.
+// What the programs read into, and text on standard output.
 use base::slices::behind;
 use base::slices::front;
 use base::timestamp::Timestamp;
@@ -6,6 +6,15 @@ use libc::STDIN_FILENO;
 use libc::STDOUT_FILENO;
 use text::hex::put_hex;
 use text::timestamp::put_timestamp;
+ghost use mathlib.Core.Path.{_≡_};
+ghost use lib.ListN.{length};
+
+// Four times `io::large_buffer`. A function of its own, so that no other's proof has to unfold so long an array.
+pub fn huge_buffer() -> [u8; 262144]
+    ensures { λ r. ⌜ 262144 ≡ length r ⌝ }
+{
+    [0u8; 262144]
+}
 
 pub fn print(text: &[u8]) {
     io::write_all(STDOUT_FILENO, text);

@@ -9,8 +9,6 @@ use libc::STDIN_FILENO;
 use text::hex::Length;
 use text::hex::read_word;
 use text::line::word_end;
-ghost use mathlib.Core.Path.{_≡_};
-ghost use lib.ListN.{length};
 
 fn bytes_of(word: &[u8], to: &mut [u8]) -> Length {
     if same(word, b"-") {
@@ -85,15 +83,8 @@ fn answer_lines(input: &[u8]) {
     }
 }
 
-// A function of its own, so that no other's proof has to unfold so long an array.
-fn room() -> [u8; 262144]
-    ensures { λ r. ⌜ 262144 ≡ length r ⌝ }
-{
-    [0u8; 262144]
-}
-
 fn main() {
-    let mut input = room();
+    let mut input = console::huge_buffer();
     let n = io::read_full(STDIN_FILENO, &mut input);
     answer_lines(&input[..n]);
     console::say_rest(n, input.len());

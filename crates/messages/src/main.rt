@@ -18,8 +18,6 @@ use wire::message::Reading;
 use wire::parts;
 use wire::signatures::Signed;
 use wire::signatures::Signer;
-ghost use mathlib.Core.Path.{_≡_};
-ghost use lib.ListN.{length};
 
 const NONCE: u16 = 0x004;
 
@@ -309,15 +307,8 @@ fn answer_lines(input: &[u8]) {
     }
 }
 
-// A function of its own, so that no other's proof has to unfold so long an array.
-fn room() -> [u8; 262144]
-    ensures { λ r. ⌜ 262144 ≡ length r ⌝ }
-{
-    [0u8; 262144]
-}
-
 fn main() {
-    let mut input = room();
+    let mut input = console::huge_buffer();
     let n = io::read_full(STDIN_FILENO, &mut input);
     answer_lines(&input[..n]);
     console::say_rest(n, input.len());
