@@ -46,7 +46,7 @@ pub struct BankStepped {
 }
 
 // What an order leaves.
-pub struct OrderTaken {
+pub struct BankOrdered {
     pub answer: Taking,
     pub bank: Bank,
 }
@@ -199,13 +199,13 @@ fn withdraw_from(bank: Bank, order: &[u8]) -> Withdrawal
 }
 
 // An order is handed to a replica.
-pub fn take_order(bank: Bank, order: &[u8]) -> OrderTaken
+pub fn take_order(bank: Bank, order: &[u8]) -> BankOrdered
     ensures { λ r. ⌜ OrderSteps bank (now (order .entry)) (r .answer) (r .bank) ⌝ }
 {
     let left = withdraw_from(bank, order);
     let answer = left.answer;
     let next = left.withdrawn;
-    OrderTaken {
+    BankOrdered {
         answer: answer,
         bank: with_withdrawn(bank, next),
     }

@@ -61,5 +61,5 @@ module _ (R : Run) where
     pub signed : (id : ReplicaId) (c : ClientId) (t : ℕ) (o : OrderTaken id c t) → isSigned (R .office-key id) (o .order) ≡ true
     -- From then on the replica takes no message of that client, of any kind and for any register,
     pub shut-out : (id : ReplicaId) (c : ClientId) (t u : ℕ) → OrderTaken id c t → t ≤ u → FromClient id c u → Accepted R u → ⊥
-    -- and where 7 and 8 pass it answers 23.
+    -- and where 19, 20, 7 and 8 pass it answers 23.
     pub refused-23 : (id : ReplicaId) (c : ClientId) (t u : ℕ) → OrderTaken id c t → t ≤ u → PassesEight id c u → answerAt R u ≡ refused 23

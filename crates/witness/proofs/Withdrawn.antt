@@ -5,7 +5,7 @@ use mathlib.Core.Path.{_≡_, refl, sym, ap, ap₂, subst, _∙_}
 use mathlib.Core.Bool.{Bool, true}
 use mathlib.Core.List.{List, [], _∷_}
 use mathlib.Core.Option.{none, some}
-use Prim.Native.Nat.{ℕ, zero, suc, _≤_, _<_}
+use Prim.Native.Nat.{ℕ, zero, suc, _+_, _≤_, _<_}
 use native.Mathlib.Omega.{arith}
 use lib.Dec.{lit<, lit≤}
 use lib.ListN.{getElem?}
@@ -179,45 +179,33 @@ module _ (key : List ℕ) (is-key : (isPublicKey key ≡ true) × Bytes key) (go
       let line = to-replica id bytes verdicts ↝ send message in
       (t, behind, event-told run story as-told t line at, sends-told run story as-told t (to-replica id bytes verdicts) message at)
 
-  seen-1 : SeenAt replica-1
-  unfolding story messages
-  seen-1 = record {
-    order-taken = takes 3 _ (lit< tt) refl;
-    read-refused = refuses 6 _ (lit≤ tt) refl;
-    prepare-refused = refuses 9 _ (lit≤ tt) refl;
-    write-taken = sends 12 _ write-5 four _ (lit≤ tt) refl;
-    prepare-taken = sends 15 _ prepare-5 four _ (lit≤ tt) refl;
-  }
-
-  seen-2 : SeenAt replica-2
-  unfolding story messages
-  seen-2 = record {
-    order-taken = takes 4 _ (lit< tt) refl;
-    read-refused = refuses 7 _ (lit≤ tt) refl;
-    prepare-refused = refuses 10 _ (lit≤ tt) refl;
-    write-taken = sends 13 _ write-5 four _ (lit≤ tt) refl;
-    prepare-taken = sends 16 _ prepare-5 four _ (lit≤ tt) refl;
-  }
-
-  seen-3 : SeenAt replica-3
-  unfolding story messages
-  seen-3 = record {
-    order-taken = takes 5 _ (lit< tt) refl;
-    read-refused = refuses 8 _ (lit≤ tt) refl;
-    prepare-refused = refuses 11 _ (lit≤ tt) refl;
-    write-taken = sends 14 _ write-5 four _ (lit≤ tt) refl;
-    prepare-taken = sends 17 _ prepare-5 four _ (lit≤ tt) refl;
-  }
+  -- The lines of the i-th of the three.
+  seen-in : (i : ℕ) (id : ReplicaId) → i < 3
+      → getElem? story (3 + i) ≡ some (order-to id order ↝ waits)
+      → getElem? story (6 + i) ≡ some (to-replica id read-4 one ↛ 23)
+      → getElem? story (9 + i) ≡ some (to-replica id prepare-4 one ↛ 23)
+      → getElem? story (12 + i) ≡ some (to-replica id write-5 four ↝ send (WRITTEN id 1·4))
+      → getElem? story (15 + i) ≡ some (to-replica id prepare-5 four ↝ send (PREPARED id 2·5 lathe-digest))
+      → SeenAt id
+  unfolding messages
+  seen-in i id few taken read prepare write after =
+      record {
+        order-taken = takes (3 + i) id (omega arith) taken;
+        read-refused = refuses (6 + i) _ (omega arith) read;
+        prepare-refused = refuses (9 + i) _ (omega arith) prepare;
+        write-taken = sends (12 + i) id write-5 four _ (omega arith) write;
+        prepare-taken = sends (15 + i) id prepare-5 four _ (omega arith) after;
+      }
 
   seen : (id : ReplicaId) → run .correct-replica id ≡ true → SeenAt id
-  unfolding run
+  unfolding run story
   seen id c = go (id .0) c
     where
       go : (n : ℕ) → within 1 3 n ≡ true → SeenAt (record { 0 = n })
       go zero c = let b = bounds 1 3 0 c in absurd (omega arith)
-      go (suc zero) c = seen-1
-      go (suc (suc zero)) c = seen-2
-      go (suc (suc (suc zero))) c = seen-3
+      go (suc zero) c = seen-in 0 replica-1 (lit< tt) refl refl refl refl refl
+      go (suc (suc zero)) c = seen-in 1 replica-2 (lit< tt) refl refl refl refl refl
+      go (suc (suc (suc zero))) c = seen-in 2 replica-3 (lit< tt) refl refl refl refl refl
       go (suc (suc (suc (suc n)))) c = let b = bounds 1 3 (suc (suc (suc (suc n)))) c in absurd (omega arith)
 
 -- ---- Under the key that `key-for` gives
