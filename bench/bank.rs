@@ -1,7 +1,7 @@
 //! Compares the proved bank with the plain one on many requests, and prints for each step of `steps` what it costs
 //! either: time, instructions (by callgrind) and bytes copied (listed by `copies`, whose output is the standard input).
 //! With the argument `rows` it prints the rows of docs/SPEED.md's table. Run by `bench/run`.
-#[allow(dead_code)] // orders are timed by themselves
+#[allow(dead_code)] // the tests use more of it
 #[path = "../rust/bank.rs"]
 mod bank;
 mod plain_bank;
@@ -13,7 +13,7 @@ use plain_sha256::sha256;
 use std::hint::black_box;
 use std::process::Command;
 use std::time::{Duration, Instant};
-use std::{env, io};
+use std::{env, fs, io};
 use steps::*;
 
 /// Numbers that look random, the same in each run (xorshift).
@@ -89,12 +89,28 @@ fn any_request(numbers: &mut Numbers) -> Request {
     any
 }
 
-/// Both are handed the same requests, and must answer, write and keep the same. How many were sent, then refused 1 to 20.
-fn compare() -> [u32; 21] {
+/// The office's key and its order against client 3, of the story of a contractor's last day.
+fn key_and_order() -> (Vec<u8>, Vec<u8>) {
+    let script = fs::read_to_string("examples/last-day.script").unwrap();
+    let set_up = script.lines().find(|line| line.starts_with("replica "));
+    let key = set_up.unwrap().rsplit(' ').next().unwrap();
+    let byte = |at| u8::from_str_radix(&key[at..at + 2], 16).unwrap();
+    let key = (0..key.len()).step_by(2).map(byte).collect();
+    (key, fs::read("examples/last-day.order").unwrap())
+}
+
+/// Both are handed the same requests, in each second round with client 3 withdrawn, and must answer, write and keep the same.
+/// How many were sent, then refused 1 to 23.
+fn compare() -> [u32; 24] {
     let mut numbers = Numbers(0x9e37_79b9_7f4a_7c15);
-    let mut answers = [0u32; 21];
-    for _ in 0..2_000 {
-        let (mut proved, mut plain) = (bank::Bank::made(), plain_bank::Bank::made());
+    let mut answers = [0u32; 24];
+    let (key, order) = key_and_order();
+    for round in 0..2_000 {
+        let (mut proved, mut plain) = (bank::Bank::made(&key), plain_bank::Bank::made(&key));
+        if round % 2 == 1 {
+            proved.withdraw(&order);
+            plain.withdraw(&order);
+        }
         for _ in 0..50 {
             let request = any_request(&mut numbers);
             let length = OUTPUT + 9 - numbers.below(11);
@@ -277,7 +293,7 @@ fn main() {
     match arguments.iter().map(String::as_str).collect::<Vec<_>>()[..] {
         [] => {
             println!(
-                "100,000 requests are answered alike; sent, then refused 1 to 20: {:?}",
+                "100,000 requests are answered alike; sent, then refused 1 to 23: {:?}",
                 compare()
             );
             print_all(&steps, print_costs);

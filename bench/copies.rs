@@ -9,6 +9,7 @@ mod bank;
 mod plain_bank;
 #[path = "../model/sha256.rs"]
 mod plain_sha256;
+#[allow(dead_code)] // `bank` uses more of it
 mod steps;
 
 use std::collections::BTreeMap;

@@ -16,19 +16,30 @@ pub const CARD: [u8; 17] = [
     0x80,
 ];
 
+/// A key of the office under which there is no order.
+const ZERO_KEY: [u8; bank::KEY] = {
+    let mut key = [0; bank::KEY];
+    [key[3], key[7]] = [5, 4];
+    key
+};
+
 /// A replica of either kind.
 pub trait Served {
-    fn made() -> Self;
+    fn made(key: &[u8]) -> Self;
+    /// Takes an order that is genuine under its key. The plain replica checks none: `orders` times that.
+    fn withdraw(&mut self, order: &[u8]);
     fn hand(&mut self, request: &Request, out: &mut [u8]) -> Result<usize, u8>;
     /// Of each register's held proof, replica r as bit r - 1.
     fn held_signers(&self) -> [u16; bank::REGISTERS];
 }
 
 impl Served for bank::Bank {
-    fn made() -> Self {
-        let mut key = [0; bank::KEY];
-        [key[3], key[7]] = [5, 4];
-        bank::Bank::fresh(F, bank::ReplicaId(1), &key).unwrap()
+    fn made(key: &[u8]) -> Self {
+        bank::Bank::fresh(F, bank::ReplicaId(1), key).unwrap()
+    }
+
+    fn withdraw(&mut self, order: &[u8]) {
+        assert_eq!(self.take_order(order), bank::Taking::Taken);
     }
 
     #[inline(always)]
@@ -47,8 +58,12 @@ impl Served for bank::Bank {
 }
 
 impl Served for plain_bank::Bank {
-    fn made() -> Self {
+    fn made(_: &[u8]) -> Self {
         plain_bank::Bank::fresh(F, 1).unwrap()
+    }
+
+    fn withdraw(&mut self, order: &[u8]) {
+        self.withdrawn |= 1 << order[2];
     }
 
     #[inline(always)]
@@ -210,7 +225,7 @@ pub struct Taking<'a, R> {
 
 impl<'a, R: Served> Taking<'a, R> {
     pub fn new(step: &'a Step) -> Self {
-        let mut replica = R::made();
+        let mut replica = R::made(&ZERO_KEY);
         let mut out = [0; OUTPUT];
         for request in &step.before {
             let mut request = request.clone();
