@@ -1,6 +1,6 @@
 -- What sets of clients hold. Assumes nothing.
-use mathlib.Core.Path.{_≡_, refl, sym, _∙_}
-use mathlib.Core.Bool.{Bool, true, false, _||_, or-comm}
+use mathlib.Core.Path.{_≡_, refl, ap, _∙_}
+use mathlib.Core.Bool.{Bool, true, false, _||_, or-assoc}
 use mathlib.Core.Logic.{_⊎_, inl, inr}
 use Prim.Native.Nat.{ℕ, _-_, _≤_}
 use native.Mathlib.Omega.{arith}
@@ -46,14 +46,9 @@ side i e = go (ltb 64 i) refl
     go true h = let over = ltb-true 64 i h in views (above 1 64 i over) (inside 65 96 i (omega arith) (bounds 1 96 i e .1))
     go false h = let under = ltb-false 64 i h in writes (inside 1 64 i (bounds 1 96 i e .0) (omega arith)) (below 65 96 i (omega arith))
 
-or-assoc : (a b c : Bool) → ((a || b) || c) ≡ (a || (b || c))
-or-assoc true b c = refl
-or-assoc false b c = refl
-
--- A set with one client more has that one and what it had.
-pub has-with : (set : ClientSet) (x i : ClientId) → isClient i ≡ true → has (with set x) i ≡ (eqb (i .0) (x .0) || has set i)
+with-client : (set : ClientSet) (x i : ClientId) → isClient i ≡ true → has (with set x) i ≡ (eqb (i .0) (x .0) || has set i)
 unfolding has with
-has-with set x i e = go (side (i .0) e)
+with-client set x i e = go (side (i .0) e)
   where
     go : Side (i .0)
         → (inMask 1 64 (putIn 1 64 (set .writers) (x .0)) (i .0) || inMask 65 96 (putIn 65 96 (set .viewers) (x .0)) (i .0))
@@ -61,27 +56,20 @@ has-with set x i e = go (side (i .0) e)
     go (writes h k) = rw (in-put 1 64 (set .writers) (x .0) (i .0) h, k) (or-assoc (eqb (i .0) (x .0)) (inMask 1 64 (set .writers) (i .0)) false)
     go (views h k) = rw (in-put 65 96 (set .viewers) (x .0) (i .0) k, h)
 
--- What is put in is in,
+-- A set with one client more has that one and what it had, and nobody else.
+pub has-with : (set : ClientSet) (x i : ClientId) → isClient x ≡ true → has (with set x) i ≡ (eqb (i .0) (x .0) || has set i)
+has-with set x i e = go (isClient i) refl
+  where
+    go : (b : Bool) → isClient i ≡ b → has (with set x) i ≡ (eqb (i .0) (x .0) || has set i)
+    go true k = with-client set x i k
+    go false k =
+        let other : i .0 ≡ x .0 → ⊥ = λ one. let is = ap (λ (n : ℕ). isClient (record { 0 = n })) one in apart (cc) in
+        has-client (with set x) i k ∙ rw (ne-eqb (i .0) (x .0) other, has-client set i k)
+
 pub has-put : (set : ClientSet) (x : ClientId) → isClient x ≡ true → has (with set x) x ≡ true
 has-put set x e = has-with set x x e ∙ rw (eq-eqb (x .0) (x .0) refl)
 
--- what was in stays,
-pub has-kept : (set : ClientSet) (x i : ClientId) → has set i ≡ true → has (with set x) i ≡ true
-has-kept set x i e = go (isClient i) refl
-  where
-    go : (b : Bool) → isClient i ≡ b → has (with set x) i ≡ true
-    go true c = has-with set x i c ∙ rw e (or-comm (eqb (i .0) (x .0)) true)
-    go false c = let none = has-client set i c in apart (cc)
-
--- nobody else comes in,
-pub has-other : (set : ClientSet) (x i : ClientId) → (i .0 ≡ x .0 → ⊥) → has (with set x) i ≡ has set i
-has-other set x i other = go (isClient i) refl
-  where
-    go : (b : Bool) → isClient i ≡ b → has (with set x) i ≡ has set i
-    go true c = has-with set x i c ∙ rw (ne-eqb (i .0) (x .0) other)
-    go false c = has-client (with set x) i c ∙ sym (has-client set i c)
-
--- and who is in already changes nothing.
+-- Who is in already changes nothing.
 pub with-again : (set : ClientSet) (x : ClientId) → has set x ≡ true → with set x ≡ set
 unfolding has with
 with-again set x e = go (or-true (inMask 1 64 (set .writers) (x .0)) (inMask 65 96 (set .viewers) (x .0)) e)

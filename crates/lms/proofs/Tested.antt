@@ -9,7 +9,7 @@ use lib.ListN.{length}
 use Rattle.base.specs.Same.{same}
 use Rattle.base.proofs.Booleans.{and-true-both}
 use Rattle.lms.specs.LmOts.{number}
-use Rattle.lms.specs.Lms.{identifier, root, leafNumber, isPublicKey, signatureFormed, formed, Tc, genuine}
+use Rattle.lms.specs.Lms.{identifier, root, leafNumber, isPublicKey, signatureFormed, Tc, genuine}
 
 pub is-code : (r x k : ℕ) → r ≡ x → r ≡ k → eqb x k ≡ true
 is-code r x k e h = eq-eqb x k (sym e ∙ h)
@@ -32,26 +32,19 @@ signature-facts signature e =
     (eqb-true (length signature) 1292 (h₁ .0), ltb-true (leafNumber signature) 32 (and-true-both two low (h₂ .1) .1))
 
 module _ (key message signature : List ℕ) where
-  pub formed-facts : formed key signature ≡ true → (length key ≡ 56) × (length signature ≡ 1292) × (leafNumber signature < 32)
-  unfolding formed
-  formed-facts e =
-      let both = and-true-both (isPublicKey key) (signatureFormed signature) e in
-      let facts = signature-facts signature (both .1) in
-      (public-key-long key (both .0), facts .0, facts .1)
-
   pub no-key : isPublicKey key ≡ false → false ≡ genuine key message signature
-  unfolding genuine formed
+  unfolding genuine
   no-key e = rw e
 
   pub no-signature : isPublicKey key ≡ true → signatureFormed signature ≡ false → false ≡ genuine key message signature
-  unfolding genuine formed
+  unfolding genuine
   no-signature e f = rw (e, f)
 
   pub too-long : isPublicKey key ≡ true → signatureFormed signature ≡ true → 4042 < length message → false ≡ genuine key message signature
-  unfolding genuine formed
+  unfolding genuine
   too-long e f h = rw (e, f, lt-leb (length message) 4042 h)
 
   pub genuine-when : isPublicKey key ≡ true → signatureFormed signature ≡ true → length message ≤ 4042
       → genuine key message signature ≡ same (Tc (identifier key) (leafNumber signature) message signature) (root key)
-  unfolding genuine formed
+  unfolding genuine
   genuine-when e f h = rw (e, f, le-leb (length message) 4042 h)

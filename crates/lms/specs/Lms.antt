@@ -54,9 +54,6 @@ signatureFormed signature =
     && (eqb (number signature 4) LMOTS_SHA256_N32_W8
     && (eqb (number signature (8 + n * (p + 1))) LMS_SHA256_M32_H5 && ltb (leafNumber signature) (2 ^ h)))
 
-unfoldable pub formed : List ℕ → List ℕ → Bool
-formed key signature = isPublicKey key && signatureFormed signature
-
 -- 5.4.2, Algorithm 6a, step 3. The hash of a leaf, and of a node's parent by the node's own hash and its sibling's: an odd node stands on the right.
 unfoldable pub leaf : List ℕ → ℕ → List ℕ → List ℕ
 leaf I node K = sha256 (head I node D_LEAF ++ K)
@@ -85,4 +82,6 @@ longestMessage = longestInput - 54
 -- Algorithm 6.
 unfoldable pub genuine : List ℕ → List ℕ → List ℕ → Bool
 genuine key message signature =
-    formed key signature && (leb (length message) longestMessage && same (Tc (identifier key) (leafNumber signature) message signature) (root key))
+    isPublicKey key
+    && (signatureFormed signature
+    && (leb (length message) longestMessage && same (Tc (identifier key) (leafNumber signature) message signature) (root key)))

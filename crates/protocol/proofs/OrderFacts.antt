@@ -1,9 +1,8 @@
 -- What an order does to a bank, and what becomes of a withdrawn client's requests. Assumes nothing.
 use mathlib.Core.Path.{_≡_, refl, sym, ap, subst, _∙_}
-use mathlib.Core.Bool.{Bool, true, false, _&&_, _||_}
+use mathlib.Core.Bool.{true, false, _&&_, _||_}
 use mathlib.Core.List.{List, [], _∷_}
 use Prim.Native.Nat.{ℕ}
-use borrow.Author.Tests.{ne-eqb}
 use lib.Dec.{eqb}
 use lib.ListN.{length, take}
 use Rattle.base.specs.ClientSet.{has, with}
@@ -15,7 +14,7 @@ use Rattle.base.specs.declared.party.RegisterId.{RegisterId}
 use Rattle.base.specs.declared.taking.Taking.the-variants.{Refused}
 use Rattle.base.proofs.Apart.{apart}
 use Rattle.base.proofs.Booleans.{and-true-both}
-use Rattle.base.proofs.ClientSet.{has-client, has-with, has-put, with-again}
+use Rattle.base.proofs.ClientSet.{has-with, has-put, with-again}
 use Rattle.base.proofs.Outcome.{guard-accepted}
 use Rattle.wire.specs.Acceptance.{senderOf, inItsRange, maySend, isServed}
 use Rattle.wire.specs.Checks.{oneEach, ownGenuine}
@@ -92,15 +91,7 @@ module _ (bank : Bank) (order : List ℕ) where
       → (c : ClientId) → has (next .withdrawn) c ≡ (eqb (c .0) (clientNamed order .0) || has (bank .withdrawn) c)
   order-withdraws next e c =
       let it = took next e in
-      ap (λ (left : Bank). has (left .withdrawn) c) (it .next-is) ∙ go (isClient c) refl (it .good .in-range)
-    where
-      go : (b : Bool) → isClient c ≡ b → isClient (clientNamed order) ≡ true
-          → has (with (bank .withdrawn) (clientNamed order)) c ≡ (eqb (c .0) (clientNamed order .0) || has (bank .withdrawn) c)
-      go true k named = has-with (bank .withdrawn) (clientNamed order) c k
-      go false k named =
-          let other : c .0 ≡ clientNamed order .0 → ⊥ = λ one. let is = ap (λ (n : ℕ). isClient (record { 0 = n })) one in apart (cc) in
-          has-client (with (bank .withdrawn) (clientNamed order)) c k
-          ∙ rw (ne-eqb (c .0) (clientNamed order .0) other, has-client (bank .withdrawn) c k)
+      ap (λ (left : Bank). has (left .withdrawn) c) (it .next-is) ∙ has-with (bank .withdrawn) (clientNamed order) c (it .good .in-range)
 
   -- and handed again it changes nothing.
   pub order-again : (next : Bank) → takeOrder bank order ≡ accepted next → takeOrder next order ≡ accepted next
