@@ -14,7 +14,7 @@ ghost use Rattle.protocol.specs.Order.{isSigned, ordered};
 ghost use Rattle.bank.specs.Ordering.{withdrawal};
 
 // What an order leaves: its answer, and who is withdrawn.
-pub struct Withdrawal {
+pub(super) struct Withdrawal {
     pub answer: Taking,
     pub withdrawn: ClientSet,
 }
@@ -27,7 +27,7 @@ fn is_signed(key: [u8; KEY], order: &[u8]) -> bool
 }
 
 // Who is withdrawn once an order has been handed to a replica with this key, where these were.
-pub fn withdraw(key: [u8; KEY], withdrawn: ClientSet, order: &[u8]) -> Withdrawal
+pub(super) fn withdraw(key: [u8; KEY], withdrawn: ClientSet, order: &[u8]) -> Withdrawal
     ensures { λ r. ⌜ r ≡ withdrawal withdrawn (ordered key (now (order .entry))) ⌝ }
 {
     if !is_order(order) {

@@ -3,10 +3,10 @@ use wire::layout::DIGEST;
 
 pub const KEY: usize = 56;
 
-pub const SIGNATURE: usize = 1_292;
+pub(super) const SIGNATURE: usize = 1_292;
 
 // The digest takes no more with what is hashed before it.
-pub const LONGEST_MESSAGE: usize = 4_042;
+pub(super) const LONGEST_MESSAGE: usize = 4_042;
 
 // A key has the tree's type code, the one-time type code, the identifier and the root.
 pub(super) const KEY_TREE_TYPE_AT: usize = 0;
