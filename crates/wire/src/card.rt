@@ -1,6 +1,6 @@
 // Cards: the value of the register.
 use crate::digest_words::same_hash;
-use crate::sha256::hash_message;
+use crate::sha256::hash_short;
 use base::refusal::BAD_CARD;
 ghost use mathlib.Core.Path.{_≡_};
 ghost use mathlib.Core.Option.{none};
@@ -191,6 +191,6 @@ pub fn stands_under(card: &[u8], digest: &[u8]) -> bool
     let CardCheck::Good = check(card) else {
         return false;
     };
-    let found = hash_message(card);
+    let found = hash_short(card);
     same_hash(&found, digest)
 }

@@ -30,7 +30,16 @@ fn hash_block(hash: &[u32; 8], message: &[u8], i: usize, blocks: usize) -> [u32;
     rounds::compress(hash, &mut w)
 }
 
-pub(super) fn hash_message(message: &[u8]) -> [u32; 8]
+// Of a message that is one block with its padding.
+pub(super) fn hash_short(message: &[u8]) -> [u32; 8]
+    requires { ⌜ length (now message) ≤ 55 ⌝ }
+    ensures { λ r. ⌜ r ≡ hashValue (padded (now (message .entry))) (length (padded (now (message .entry))) / 64) ⌝ }
+{
+    let start = INITIAL_HASH;
+    hash_block(&start, message, 0, 1)
+}
+
+fn hash_message(message: &[u8]) -> [u32; 8]
     requires { ⌜ length (now message) ≤ longestInput ⌝ }
     ensures { λ r. ⌜ r ≡ hashValue (padded (now (message .entry))) (length (padded (now (message .entry))) / 64) ⌝ }
 {

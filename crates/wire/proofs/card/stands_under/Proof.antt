@@ -12,8 +12,8 @@ returns c =
     let card = c .before .before .before .before .before .args .card .now in
     rw (checked-refused card (check .result) (check .ensures) _ (c .enum-told2 .given .1))
 
-hash-message-requires : tie.Need-hash-message-requires
-hash-message-requires c κs =
+hash-short-requires : tie.Need-hash-short-requires
+hash-short-requires c κs =
     let check = c .before .before .check in
     let card = c .before .before .before .before .before .args .card .now in
     let short = card-short card (checked-good card (check .result) (check .ensures) (c .enum-told .given .1)) in
@@ -26,7 +26,7 @@ returns-2 c =
     let check = d .before .before .before .check in
     let card = d .before .before .before .before .before .before .args .card .now in
     let good = checked-good card (check .result) (check .ensures) (d .before .enum-told .given .1) in
-    rw good (rw (d .hash-message .ensures) at (c .same-hash .ensures))
+    rw good (rw (d .hash-short .ensures) at (c .same-hash .ensures))
 
 pub stands-under-spec : {M : Type 1} → statement M
 stands-under-spec =
@@ -36,6 +36,6 @@ stands-under-spec =
     (λ c. search needs)
     (λ c. search needs)
     returns
-    hash-message-requires
+    hash-short-requires
     (λ c κs. search needs)
     returns-2)
