@@ -26,10 +26,33 @@ pub fn to_four(n: u32) -> [u8; 4]
     ensures { λ r. ⌜ r ≡ toBytes 4 n ⌝ }
 {
     // The number without its last byte, its last two, its last three.
+    let one = n / 256;
+    let two = one / 256;
+    let three = two / 256;
+    [
+        (three % 256) as u8,
+        (two % 256) as u8,
+        (one % 256) as u8,
+        (n % 256) as u8,
+    ]
+}
+
+pub fn to_eight(n: u64) -> [u8; 8]
+    ensures { λ r. ⌜ r ≡ toBytes 8 n ⌝ }
+{
+    // The number without its last byte, its last two, and so on.
     let n1 = n / 256;
     let n2 = n1 / 256;
     let n3 = n2 / 256;
+    let n4 = n3 / 256;
+    let n5 = n4 / 256;
+    let n6 = n5 / 256;
+    let n7 = n6 / 256;
     [
+        (n7 % 256) as u8,
+        (n6 % 256) as u8,
+        (n5 % 256) as u8,
+        (n4 % 256) as u8,
         (n3 % 256) as u8,
         (n2 % 256) as u8,
         (n1 % 256) as u8,

@@ -4,6 +4,7 @@ use crate::layout::DIGEST;
 use crate::layout::LONGEST_CARD;
 use crate::layout::SIGNATURE;
 use crate::layout::TIMESTAMP;
+use base::big_endian::to_eight;
 use base::numbers::smaller_byte;
 use base::party::RegisterId;
 use base::timestamp::Timestamp;
@@ -46,34 +47,11 @@ pub(super) fn put_head(out: &mut [u8], map: u16, kind: u8, sender: u8) -> usize
     put_bytes(out, 0, &head, 4)
 }
 
-fn nonce_bytes(nonce: u64) -> [u8; 8]
-    ensures { λ r. ⌜ r ≡ toBytes 8 nonce ⌝ }
-{
-    // The number without its last byte, its last two, and so on.
-    let n1 = nonce / 256;
-    let n2 = n1 / 256;
-    let n3 = n2 / 256;
-    let n4 = n3 / 256;
-    let n5 = n4 / 256;
-    let n6 = n5 / 256;
-    let n7 = n6 / 256;
-    [
-        (n7 % 256) as u8,
-        (n6 % 256) as u8,
-        (n5 % 256) as u8,
-        (n4 % 256) as u8,
-        (n3 % 256) as u8,
-        (n2 % 256) as u8,
-        (n1 % 256) as u8,
-        (nonce % 256) as u8,
-    ]
-}
-
 pub(super) fn put_nonce(out: &mut [u8], at: usize, nonce: u64) -> usize
     requires { ⌜ at + 8 ≤ length (now out) ⌝ }
     ensures { λ r. ⌜ Put (now (out .entry)) at (toBytes 8 nonce) 8 r (now (out .exit)) ⌝ }
 {
-    let bytes = nonce_bytes(nonce);
+    let bytes = to_eight(nonce);
     put_bytes(out, at, &bytes, 8)
 }
 

@@ -8,7 +8,7 @@ use Rattle.wire.proofs.writer.fields.put_nonce.Tie as tie
 returns : tie.Need-returns
 returns c =
     let x = c .before .before .before .before .before in
-    all-of (length-toBytes 8 (x .before .before .args .nonce)) (rw (x .nonce-bytes .ensures) at (c .before .before .put-bytes .ensures))
+    all-of (length-toBytes 8 (x .before .before .args .nonce)) (rw (x .to-eight .ensures) at (c .before .before .put-bytes .ensures))
 
 pub put-nonce-spec : {M : Type 1} → statement M
 put-nonce-spec =
