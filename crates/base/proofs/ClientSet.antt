@@ -46,6 +46,7 @@ side i e = go (ltb 64 i) refl
     go true h = let over = ltb-true 64 i h in views (above 1 64 i over) (inside 65 96 i (omega arith) (bounds 1 96 i e .1))
     go false h = let under = ltb-false 64 i h in writes (inside 1 64 i (bounds 1 96 i e .0) (omega arith)) (below 65 96 i (omega arith))
 
+-- Asked of a client, whoever is put in.
 with-client : (set : ClientSet) (x i : ClientId) → isClient i ≡ true → has (with set x) i ≡ (eqb (i .0) (x .0) || has set i)
 unfolding has with
 with-client set x i e = go (side (i .0) e)

@@ -7,11 +7,13 @@ use libc::STDOUT_FILENO;
 use text::hex::put_hex;
 use text::timestamp::put_timestamp;
 ghost use mathlib.Core.Path.{_≡_};
-ghost use lib.ListN.{length};
+ghost use lib.ListN.{length, replicate};
 
-// Four times `io::large_buffer`. A function of its own, so that no other's proof has to unfold so long an array.
+// Zeros, four times as many as `io::large_buffer` has. A function of its own, which says its length, so that no other's proof has to
+// unfold so long an array.
 pub fn huge_buffer() -> [u8; 262144]
     ensures { λ r. ⌜ 262144 ≡ length r ⌝ }
+    ensures { λ r. ⌜ r ≡ replicate 262144 0 ⌝ }
 {
     [0u8; 262144]
 }

@@ -8,7 +8,6 @@ use base::big_endian::to_eight;
 use base::numbers::smaller_byte;
 use base::party::RegisterId;
 use base::timestamp::Timestamp;
-ghost use mathlib.Core.Path.{_≡_};
 ghost use mathlib.Core.List.{[], _∷_, _++_};
 ghost use Prim.Native.Nat.{_+_, _≤_, _<_};
 ghost use lib.ListN.{length, take};
