@@ -21,7 +21,7 @@ pub const ENTRY_NOT_GENUINE: u8 = 10;
 
 pub const NOT_ISSUED: u8 = 11;
 
-pub const NOT_OWN: u8 = 12;
+// 12 refused a written proof of another client; document 02, #106, lets any client's pass.
 
 pub const NOT_SUCCESSOR: u8 = 13;
 

@@ -2,6 +2,7 @@ pub mod Answering
 pub mod Begins
 pub mod Calling
 pub mod Gathering
+pub mod HandedParts
 pub mod Parting
 pub mod Phases
 pub mod ProofPart

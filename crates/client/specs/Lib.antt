@@ -1,5 +1,6 @@
 pub mod Arrays
 pub mod Beginning
+pub mod Handing
 pub mod Leaving
 pub mod Messages
 pub mod Roles

@@ -1,6 +1,8 @@
-// The client engine: beginnings of writes and reads, and what a client makes of a message. Viewing clients have `viewer`.
+// The client engine: beginnings of writes and reads, and what a client makes of a message; `handing` has written proofs that are handed to it.
+// Viewing clients have `viewer`.
 mod answers;
 mod begin;
+pub mod handing;
 mod messages;
 mod read;
 mod record;
@@ -58,6 +60,7 @@ fn none_written() -> [Written; REGISTERS]
         timestamp: Timestamp::start(),
         entry_count: 0,
         entries: [0; ENTRIES_ROOM],
+        own: false,
     };
     [none; REGISTERS]
 }
@@ -94,7 +97,7 @@ fn set_up(setup: Setup, f: u8, id: ClientId, first_nonce: u64) -> Client
     }
 }
 
-// A client before its first operation, or refusal 16.
+// A client before its first operation, or refusal 16. One that is made again has its old number, and a nonce above all that it used.
 pub fn fresh(f: u8, id: ClientId, first_nonce: u64) -> NewClient
     ensures { λ r. ⌜ Made f id «first_nonce» r ⌝ }
 {

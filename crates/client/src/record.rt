@@ -20,7 +20,7 @@ ghost use lib.ListN.{length, replicate};
 ghost use Rattle.base.specs.Party.{registerPlace};
 ghost use Rattle.wire.specs.Parts.{Whole};
 ghost use Rattle.wire.specs.Proof.{preparedFrom, signerSet};
-ghost use Rattle.protocol.specs.Client.{withPhase, beginning, withProof, withCard, withDigest, withSignatures, withSigners, withLastWritten, writtenAt, built};
+ghost use Rattle.protocol.specs.Client.{withPhase, beginning, withProof, withCard, withDigest, withSignatures, withSigners, withWrittenFor, withLastWritten, writtenAt, built};
 ghost use Rattle.wire.specs.Layout.{cardRoom, signaturesRoom};
 ghost use Rattle.client.specs.Arrays.{Keeps};
 
@@ -142,12 +142,24 @@ pub(super) fn built(client: Client, counted: ReplicaSet) -> Built
     crate::signatures::gather(base::party::replica_count(client.f), counted, &signatures)
 }
 
+// The written proof of a register, and another one there.
+pub(super) fn written_for(client: Client, register: RegisterId) -> Written
+    ensures { λ r. ⌜ r ≡ writtenAt (registerPlace register) client ⌝ }
+{
+    let at = register_place(register);
+    client.written[at]
+}
+
+pub(super) fn with_written_for(mut client: Client, register: RegisterId, last: Written) -> Client
+    ensures { λ r. ⌜ r ≡ withWrittenFor register last client ⌝ }
+{
+    let at = register_place(register);
+    client.written[at] = last;
+    client
+}
+
 // The client's own write is finished: its WRITTENs are the last written proof of its register.
-pub(super) fn with_last_written(
-    mut client: Client,
-    timestamp: Timestamp,
-    counted: ReplicaSet,
-) -> Client
+pub(super) fn with_last_written(client: Client, timestamp: Timestamp, counted: ReplicaSet) -> Client
     ensures { λ r. ⌜ r ≡ withLastWritten timestamp (built client counted (client .signatures)) client ⌝ }
 {
     let proof = built(client, counted);
@@ -156,18 +168,8 @@ pub(super) fn with_last_written(
         timestamp: timestamp,
         entry_count: proof.count,
         entries: entries,
+        own: true,
     };
-    let own = client.register;
-    let at = register_place(own);
-    client.written[at] = last;
-    client
-}
-
-// The last written proof of the operation's register.
-pub(super) fn last_written(client: Client) -> Written
-    ensures { λ r. ⌜ r ≡ writtenAt (registerPlace (client .register)) client ⌝ }
-{
-    let own = client.register;
-    let from = register_place(own);
-    client.written[from]
+    let register = client.register;
+    with_written_for(client, register, last)
 }

@@ -8,12 +8,12 @@ use crate::answers::sent;
 use crate::answers::waits;
 use crate::read::after_write_back;
 use crate::record::built;
-use crate::record::last_written;
 use crate::record::with_digest;
 use crate::record::with_last_written;
 use crate::record::with_phase;
 use crate::record::with_signatures;
 use crate::record::with_signers;
+use crate::record::written_for;
 use crate::replies::best_of;
 use crate::replies::is_awaited;
 use crate::replies::is_awaited_prepared;
@@ -54,7 +54,7 @@ fn to_prepare(mut client: Client, best: Timestamp, out: &mut [u8]) -> Stepped
     let digest = card_digest(client);
     let best_digest = client.digest;
     let best_entries = client.entries;
-    let last = last_written(client);
+    let last = written_for(client, register);
     let last_timestamp = last.timestamp;
     let last_entries = last.entries;
     let encoded = wire::writer::write_prepare(

@@ -1,8 +1,13 @@
 // Reads messages in hex, one a line, behind `h ` where a replica is handed it and `d ` where a client is, and prints what the reader finds.
 // Behind `hF ` or `dF `, F a fault bound, verdicts follow the message, and it prints what tests 2 to 11, with 19 and 20, make of both.
+// Behind `wF ` a register in two hex digits, a written proof by itself and its verdicts follow: what 4, 20, 7 and 9 to 11 make of them.
 // Behind `l ` two messages stand, and it prints the later card.
 // Behind `s h ` or `s d ` it prints the message's signatures: how many, whose each is, and the bytes that it covers.
+// Behind `s w ` the same of a written proof by itself, its register in front of it.
+use base::bytes::same;
 use base::client_set::ClientSet;
+use base::party::RegisterId;
+use base::slices::behind;
 use base::slices::front;
 use console::print_timestamp;
 use libc::STDIN_FILENO;
@@ -12,6 +17,7 @@ use text::hex::read_word;
 use text::line::word_end;
 use wire::acceptance::Accepting;
 use wire::card_part::later_card;
+use wire::checks::ProofCheck;
 use wire::message::Fields;
 use wire::message::Party;
 use wire::message::Reading;
@@ -146,13 +152,20 @@ fn print_signer(signer: Signer) {
     }
 }
 
-fn print_signature(party: Party, bytes: &[u8], i: usize) {
-    let mut out = [0u8; 2048];
-    match wire::signatures::signature(party, bytes, i, &mut out) {
+fn print_proof_judgement(f: u8, register: u8, proof: &[u8], verdicts: &[u8]) {
+    match wire::handed_proof::accept(f, RegisterId(register), proof, verdicts) {
+        ProofCheck::Good(_) => console::print(b"accepted"),
+        ProofCheck::Refused(number) => print_refusal(number),
+    }
+    console::print(b"\n");
+}
+
+fn print_signature(signed: Signed, out: &[u8]) {
+    match signed {
         Signed::By(signer, covered) => {
             print_signer(signer);
             console::print(b" over ");
-            console::print_hex(&out[..covered]);
+            console::print_hex(front(out, covered));
         }
         Signed::Nothing => console::print(b" nothing"),
         Signed::Refused(number) => {
@@ -162,6 +175,12 @@ fn print_signature(party: Party, bytes: &[u8], i: usize) {
     }
 }
 
+fn print_signature_at(party: Party, bytes: &[u8], i: usize) {
+    let mut out = [0u8; 2048];
+    let signed = wire::signatures::signature(party, bytes, i, &mut out);
+    print_signature(signed, &out);
+}
+
 // The signatures, and that there is no further one.
 fn print_signatures(party: Party, bytes: &[u8]) {
     let count = wire::signatures::signature_count(party, bytes);
@@ -169,7 +188,25 @@ fn print_signatures(party: Party, bytes: &[u8]) {
     console::print_number(count as u64);
     let mut i = 0;
     while i <= count {
-        print_signature(party, bytes, i);
+        print_signature_at(party, bytes, i);
+        i += 1;
+    }
+    console::print(b"\n");
+}
+
+fn print_proof_signature_at(register: u8, proof: &[u8], i: usize) {
+    let mut out = [0u8; 2048];
+    let signed = wire::signatures::handed_signature(RegisterId(register), proof, i, &mut out);
+    print_signature(signed, &out);
+}
+
+fn print_proof_signatures(register: u8, proof: &[u8]) {
+    let count = wire::signatures::handed_signature_count(proof);
+    console::print(b"signatures ");
+    console::print_number(count as u64);
+    let mut i = 0;
+    while i <= count {
+        print_proof_signature_at(register, proof, i);
         i += 1;
     }
     console::print(b"\n");
@@ -196,6 +233,26 @@ fn list(party: Party, digits: &[u8]) {
     }
 }
 
+// The register in two hex digits, and a space behind them.
+fn register_in_front(words: &[u8]) -> Digit {
+    if !same(front(behind(words, 2), 1), b" ") {
+        return Digit::Nothing;
+    }
+    text::hex::hex_byte(words, 0)
+}
+
+fn list_proof(words: &[u8]) {
+    let mut bytes = [0u8; 32768];
+    let Digit::Value(register) = register_in_front(words) else {
+        unread();
+        return;
+    };
+    match read_word(behind(words, 3), &mut bytes) {
+        Length::Count(n) => print_proof_signatures(register, front(&bytes, n)),
+        Length::NoHex => unread(),
+    }
+}
+
 fn list_line(line: &[u8]) {
     if line.len() < 2 {
         unread();
@@ -208,6 +265,7 @@ fn list_line(line: &[u8]) {
     match line[0] {
         b'h' => list(Party::Replica, &line[2..]),
         b'd' => list(Party::Client, &line[2..]),
+        b'w' => list_proof(&line[2..]),
         _ => unread(),
     }
 }
@@ -234,6 +292,38 @@ fn judge_words(party: Party, f: u8, words: &[u8]) {
     if end < words.len() {
         let behind = end + 1;
         judge(party, f, &words[0..end], &words[behind..]);
+    } else {
+        unread();
+    }
+}
+
+fn judge_proof_by(f: u8, register: u8, proof: &[u8], digits: &[u8]) {
+    let mut verdicts = [0u8; 512];
+    match read_word(digits, &mut verdicts) {
+        Length::Count(n) => print_proof_judgement(f, register, proof, front(&verdicts, n)),
+        Length::NoHex => unread(),
+    }
+}
+
+fn judge_proof(f: u8, register: u8, proof: &[u8], verdicts: &[u8]) {
+    let mut bytes = [0u8; 32768];
+    match read_word(proof, &mut bytes) {
+        Length::Count(n) => judge_proof_by(f, register, front(&bytes, n), verdicts),
+        Length::NoHex => unread(),
+    }
+}
+
+// A register, and behind it a written proof and its verdicts, in hex with a space between them.
+fn judge_proof_words(f: u8, words: &[u8]) {
+    let Digit::Value(register) = register_in_front(words) else {
+        unread();
+        return;
+    };
+    let pair = behind(words, 3);
+    let end = word_end(pair, 0);
+    if end < pair.len() {
+        let second = end + 1;
+        judge_proof(f, register, &pair[0..end], &pair[second..]);
     } else {
         unread();
     }
@@ -276,6 +366,7 @@ fn judge_line(line: &[u8]) {
     match line[0] {
         b'h' => judge_words(Party::Replica, f, &line[3..]),
         b'd' => judge_words(Party::Client, f, &line[3..]),
+        b'w' => judge_proof_words(f, &line[3..]),
         _ => unread(),
     }
 }

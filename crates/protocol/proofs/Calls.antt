@@ -6,16 +6,17 @@ use Prim.Native.Nat.{ℕ, _≤_, _<_}
 use borrow.Author.Tests.{le-leb, lt-leb}
 use lib.Dec.{leb}
 use lib.ListN.{length}
-use Rattle.base.specs.Outcome.{Outcome, accepted, refused}
+use Rattle.base.specs.Outcome.{Outcome, accepted, refused, _>>=_}
 use Rattle.base.proofs.Outcome.{guard-passes, guard-refuses}
-use Rattle.base.specs.Party.{isWriter}
+use Rattle.base.specs.Party.{isWriter, clientSetup}
 use Rattle.base.specs.declared.party.ClientId.{ClientId}
 use Rattle.base.specs.declared.party.RegisterId.{RegisterId}
 use Rattle.wire.specs.Decode.{registerIn}
-use Rattle.wire.specs.Message.{longest}
+use Rattle.wire.specs.Message.{Message, longest}
 use Rattle.protocol.specs.Bank.{bankPart, placeIn, bankStep, putBack, bankCall}
-use Rattle.protocol.specs.Client.{Turn, given, ClientCall, clientAnswers, beginWrite, beginRead, clientStep, beginWriteCall, beginReadCall, clientCall}
-use Rattle.protocol.specs.Events.{ReplicaEvent, ClientEvent, request-handed, order-handed, write-begun, read-begun, reply-handed, replicaEventRegister, BankTurn, bankTurn, orderTurn, onReplicaEvent, nextBank, bankAnswer, ReplicaCall, afterRequest, afterOrder, replicaEventCall, onClientEvent, clientEventCall, nextClient, clientAnswer, givenByClient}
+use Rattle.protocol.specs.Client.{Answer, send, waits, done, ended, Turn, turn, freshClient, clientIfSetUp, given, ClientCall, clientAnswers, beginWrite, beginRead, clientStep, beginWriteCall, beginReadCall, clientCall}
+use Rattle.protocol.specs.Events.{ReplicaEvent, ClientEvent, request-handed, order-handed, write-begun, read-begun, reply-handed, made, proof-handed, replicaEventRegister, BankTurn, bankTurn, orderTurn, onReplicaEvent, nextBank, bankAnswer, ReplicaCall, afterRequest, afterOrder, replicaEventCall, handedStep, handedCall, takingTurn, afterTaking, onClientEvent, clientEventCall, nextClient, clientAnswer, givenByClient}
+use Rattle.protocol.specs.Handing.{making, takeProof, takingAnswers, handCall, makingCall}
 use Rattle.protocol.specs.Order.{takeOrder, orderAnswers, orderCall}
 use Rattle.protocol.specs.RegisterReplica.{Reply, registerAnswers, withOutput, registerStep, RegisterCall, registerCall}
 use Rattle.protocol.specs.Viewer.{viewerStep, viewerCall}
@@ -63,11 +64,8 @@ module _ (client : Client) (old : List ℕ) (long : longest ≤ length old) wher
   unfolding viewerCall
   viewer-step-takes bytes verdicts = ap (clientAnswers client old) (long-output old (viewerStep client bytes verdicts) long)
 
-  -- The call of any event does what its step says.
-  client-event-takes : (id : ClientId) (e : ClientEvent) → clientEventCall id e old client ≡ clientAnswers client old (onClientEvent id e client)
-  client-event-takes id (write-begun x card) = begin-write-takes x card
-  client-event-takes id (read-begun x) = begin-read-takes x
-  client-event-takes id (reply-handed bytes verdicts) = go (isWriter id)
+  handed-step-takes : (id : ClientId) (bytes verdicts : List ℕ) → handedCall id client bytes verdicts old ≡ clientAnswers client old (handedStep id client bytes verdicts)
+  handed-step-takes id bytes verdicts = go (isWriter id)
     where
       go : (w : Bool) → cond w (clientCall client bytes verdicts old) (viewerCall client bytes verdicts old) ≡ clientAnswers client old (cond w (clientStep client bytes verdicts) (viewerStep client bytes verdicts))
       go true = client-step-takes bytes verdicts
@@ -82,7 +80,8 @@ pub record ReplicaSays (register : RegisterId) (before : Bank) (old : List ℕ) 
 pub record ClientSays (before : Client) (old : List ℕ) (step : Outcome Turn) (made : ClientCall) : Type 0 where
   pub leaves : made .client ≡ nextClient before step
   -- What is sent is for the register of the record afterwards.
-  pub gives : (register : RegisterId) → ((turn : Turn) → step ≡ accepted turn → turn .next .register ≡ register) → givenByClient made ≡ given register old (clientAnswer step)
+  pub gives : (register : RegisterId) → ((turn : Turn) (message : Message) → step ≡ accepted turn → turn .answer ≡ send message → turn .next .register ≡ register)
+      → givenByClient made ≡ given register old (clientAnswer step)
 
 replica-says : (at : ℕ) (register : RegisterId) (before : Bank) (old : List ℕ) (step : Outcome Reply)
     → ReplicaSays register before old (bankTurn at before step) (afterRequest (putBack at before (registerAnswers register (bankPart at before) old step)))
@@ -94,9 +93,26 @@ order-says : (register : RegisterId) (before : Bank) (old : List ℕ) (step : Ou
 order-says register before old (accepted next) = record { leaves = refl; gives = refl }
 order-says register before old (refused number) = record { leaves = refl; gives = refl }
 
+answer-says : (before : Client) (old : List ℕ) (answer : Answer) (next : Client)
+    → ClientSays before old (turn answer next) (clientAnswers before old (turn answer next))
+answer-says before old (send message) next =
+    record { leaves = refl; gives = λ register is. ap (λ (r : RegisterId). given r old (accepted (send message))) (is (record { answer = send message; next = next }) message refl refl) }
+answer-says before old waits next = record { leaves = refl; gives = λ register is. refl }
+answer-says before old (done timestamp card signers) next = record { leaves = refl; gives = λ register is. refl }
+answer-says before old ended next = record { leaves = refl; gives = λ register is. refl }
+
 client-says : (before : Client) (old : List ℕ) (step : Outcome Turn) → ClientSays before old step (clientAnswers before old step)
-client-says before old (accepted turn) = record { leaves = refl; gives = λ register is. ap (λ (r : RegisterId). given r old (accepted (turn .answer))) (is turn refl) }
+client-says before old (accepted turn) = answer-says before old (turn .answer) (turn .next)
 client-says before old (refused number) = record { leaves = refl; gives = λ register is. refl }
+
+-- A proof handed over, and a client made again by the call that sets one up.
+taking-says : (before : Client) (old : List ℕ) (step : Outcome Client) → ClientSays before old (takingTurn step) (afterTaking old (takingAnswers before step))
+taking-says before old (accepted next) = record { leaves = refl; gives = λ register is. refl }
+taking-says before old (refused number) = record { leaves = refl; gives = λ register is. refl }
+
+made-same : (setup : Outcome (Unit {0})) (fresh : Client) → (setup >>= λ ready. accepted (clientIfSetUp setup fresh)) ≡ (setup >>= λ ready. accepted fresh)
+made-same (accepted ready) fresh = refl
+made-same (refused number) fresh = refl
 
 module _ (old : List ℕ) (long : longest ≤ length old) where
   pub replica-called : (e : ReplicaEvent) (before : Bank) → ReplicaSays (replicaEventRegister e) before old (onReplicaEvent e before) (replicaEventCall e old before)
@@ -107,5 +123,10 @@ module _ (old : List ℕ) (long : longest ≤ length old) where
       (sym (register-takes part bytes verdicts old long)) (replica-says (placeIn bytes) (registerIn bytes) before old (registerStep part bytes verdicts))
   replica-called (order-handed order) before = order-says (replicaEventRegister (order-handed order)) before old (takeOrder before order)
 
-  pub client-called : (id : ClientId) (e : ClientEvent) (before : Client) → ClientSays before old (onClientEvent id e before) (clientEventCall id e old before)
-  client-called id e before = rw (client-event-takes before old long id e) (client-says before old (onClientEvent id e before))
+  pub client-called : (f : ℕ) (id : ClientId) (e : ClientEvent) (before : Client) → ClientSays before old (onClientEvent f id e before) (clientEventCall f id e old before)
+  unfolding handCall makingCall
+  client-called f id (write-begun x card) before = rw (begin-write-takes before old long x card) (client-says before old (beginWrite before x card))
+  client-called f id (read-begun x) before = rw (begin-read-takes before old long x) (client-says before old (beginRead before x))
+  client-called f id (reply-handed bytes verdicts) before = rw (handed-step-takes before old long id bytes verdicts) (client-says before old (handedStep id before bytes verdicts))
+  client-called f id (made nonce) before = rw (made-same (clientSetup f id nonce) (freshClient f id nonce)) (taking-says before old (making f id nonce))
+  client-called f id (proof-handed x bytes verdicts) before = taking-says before old (takeProof before x bytes verdicts)

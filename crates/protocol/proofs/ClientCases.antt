@@ -1,6 +1,6 @@
 -- What one step of a client does, as types: its beginnings, and one case for each way in which a message is taken. Assumes nothing.
 use mathlib.Core.Path.{_≡_}
-use mathlib.Core.Bool.{true, false, cond}
+use mathlib.Core.Bool.{Bool, true, false, cond}
 use mathlib.Core.List.{List}
 use mathlib.Core.Option.{Option, some}
 use Prim.Native.Nat.{ℕ, _+_, _^_, _<_}
@@ -29,6 +29,15 @@ use Rattle.wire.specs.Parts.{preparedTimestamp, preparedSigners}
 -- The written proofs of other registers than the operation's are as they were.
 abbrev pub OthersWritten : Client → Client → Type 0
 OthersWritten before after = (at : ℕ) → (at ≡ registerPlace (before .register) → ⊥) → writtenAt at after ≡ writtenAt at before
+
+-- It gathers the WRITTENs that end a write.
+abbrev pub isWriting : Phase → Bool
+isWriting Idle = false
+isWriting (Stamps nonce best counted) = false
+isWriting (Prepareds timestamp counted) = false
+isWriting (Writtens timestamp counted) = true
+isWriting (Cards nonce best counted showed) = false
+isWriting (WriteBack timestamp counted) = false
 
 -- What an operation's beginning does: it sends the question, with the next nonce, for the register that is named.
 pub record Begun (before : Client) (register : RegisterId) (question : Message) (phase : Phase) (card : List ℕ) (turn : Turn) : Type 0 where
@@ -153,7 +162,9 @@ pub record ClientFacts (before : Client) (verdicts : List ℕ) (message : Messag
   pub same-f : turn .next .f ≡ before .f
   pub same-id : turn .next .id ≡ before .id
   pub same-register : turn .next .register ≡ before .register
+  -- A written proof changes only with a write's done, and then it is the register's own.
   pub others-written : OthersWritten before (turn .next)
+  pub written-kept : isWriting (before .phase) ≡ false → turn .next .written ≡ before .written
   pub same-nonce : turn .next .«last_nonce» ≡ before .«last_nonce»
   pub fits : ClientFits (turn .next)
   pub phase-fits : PhaseFits (turn .next .phase)

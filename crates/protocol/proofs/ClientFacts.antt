@@ -32,7 +32,7 @@ use Rattle.protocol.proofs.Fit.{ClientFits, LegalMessage}
 use Rattle.wire.proofs.Tests7To11.{Passed}
 use Rattle.protocol.proofs.ClientCases.{Begun, PhaseFits, as-read, as-view, ClientFacts}
 
-idle-phase : (phase : Phase) → isIdle phase ≡ true → phase ≡ Idle
+pub idle-phase : (phase : Phase) → isIdle phase ≡ true → phase ≡ Idle
 idle-phase Idle e = refl
 idle-phase (Stamps nonce best counted) e = apart (cc)
 idle-phase (Prepareds timestamp counted) e = apart (cc)

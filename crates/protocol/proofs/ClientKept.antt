@@ -1,5 +1,5 @@
 -- Each change of a client's record: the record still fits, and what it keeps. Assumes nothing.
-use mathlib.Core.Path.{_≡_, refl, ap, _∙_}
+use mathlib.Core.Path.{_≡_, refl, _∙_}
 use mathlib.Core.Bool.{Bool, true, false, cond}
 use mathlib.Core.List.{List}
 use mathlib.Core.Option.{Option, none, some}
@@ -10,29 +10,29 @@ use lib.Dec.{eqb, ltb}
 use lib.ListN.{length, length-set}
 use lib.Seq.{getD-set-same, getD-set-other}
 use Rattle.base.specs.BigEndian.{Bytes}
-use Rattle.base.specs.Bytes.{filled}
 use Rattle.base.specs.Party.{registerPlace}
 use Rattle.base.specs.Timestamp.{number}
 use Rattle.base.specs.declared.party.RegisterId.{RegisterId}
 use Rattle.base.specs.declared.replica_set.ReplicaSet.{ReplicaSet}
 use Rattle.base.specs.declared.timestamp.Timestamp.{Timestamp}
+use Rattle.base.proofs.Registers.{place-below}
 use Rattle.wire.specs.Message.{IsDigest, EachFits, ProofFits, IfThere}
-use Rattle.wire.specs.Proof.{Entry, PreparedProof, entriesBytes}
-use Rattle.protocol.specs.Client.{currentCard, noWritten, writtenAt, lastWritten, beginning, withPhase, withProof, withCard, withDigest, withSignatures, withSigners, withLastWritten, keepBetter, keepBetterCard}
+use Rattle.wire.specs.Proof.{Entry, PreparedProof}
+use Rattle.protocol.specs.Client.{currentCard, noWritten, writtenAt, lastWritten, beginning, keeping, withPhase, withProof, withCard, withDigest, withSignatures, withSigners, withWrittenFor, keepBetter, keepBetterCard}
 use Rattle.protocol.specs.declared.client.Client.{Client}
 use Rattle.protocol.specs.declared.client.Phase.{Phase}
 use Rattle.protocol.specs.declared.client.Written.{Written}
 use Rattle.protocol.proofs.ArrayLaws.{zeros-fit, filled-fits, card-kept, entries-filled}
-use Rattle.protocol.proofs.ClientCases.{OthersWritten, betterCard, betterSigners}
+use Rattle.protocol.proofs.ClientCases.{betterCard, betterSigners}
 use Rattle.protocol.proofs.Fit.{Array, TimestampFits, WrittenKeptFits, ClientFits}
 
--- The record still fits, of the same client in the same operation.
+-- The record still fits, of the same client in the same operation, with the same written proofs.
 pub record Kept (before after : Client) : Type 0 where
   pub same-f : after .f ≡ before .f
   pub same-id : after .id ≡ before .id
   pub same-register : after .register ≡ before .register
   pub same-nonce : after .«last_nonce» ≡ before .«last_nonce»
-  pub others-written : OthersWritten before after
+  pub same-written : after .written ≡ before .written
   pub fits : ClientFits after
 
 pub beginning-fits : (register : RegisterId) (nonce : ℕ) (phase : Phase) (card : List ℕ) (client : Client) → nonce < 2 ^ 64 → Bytes card → ClientFits client
@@ -49,16 +49,47 @@ beginning-fits register nonce phase card client small bytes fits =
       written-fit = fits .written-fit;
     }
 
+-- Another written proof of a register,
+module _ (register : RegisterId) (last : Written) (client : Client) where
+  abbrev after : Client
+  after = withWrittenFor register last client
+
+  pub there-written : length (client .written) ≡ 16 → writtenAt (registerPlace register) after ≡ last
+  there-written long = getD-set-same (client .written) (registerPlace register) last noWritten (omega (arith, place-below register))
+
+  pub elsewhere-written : (at : ℕ) → (at ≡ registerPlace register → ⊥) → writtenAt at after ≡ writtenAt at client
+  elsewhere-written at other = getD-set-other (client .written) (registerPlace register) at last noWritten other
+
+  -- which fits, leaves a record that fits.
+  pub written-fits : WrittenKeptFits last → ClientFits client → ClientFits after
+  written-fits h fits =
+      record {
+        id-fits = fits .id-fits;
+        nonce-fits = fits .nonce-fits;
+        card-fits = fits .card-fits;
+        digest-fits = fits .digest-fits;
+        entries-fit = fits .entries-fit;
+        signatures-fit = fits .signatures-fit;
+        written-long = length-set (client .written) (registerPlace register) last ∙ fits .written-long;
+        written-fit = λ at inside. each at inside (eqb at (registerPlace register)) refl;
+      }
+    where
+      each : (at : ℕ) → at < 16 → (b : Bool) → eqb at (registerPlace register) ≡ b → WrittenKeptFits (writtenAt at after)
+      each at inside true e = rw (eqb-true at (registerPlace register) e, there-written (fits .written-long)) h
+      each at inside false e = rw (elsewhere-written at (eqb-false at (registerPlace register) e)) (fits .written-fit at inside)
+
+pub keeping-fits : (own : Bool) (timestamp : Timestamp) (entries : List Entry) → TimestampFits timestamp → EachFits entries → WrittenKeptFits (keeping own timestamp entries)
+keeping-fits own timestamp entries t h = record { timestamp-fits = t; entries-fit = entries-filled entries h }
+
 module _ (before : Client) where
   pub itself-kept : ClientFits before → Kept before before
-  itself-kept fits = record { same-f = refl; same-id = refl; same-register = refl; same-nonce = refl; others-written = λ at other. refl; fits = fits }
+  itself-kept fits = record { same-f = refl; same-id = refl; same-register = refl; same-nonce = refl; same-written = refl; fits = fits }
 
   module _ (client : Client) (kept : Kept before client) where
-    -- A client with the kept numbers, whose arrays fit.
-    changed : (after : Client) → after .f ≡ client .f → after .id ≡ client .id → after .register ≡ client .register → after .«last_nonce» ≡ client .«last_nonce»
-        → Array 17 (after .card) → IsDigest (after .digest) → Array 715 (after .entries) → Array 1_024 (after .signatures)
-        → length (after .written) ≡ 16 → ((at : ℕ) → at < 16 → WrittenKeptFits (writtenAt at after)) → OthersWritten client after → Kept before after
-    changed after f id register nonce card digest entries signatures long written others =
+    -- A client with the kept numbers and written proofs, whose arrays fit.
+    changed : (after : Client) → after .f ≡ client .f → after .id ≡ client .id → after .register ≡ client .register → after .«last_nonce» ≡ client .«last_nonce» → after .written ≡ client .written
+        → Array 17 (after .card) → IsDigest (after .digest) → Array 715 (after .entries) → Array 1_024 (after .signatures) → Kept before after
+    changed after f id register nonce written card digest entries signatures =
         let before-id : after .id ≡ before .id = cc in
         let before-register : after .register ≡ before .register = cc in
         let before-nonce : after .«last_nonce» ≡ before .«last_nonce» = cc in
@@ -67,7 +98,7 @@ module _ (before : Client) where
           same-id = before-id;
           same-register = before-register;
           same-nonce = before-nonce;
-          others-written = λ at other. others at (λ e. other (e ∙ ap registerPlace (kept .same-register))) ∙ kept .others-written at other;
+          same-written = written ∙ kept .same-written;
           fits =
               record {
                 id-fits = rw id (kept .fits .id-fits);
@@ -76,55 +107,30 @@ module _ (before : Client) where
                 digest-fits = digest;
                 entries-fit = entries;
                 signatures-fit = signatures;
-                written-long = long;
-                written-fit = written;
+                written-long = rw written (kept .fits .written-long);
+                written-fit = rw written (kept .fits .written-fit);
               };
         }
 
-    open ClientFits (kept .fits) using (card-fits, digest-fits, entries-fit, signatures-fit, written-long, written-fit)
-
-    -- No written proof changed.
-    same-written : OthersWritten client client
-    same-written at other = refl
+    open ClientFits (kept .fits) using (card-fits, digest-fits, entries-fit, signatures-fit)
 
     pub phase-kept : (phase : Phase) → Kept before (withPhase phase client)
-    phase-kept phase = changed (withPhase phase client) refl refl refl refl card-fits digest-fits entries-fit signatures-fit written-long written-fit same-written
+    phase-kept phase = changed (withPhase phase client) refl refl refl refl refl card-fits digest-fits entries-fit signatures-fit
 
     pub proof-kept : (proof : PreparedProof) → ProofFits proof → Kept before (withProof proof client)
-    proof-kept proof h = changed (withProof proof client) refl refl refl refl card-fits (h .1) (entries-filled (proof .entries) (h .2 .1)) signatures-fit written-long written-fit same-written
+    proof-kept proof h = changed (withProof proof client) refl refl refl refl refl card-fits (h .1) (entries-filled (proof .entries) (h .2 .1)) signatures-fit
 
     pub card-changed : (card : List ℕ) → Bytes card → Kept before (withCard card client)
-    card-changed card h = changed (withCard card client) refl refl refl refl (filled-fits 17 card h) digest-fits entries-fit signatures-fit written-long written-fit same-written
+    card-changed card h = changed (withCard card client) refl refl refl refl refl (filled-fits 17 card h) digest-fits entries-fit signatures-fit
 
     pub digest-changed : (digest : List ℕ) → IsDigest digest → Kept before (withDigest digest client)
-    digest-changed digest h = changed (withDigest digest client) refl refl refl refl card-fits h (zeros-fit 715) signatures-fit written-long written-fit same-written
+    digest-changed digest h = changed (withDigest digest client) refl refl refl refl refl card-fits h (zeros-fit 715) signatures-fit
 
     pub signatures-changed : (signatures : List ℕ) → Array 1_024 signatures → Kept before (withSignatures signatures client)
-    signatures-changed signatures h = changed (withSignatures signatures client) refl refl refl refl card-fits digest-fits entries-fit h written-long written-fit same-written
+    signatures-changed signatures h = changed (withSignatures signatures client) refl refl refl refl refl card-fits digest-fits entries-fit h
 
     pub signers-changed : (signers : ReplicaSet) → Kept before (withSigners signers client)
-    signers-changed signers = changed (withSigners signers client) refl refl refl refl card-fits digest-fits entries-fit signatures-fit written-long written-fit same-written
-
-    module _ (timestamp : Timestamp) (entries : List Entry) where
-      abbrev place : ℕ
-      place = registerPlace (client .register)
-
-      abbrev new : Written
-      new = record { timestamp = timestamp; «entry_count» = length entries; entries = filled 715 (entriesBytes entries) }
-
-      written-new-fit : TimestampFits timestamp → EachFits entries → (at : ℕ) → at < 16 → WrittenKeptFits (writtenAt at (withLastWritten timestamp entries client))
-      written-new-fit t h at inside = go (eqb at place) refl
-        where
-          go : (b : Bool) → eqb at place ≡ b → WrittenKeptFits (writtenAt at (withLastWritten timestamp entries client))
-          go true e =
-              let here = eqb-true at place e in
-              rw (here, getD-set-same (client .written) place new noWritten (omega (arith, written-long))) (record { timestamp-fits = t; entries-fit = entries-filled entries h })
-          go false e = rw (getD-set-other (client .written) place at new noWritten (eqb-false at place e)) (written-fit at inside)
-
-      pub written-changed : TimestampFits timestamp → EachFits entries → Kept before (withLastWritten timestamp entries client)
-      written-changed t h =
-          changed (withLastWritten timestamp entries client) refl refl refl refl card-fits digest-fits entries-fit signatures-fit
-          (length-set (client .written) place new ∙ written-long) (written-new-fit t h) (λ at other. getD-set-other (client .written) place at new noWritten other)
+    signers-changed signers = changed (withSigners signers client) refl refl refl refl refl card-fits digest-fits entries-fit signatures-fit
 
   -- The record after a reply: the better proof's signers, this card, and the last written proof as it was.
   pub record Best (best : Timestamp) (proof : Option PreparedProof) (card : List ℕ) (after : Client) : Type 0 where

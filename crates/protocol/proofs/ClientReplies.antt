@@ -7,7 +7,7 @@ use Prim.Native.Nat.{ℕ, _≤_}
 use native.Mathlib.Omega.{arith}
 use borrow.Author.Tests.{eqb-true, not-true}
 use lib.Dec.{eqb}
-use lib.ListN.{length, replicate}
+use lib.ListN.{length, getD, replicate}
 use Rattle.base.specs.BigEndian.{Bytes}
 use Rattle.base.specs.Party.{isReplica, replicaCount}
 use Rattle.base.specs.ReplicaSet.{empty, has, with, isQuorum}
@@ -17,6 +17,7 @@ use Rattle.base.specs.declared.party.ClientId.{ClientId}
 use Rattle.base.specs.declared.party.ReplicaId.{ReplicaId}
 use Rattle.base.specs.declared.replica_set.ReplicaSet.{ReplicaSet}
 use Rattle.base.specs.declared.timestamp.Timestamp.{Timestamp}
+use Rattle.base.proofs.Apart.{apart}
 use Rattle.base.proofs.Booleans.{and-true-both}
 use Rattle.base.proofs.Range.{bounds}
 use Rattle.base.proofs.Registers.{place-below}
@@ -24,7 +25,7 @@ use Rattle.base.proofs.Same.{same-equal}
 use Rattle.wire.specs.Message.{Message, PREPARE, WRITE, STAMP, PREPARED, WRITTEN, CARD, IsSignature, ProofFits, IfThere, Fits, size, proofSize}
 use Rattle.wire.specs.Proof.{PreparedProof, signerSet}
 use Rattle.wire.specs.Sha256.{sha256}
-use Rattle.protocol.specs.Client.{done, Turn, currentCard, bestProof, writtenAt, writtenRecord, writtenKept, lastWritten, built, withSignature, withSignatures, withSigners, withPhase, withDigest, withLastWritten, enough, isNew, bestOf, showedBy, toPrepare, afterStamp, onStamp, afterPrepared, onPrepared, afterWritten, afterWriteBack, onWritten, AfterCards, afterCard, countCard, onCard}
+use Rattle.protocol.specs.Client.{done, Turn, currentCard, bestProof, noWritten, writtenAt, writtenRecord, writtenKept, lastWritten, built, withSignature, withSignatures, withSigners, withPhase, withDigest, keeping, withWrittenFor, enough, isNew, bestOf, showedBy, toPrepare, afterStamp, onStamp, afterPrepared, onPrepared, afterWritten, afterWriteBack, onWritten, AfterCards, afterCard, countCard, onCard}
 use Rattle.protocol.specs.Viewer.{afterView}
 use Rattle.protocol.specs.Parts.{startCard, ifIssued, cardStands}
 use Rattle.protocol.specs.declared.client.Client.{Client}
@@ -37,7 +38,7 @@ use Rattle.protocol.proofs.Built.{built as built-shape}
 use Rattle.wire.proofs.card.Digests.{standing-under-short}
 use Rattle.protocol.proofs.ClientArrays.{signature-put, built-fit, built-few, number-fits, best-fits, successor-fits}
 use Rattle.protocol.proofs.ClientCases.{Leaves, SameCard, NewFrom, betterCard, ClientCase, stamp-counted, stamps-enough, stamps-ended, prepared-counted, prepareds-enough, written-counted, writtens-enough, card-counted, cards-agree, cards-viewed, cards-differ, back-counted, back-enough, LegalAnswer, PhaseFits, Follows, as-read, as-view, ClientFacts}
-use Rattle.protocol.proofs.ClientKept.{Kept, itself-kept, phase-kept, digest-changed, signatures-changed, signers-changed, written-changed, Best, better-kept, better-card-kept}
+use Rattle.protocol.proofs.ClientKept.{Kept, elsewhere-written, written-fits, keeping-fits, itself-kept, phase-kept, digest-changed, signatures-changed, signers-changed, Best, better-kept, better-card-kept}
 use Rattle.protocol.proofs.Fit.{Array, TimestampFits, WrittenKeptFits, ClientFits, LegalMessage}
 use Rattle.wire.proofs.Tests7To11.{Passed}
 use Rattle.wire.proofs.DigestBytes.{digest-fits}
@@ -115,7 +116,8 @@ module _ (before : Client) (verdicts : List ℕ) (message : Message) (passed : P
         same-f = kept .same-f;
         same-id = kept .same-id;
         same-register = kept .same-register;
-        others-written = kept .others-written;
+        others-written = λ at other. ap (λ (written : List Written). getD written at noWritten) (kept .same-written);
+        written-kept = λ quiet. kept .same-written;
         same-nonce = kept .same-nonce;
         fits = kept .fits;
         phase-fits = phase-fits;
@@ -187,10 +189,22 @@ module _ (before : Client) (verdicts : List ℕ) (message : Message) (passed : P
         let replicas = with counted sender in
         let entries-fit = built-fit (replicaCount (before .f)) replicas signatures (omega arith) signatures-fit in
         by-cases (enough before replicas)
-        (λ quorum. by-value (took _
-        (phase-kept before (withLastWritten timestamp (built before replicas signatures) (withSignatures signatures before))
-        (written-changed before (withSignatures signatures before) signed-kept timestamp (built before replicas signatures) timestamp-fits entries-fit) Idle)
-        tt tt (writtens-enough sender timestamp counted is-message at new quorum leaves)))
+        (λ quorum.
+        let own = keeping true timestamp (built before replicas signatures) in
+        let ended = withWrittenFor (before .register) own (withSignatures signatures before) in
+        by-value (record {
+          same-f = refl;
+          same-id = refl;
+          same-register = refl;
+          others-written = elsewhere-written (before .register) own (withSignatures signatures before);
+          written-kept = λ quiet. apart (cc);
+          same-nonce = refl;
+          fits = phase-kept ended ended (itself-kept ended (written-fits (before .register) own (withSignatures signatures before) (keeping-fits true timestamp (built before replicas signatures) timestamp-fits entries-fit) (signed-kept .fits))) Idle .fits;
+          phase-fits = tt;
+          legal = tt;
+          passed = passed;
+          case = writtens-enough sender timestamp counted is-message at new quorum leaves;
+        }))
         (λ less. by-value (took _ (phase-kept before (withSignatures signatures before) signed-kept (Writtens timestamp replicas)) timestamp-fits tt
         (written-counted sender timestamp counted is-message at new unchanged leaves)))
 

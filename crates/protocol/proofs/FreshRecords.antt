@@ -1,5 +1,6 @@
 -- Fresh records fit. Assumes nothing.
 use mathlib.Core.Path.{sym, subst}
+use mathlib.Core.Bool.{false}
 use Prim.Native.Nat.{ℕ, _^_, _<_}
 use native.Mathlib.Omega.{arith}
 use lib.ListN.{getD, replicate, length-replicate, getD-replicate}
@@ -32,7 +33,7 @@ pub fresh-replica-fits : (f : ℕ) (id : ReplicaId) → id .0 < 256 → Register
 fresh-replica-fits f id low = record { id-fits = low; slots-fit = fresh-slots-fit; held-fits = fresh-held-fits }
 
 abbrev unwritten : Written
-unwritten = record { timestamp = start; «entry_count» = 0; entries = replicate 715 0 }
+unwritten = record { timestamp = start; «entry_count» = 0; entries = replicate 715 0; own = false }
 
 pub fresh-client-fits : (f : ℕ) (id : ClientId) (nonce : ℕ) → id .0 < 256 → nonce < 2 ^ 64 → ClientFits (freshClient f id nonce)
 fresh-client-fits f id nonce low small = record {

@@ -11,6 +11,7 @@ pub mod ClientReplies
 pub mod Examples
 pub mod Fit
 pub mod FreshRecords
+pub mod Handing
 pub mod LastWritten
 pub mod MessageBytes
 pub mod OperationMessages

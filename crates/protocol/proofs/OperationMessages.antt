@@ -1,5 +1,5 @@
 -- An operation's messages: a read sends at most two, a write at most three, a view one. Assumes nothing.
-use mathlib.Core.Path.{_≡_, refl}
+use mathlib.Core.Path.{_≡_, refl, ap}
 use mathlib.Core.Bool.{Bool, true, false, cond}
 use mathlib.Core.List.{List, [], _∷_}
 use mathlib.Core.Option.{Option, none, some}
@@ -7,8 +7,8 @@ use Prim.Native.Nat.{ℕ, _+_, _≤_}
 use native.Mathlib.Omega.{arith}
 use borrow.Author.Tests.{leb-true}
 use lib.Dec.{leb}
-use Rattle.base.specs.Outcome.{Outcome, accepted, refused}
-use Rattle.base.specs.Party.{isWriter}
+use Rattle.base.specs.Outcome.{Outcome, accepted, refused, guard, _>>=_}
+use Rattle.base.specs.Party.{isWriter, clientSetup}
 use Rattle.base.specs.ReplicaSet.{with}
 use Rattle.base.specs.declared.party.ClientId.{ClientId}
 use Rattle.base.specs.declared.party.RegisterId.{RegisterId}
@@ -16,12 +16,14 @@ use Rattle.base.specs.declared.party.ReplicaId.{ReplicaId}
 use Rattle.base.specs.declared.replica_set.ReplicaSet.{ReplicaSet}
 use Rattle.base.specs.declared.timestamp.Timestamp.{Timestamp}
 use Rattle.base.proofs.Outcome.{guard-accepted}
+use Rattle.wire.specs.HandedProof.{admittedProof}
 use Rattle.wire.specs.Layout.{signature}
 use Rattle.wire.specs.Message.{Message, READ-STAMP, PREPARE, WRITE, READ, STAMP, PREPARED, WRITTEN, CARD}
-use Rattle.wire.specs.Proof.{PreparedProof}
+use Rattle.wire.specs.Proof.{PreparedProof, WrittenProof}
 use Rattle.wire.specs.Writing.{roomy}
-use Rattle.protocol.specs.Client.{Answer, send, waits, done, ended, Turn, given, clientAnswers, enough, keepBetterCard, beginWrite, beginRead, toPrepare, afterStamp, onStamp, afterPrepared, onPrepared, afterWritten, afterWriteBack, onWritten, afterCard, countCard, onCard, onReply, clientStep, beginWriteCall, beginReadCall, clientCall}
-use Rattle.protocol.specs.Events.{write-begun, read-begun, reply-handed}
+use Rattle.protocol.specs.Client.{Answer, send, waits, done, ended, Turn, madeClient, given, clientAnswers, enough, keepBetterCard, beginWrite, beginRead, toPrepare, afterStamp, onStamp, afterPrepared, onPrepared, afterWritten, afterWriteBack, onWritten, afterCard, countCard, onCard, onReply, clientStep, beginWriteCall, beginReadCall, clientCall}
+use Rattle.protocol.specs.Events.{write-begun, read-begun, reply-handed, made, proof-handed, takingAnswer, afterTaking}
+use Rattle.protocol.specs.Handing.{withHanded, mayTake, takeProof, takingAnswers, handCall, makingCall}
 use Rattle.protocol.specs.Viewer.{afterView, onViewerReply, viewerStep, viewerCall}
 use Rattle.protocol.specs.OperationMessages.{Call, sentBy, unlessBegun, sentAfter, sentIn, OperationMessages}
 use Rattle.protocol.specs.RegisterReplica.{withOutput}
@@ -187,27 +189,52 @@ module _ (client : Client) (old : List ℕ) (most : ℕ) where
       go (refused number) h = omega arith
 
   -- A beginning that is refused leaves the record, and so what may follow.
-  begins-again : (id : ClientId) (out : Outcome Turn) (calls : List Call) → sentAfter id client calls ≤ most
-      → unlessBegun (clientAnswers client old out .answer) (sentAfter id (clientAnswers client old out .client) calls) ≤ most
-  begins-again id (accepted turn) calls h = go (turn .answer) (turn .next)
+  begins-again : (f : ℕ) (id : ClientId) (out : Outcome Turn) (calls : List Call) → sentAfter f id client calls ≤ most
+      → unlessBegun (clientAnswers client old out .answer) (sentAfter f id (clientAnswers client old out .client) calls) ≤ most
+  begins-again f id (accepted turn) calls h = go (turn .answer) (turn .next)
     where
-      go : (answer : Answer) (next : Client) → unlessBegun (given (next .register) old (accepted answer) .answer) (sentAfter id next calls) ≤ most
+      go : (answer : Answer) (next : Client) → unlessBegun (given (next .register) old (accepted answer) .answer) (sentAfter f id next calls) ≤ most
       go (send message) next = omega arith
       go waits next = omega arith
       go (done timestamp card signers) next = omega arith
       go ended next = omega arith
-  begins-again id (refused number) calls h = h
+  begins-again f id (refused number) calls h = h
+
+  -- So does a making; and a proof that is handed over sends nothing, and leaves the phase.
+  makes-again : (f : ℕ) (id : ClientId) (out : Outcome Client) (calls : List Call) → sentAfter f id client calls ≤ most
+      → unlessBegun (afterTaking old (takingAnswers client out) .answer) (sentAfter f id (afterTaking old (takingAnswers client out) .client) calls) ≤ most
+  makes-again f id (accepted next) calls h = omega arith
+  makes-again f id (refused number) calls h = h
+
+  takes-quietly : (register : RegisterId) (bytes verdicts : List ℕ)
+      → (sentBy (afterTaking old (handCall client register bytes verdicts) .answer) ≡ 0) × (afterTaking old (handCall client register bytes verdicts) .client .phase ≡ client .phase)
+  unfolding handCall takeProof guard
+  takes-quietly register bytes verdicts = go (admittedProof (client .f) register bytes verdicts)
+    where
+      taken : (b : Bool) (proof : WrittenProof) → (sentBy (takingAnswer (takingAnswers client (guard 17 b (accepted (withHanded register proof client))) .answer)) ≡ 0)
+          × (takingAnswers client (guard 17 b (accepted (withHanded register proof client))) .client .phase ≡ client .phase)
+      taken true proof = (refl, refl)
+      taken false proof = (refl, refl)
+
+      go : (o : Outcome WrittenProof) → (sentBy (takingAnswer (takingAnswers client (o >>= λ proof. guard 17 (mayTake register client) (accepted (withHanded register proof client))) .answer)) ≡ 0)
+          × (takingAnswers client (o >>= λ proof. guard 17 (mayTake register client) (accepted (withHanded register proof client))) .client .phase ≡ client .phase)
+      go (accepted proof) = taken (mayTake register client) proof
+      go (refused number) = (refl, refl)
+
+-- The record of a making, or its refusal.
+abbrev madeOrNot : ℕ → ClientId → ℕ → Outcome Client
+madeOrNot f id nonce = clientSetup f id nonce >>= λ ready. accepted (madeClient f id nonce)
 
 -- ---- All calls of an operation
 
-module _ (id : ClientId) (writer : isWriter id ≡ true) where
-  after-sends : (client : Client) (calls : List Call) → sentAfter id client calls ≤ remaining (client .phase)
-  unfolding sentAfter beginWriteCall beginReadCall clientCall
+module _ (f : ℕ) (id : ClientId) (writer : isWriter id ≡ true) where
+  after-sends : (client : Client) (calls : List Call) → sentAfter f id client calls ≤ remaining (client .phase)
+  unfolding sentAfter beginWriteCall beginReadCall clientCall makingCall
   after-sends client [] = omega arith
   after-sends client ((write-begun register card, old) ∷ calls) =
-      begins-again client old (remaining (client .phase)) id (withOutput old (beginWrite client register card)) calls (after-sends client calls)
+      begins-again client old (remaining (client .phase)) f id (withOutput old (beginWrite client register card)) calls (after-sends client calls)
   after-sends client ((read-begun register, old) ∷ calls) =
-      begins-again client old (remaining (client .phase)) id (withOutput old (beginRead client register)) calls (after-sends client calls)
+      begins-again client old (remaining (client .phase)) f id (withOutput old (beginRead client register)) calls (after-sends client calls)
   after-sends client ((reply-handed bytes verdicts, old) ∷ calls) =
       let step = clientStep client bytes verdicts in
       rw writer
@@ -216,8 +243,13 @@ module _ (id : ClientId) (writer : isWriter id ≡ true) where
         call-sends client old (remaining (client .phase)) step (omega arith) (step-sends client bytes verdicts),
         after-sends (clientAnswers client old (withOutput old step) .client) calls,
       ))
+  after-sends client ((made nonce, old) ∷ calls) = makes-again client old (remaining (client .phase)) f id (madeOrNot f id nonce) calls (after-sends client calls)
+  after-sends client ((proof-handed register bytes verdicts, old) ∷ calls) =
+      let quiet = takes-quietly client old 0 register bytes verdicts in
+      let same : remaining (afterTaking old (handCall client register bytes verdicts) .client .phase) ≡ remaining (client .phase) = ap remaining (quiet .1) in
+      omega (arith, quiet .0, after-sends (afterTaking old (handCall client register bytes verdicts) .client) calls)
 
-  write-sends : (client : Client) (register : RegisterId) (card old : List ℕ) (calls : List Call) → sentIn id (beginWriteCall client register card old) calls ≤ 3
+  write-sends : (client : Client) (register : RegisterId) (card old : List ℕ) (calls : List Call) → sentIn f id (beginWriteCall client register card old) calls ≤ 3
   unfolding beginWriteCall
   write-sends client register card old calls =
       let low = phase-low (client .phase) in
@@ -227,7 +259,7 @@ module _ (id : ClientId) (writer : isWriter id ≡ true) where
         after-sends (clientAnswers client old (withOutput old (beginWrite client register card)) .client) calls,
       )
 
-  read-sends : (client : Client) (register : RegisterId) (old : List ℕ) (calls : List Call) → sentIn id (beginReadCall client register old) calls ≤ 2
+  read-sends : (client : Client) (register : RegisterId) (old : List ℕ) (calls : List Call) → sentIn f id (beginReadCall client register old) calls ≤ 2
   unfolding beginReadCall
   read-sends client register old calls =
       omega (
@@ -279,17 +311,20 @@ handed-quiet client bytes verdicts old = go (withOutput old (viewerStep client b
         let taken = viewer-takes client bytes verdicts turn (guard-accepted 1 (roomy old) (viewerStep client bytes verdicts) turn e .1) in
         answers (turn .answer) (turn .next) (reply-quiet client (taken .0) .holds turn (taken .2) .sends-none)
 
-module _ (id : ClientId) (viewer : isWriter id ≡ false) where
-  after-view : (client : Client) (calls : List Call) → sentAfter id client calls ≤ 0
-  unfolding sentAfter beginWriteCall beginReadCall
+module _ (f : ℕ) (id : ClientId) (viewer : isWriter id ≡ false) where
+  after-view : (client : Client) (calls : List Call) → sentAfter f id client calls ≤ 0
+  unfolding sentAfter beginWriteCall beginReadCall makingCall
   after-view client [] = omega arith
-  after-view client ((write-begun register card, old) ∷ calls) = begins-again client old 0 id (withOutput old (beginWrite client register card)) calls (after-view client calls)
-  after-view client ((read-begun register, old) ∷ calls) = begins-again client old 0 id (withOutput old (beginRead client register)) calls (after-view client calls)
+  after-view client ((write-begun register card, old) ∷ calls) = begins-again client old 0 f id (withOutput old (beginWrite client register card)) calls (after-view client calls)
+  after-view client ((read-begun register, old) ∷ calls) = begins-again client old 0 f id (withOutput old (beginRead client register)) calls (after-view client calls)
   after-view client ((reply-handed bytes verdicts, old) ∷ calls) =
       rw viewer (omega (arith, handed-quiet client bytes verdicts old, after-view (viewerCall client bytes verdicts old .client) calls))
+  after-view client ((made nonce, old) ∷ calls) = makes-again client old 0 f id (madeOrNot f id nonce) calls (after-view client calls)
+  after-view client ((proof-handed register bytes verdicts, old) ∷ calls) =
+      omega (arith, takes-quietly client old 0 register bytes verdicts .0, after-view (afterTaking old (handCall client register bytes verdicts) .client) calls)
 
   view-sends : (client : Client) (register : RegisterId) (old : List ℕ) (n : ℕ) (calls : List Call) → beginReadCall client register old .answer ≡ Send n
-      → sentIn id (beginReadCall client register old) calls ≡ 1
+      → sentIn f id (beginReadCall client register old) calls ≡ 1
   view-sends client register old n calls e = let none = after-view (beginReadCall client register old .client) calls in rw e (omega arith)
 
 pub operation-messages : OperationMessages

@@ -35,7 +35,7 @@ use Rattle.protocol.proofs.ArrayLaws.{replaced-length, replaced-bytes, 
 use Rattle.protocol.proofs.Accepts.{Accepts, by-test, by-value, by-refusal, by-guard, by-next}
 use Rattle.protocol.proofs.Fit.{SlotsFit, HeldFits, RegisterReplicaFits, LegalMessage}
 use Rattle.wire.proofs.Tests7To11.{Passed}
-use Rattle.wire.specs.Parts.{preparedTimestamp, preparedSigners}
+use Rattle.wire.specs.Parts.{preparedTimestamp, preparedSigners, timestampIfThere}
 
 -- The client of a timestamp's number.
 abbrev pub clientOf : ℕ → ClientId
@@ -255,32 +255,22 @@ module _ (before : RegisterReplica) (verdicts : List ℕ) (client : ClientId) (c
 -- ---- PREPARE
 
 -- The written timestamp with a proof shown: the larger one.
-module _ (last : Option WrittenProof) (slots : Slots) where
-  pub raised-rises : number (slots .written) ≤ raised last slots
-  raised-rises = go last
-    where
-      go : (last : Option WrittenProof) → number (slots .written) ≤ raised last slots
-      go none = omega arith
-      go (some proof) = omega arith
+pub raised-rises : (last : ℕ) (slots : Slots) → number (slots .written) ≤ raised last slots
+raised-rises last slots = omega arith
 
-  raised-fits : SlotsFit slots → IfThere ProofFits last → raised last slots < 2 ^ 40
-  raised-fits fits h = go last h
-    where
-      go : (last : Option WrittenProof) → IfThere ProofFits last → raised last slots < 2 ^ 40
-      go none h = let old = fits .written-fits in omega arith
-      go (some proof) h = let old = fits .written-fits in omega arith
+raised-fits : (last : Option WrittenProof) (slots : Slots) → SlotsFit slots → IfThere ProofFits last → raised (timestampIfThere last) slots < 2 ^ 40
+raised-fits none slots fits h = let old = fits .written-fits in omega arith
+raised-fits (some proof) slots fits h = let old = fits .written-fits in omega arith
 
-  raised-shown : (raised last slots ≡ number (slots .written)) ⊎ ((shown : WrittenProof) × (last ≡ some shown) × (raised last slots ≡ shown .timestamp))
-  raised-shown = go last
-    where
-      go : (last : Option WrittenProof) → (raised last slots ≡ number (slots .written)) ⊎ ((shown : WrittenProof) × (last ≡ some shown) × (raised last slots ≡ shown .timestamp))
-      go none = inl refl
-      go (some proof) = larger (ltb (number (slots .written)) (proof .timestamp)) refl
-        where
-          larger : (b : Bool) → ltb (number (slots .written)) (proof .timestamp) ≡ b
-              → (raised (some proof) slots ≡ number (slots .written)) ⊎ ((shown : WrittenProof) × (some proof ≡ some shown) × (raised (some proof) slots ≡ shown .timestamp))
-          larger true e = let l = ltb-true (number (slots .written)) (proof .timestamp) e in inr (proof, refl, omega arith)
-          larger false e = let l = ltb-false (number (slots .written)) (proof .timestamp) e in inl (omega arith)
+raised-shown : (last : Option WrittenProof) (slots : Slots)
+    → (raised (timestampIfThere last) slots ≡ number (slots .written)) ⊎ ((shown : WrittenProof) × (last ≡ some shown) × (raised (timestampIfThere last) slots ≡ shown .timestamp))
+raised-shown none slots = inl (omega arith)
+raised-shown (some proof) slots = larger (ltb (number (slots .written)) (proof .timestamp)) refl
+  where
+    larger : (b : Bool) → ltb (number (slots .written)) (proof .timestamp) ≡ b
+        → (raised (proof .timestamp) slots ≡ number (slots .written)) ⊎ ((shown : WrittenProof) × (some proof ≡ some shown) × (raised (proof .timestamp) slots ≡ shown .timestamp))
+    larger true e = let l = ltb-true (number (slots .written)) (proof .timestamp) e in inr (proof, refl, omega arith)
+    larger false e = let l = ltb-false (number (slots .written)) (proof .timestamp) e in inl (omega arith)
 
 written-new-fits : (written : ℕ) (slots : Slots) → SlotsFit slots → written < 2 ^ 40 → SlotsFit (withWritten written slots)
 written-new-fits written slots fits h =
@@ -386,7 +376,7 @@ module _ (before : RegisterReplica) (verdicts : List ℕ) (client : ClientId) (t
   abbrev After : Slots → Type 0
   After after = RegisterFacts before verdicts (PREPARE client timestamp digest proof last) (record { message = PREPARED (before .id) timestamp digest; next = withSlots before after })
 
-  prepared : (after : Slots) → SlotsFit after → number (after .written) ≡ raised last (before .register .slots)
+  prepared : (after : Slots) → SlotsFit after → number (after .written) ≡ raised (timestampIfThere last) (before .register .slots)
       → ((c : ClientId) → 1 ≤ c .0 → c .0 ≤ 64 → SlotRises (before .register .slots) after c)
       → slotCount after client ≡ timestamp / 256 → slotDigest after client ≡ digest
       → ((c : ClientId) → 1 ≤ c .0 → c .0 ≤ 64 → SlotChange (before .register .slots) after (PREPARE client timestamp digest proof last) c) → After after
@@ -415,37 +405,37 @@ module _ (before : RegisterReplica) (verdicts : List ℕ) (client : ClientId) (t
         written-sent = λ id t e. apart (cc);
         stamp-sent = λ id asked shown c e. apart (cc);
         card-sent = λ id asked card shown c e. apart (cc);
-        written-rises = omega (arith, raised-rises last (before .register .slots));
+        written-rises = omega (arith, raised-rises (timestampIfThere last) (before .register .slots));
         written-shown = rw written (raised-shown last (before .register .slots));
         slot-change = change;
       }
 
-  written-fits : raised last (before .register .slots) < 2 ^ 40
+  written-fits : raised (timestampIfThere last) (before .register .slots) < 2 ^ 40
   unfolding Fits
   written-fits = raised-fits last (before .register .slots) (fits .slots-fit) (message-fits .4)
 
   -- The slot has timestamp and digest already.
-  prepared-again : slotIs client timestamp digest (before .register .slots) ≡ true → After (withWritten (raised last (before .register .slots)) (before .register .slots))
+  prepared-again : slotIs client timestamp digest (before .register .slots) ≡ true → After (withWritten (raised (timestampIfThere last) (before .register .slots)) (before .register .slots))
   prepared-again e =
       let both = and-true-both (eqb (slotTimestamp (before .register .slots) client) timestamp) (same (slotDigest (before .register .slots) client) digest) e in
       let stands = eqb-true (slotTimestamp (before .register .slots) client) timestamp (both .0) in
       let high = sender-high in
-      prepared (withWritten (raised last (before .register .slots)) (before .register .slots))
-      (written-new-fits (raised last (before .register .slots)) (before .register .slots) (fits .slots-fit) written-fits)
+      prepared (withWritten (raised (timestampIfThere last) (before .register .slots)) (before .register .slots))
+      (written-new-fits (raised (timestampIfThere last) (before .register .slots)) (before .register .slots) (fits .slots-fit) written-fits)
       (omega arith) (λ c l h. inl (refl, refl)) (omega arith) (same-equal (slotDigest (before .register .slots) client) digest (both .1)) (λ c l h. inl refl)
 
   -- The slot takes them.
-  module _ (takes : slotTakes client timestamp (raised last (before .register .slots)) (before .register .slots) ≡ true) where
+  module _ (takes : slotTakes client timestamp (raised (timestampIfThere last) (before .register .slots)) (before .register .slots) ≡ true) where
     after-put : Slots
-    after-put = withWritten (raised last (before .register .slots)) (withSlot client timestamp digest (before .register .slots))
+    after-put = withWritten (raised (timestampIfThere last) (before .register .slots)) (withSlot client timestamp digest (before .register .slots))
 
     is-digest : IsDigest digest
     unfolding Fits
     is-digest = message-fits .2
 
     cases : (slotCount (before .register .slots) client ≡ 0)
-        ⊎ ((slotTimestamp (before .register .slots) client ≤ raised last (before .register .slots)) × (slotTimestamp (before .register .slots) client < timestamp))
-    cases = takes-cases client timestamp (raised last (before .register .slots)) (before .register .slots) takes
+        ⊎ ((slotTimestamp (before .register .slots) client ≤ raised (timestampIfThere last) (before .register .slots)) × (slotTimestamp (before .register .slots) client < timestamp))
+    cases = takes-cases client timestamp (raised (timestampIfThere last) (before .register .slots)) (before .register .slots) takes
 
     count-put : slotCount after-put client ≡ timestamp / 256
     unfolding after-put
@@ -477,29 +467,29 @@ module _ (before : RegisterReplica) (verdicts : List ℕ) (client : ClientId) (t
     unfolding Fits after-put
     prepared-new =
         prepared after-put
-        (written-new-fits (raised last (before .register .slots)) (withSlot client timestamp digest (before .register .slots))
+        (written-new-fits (raised (timestampIfThere last) (before .register .slots)) (withSlot client timestamp digest (before .register .slots))
         (put-fits (before .register .slots) (fits .slots-fit) client timestamp digest sender-low sender-high is-digest (message-fits .1)) written-fits)
         (omega arith)
         (λ c low high. for-each (λ c. SlotRises (before .register .slots) after-put c) client c (inr count-rises) (λ other. inl (others-kept c low other)))
         count-put digest-put
         (λ c low high. for-each (λ c. SlotChange (before .register .slots) after-put (PREPARE client timestamp digest proof last) c) client c sender-change (λ other. inl (others-kept c low other .0)))
 
-  after-prepare : Accepts After (afterPrepare client timestamp digest last (before .register .slots))
+  after-prepare : Accepts After (afterPrepare client timestamp digest (timestampIfThere last) (before .register .slots))
   unfolding afterPrepare guard after-put
-  after-prepare = go (slotIs client timestamp digest (before .register .slots)) (slotTakes client timestamp (raised last (before .register .slots)) (before .register .slots)) refl refl
+  after-prepare = go (slotIs client timestamp digest (before .register .slots)) (slotTakes client timestamp (raised (timestampIfThere last) (before .register .slots)) (before .register .slots)) refl refl
     where
-      go : (is takes : Bool) → slotIs client timestamp digest (before .register .slots) ≡ is → slotTakes client timestamp (raised last (before .register .slots)) (before .register .slots) ≡ takes
-          → Accepts After (afterPrepare client timestamp digest last (before .register .slots))
+      go : (is takes : Bool) → slotIs client timestamp digest (before .register .slots) ≡ is → slotTakes client timestamp (raised (timestampIfThere last) (before .register .slots)) (before .register .slots) ≡ takes
+          → Accepts After (afterPrepare client timestamp digest (timestampIfThere last) (before .register .slots))
       go true takes stands t = simp stands (by-value (prepared-again stands))
       go false true other t = simp (other, t) (by-value (prepared-new t))
       go false false other t = simp (other, t) by-refusal
 
 prepare-facts : (before : RegisterReplica) (verdicts : List ℕ) (client : ClientId) (timestamp : ℕ) (digest : List ℕ) (proof : Option PreparedProof) (last : Option WrittenProof) → RegisterReplicaFits before
     → Fits (PREPARE client timestamp digest proof last) → Passed (before .f) (PREPARE client timestamp digest proof last) verdicts → isWriter client ≡ true
-    → Accepts (RegisterFacts before verdicts (PREPARE client timestamp digest proof last)) (onPrepare before client timestamp digest proof last)
+    → Accepts (RegisterFacts before verdicts (PREPARE client timestamp digest proof last)) (onPrepare before client timestamp digest (timestampIfThere proof) (timestampIfThere last))
 prepare-facts before verdicts client timestamp digest proof last fits message-fits passed from-writer =
-    by-guard 12 (λ own. by-guard 13 (λ is-next.
-    by-next (after-prepare before verdicts client timestamp digest proof last fits message-fits passed from-writer is-next) (λ after facts. by-value facts)))
+    by-guard 13 (λ is-next.
+    by-next (after-prepare before verdicts client timestamp digest proof last fits message-fits passed from-writer is-next) (λ after facts. by-value facts))
 
 -- ---- All kinds
 

@@ -48,7 +48,7 @@ bestProof client best = record { timestamp = number best; digest = client .diges
 -- What stands past the end of the sixteen written proofs, where nothing is read: numbers are 0 and arrays have no elements, as in the
 -- code's view.
 abbrev pub noWritten : Written
-noWritten = record { timestamp = start; «entry_count» = 0; entries = [] }
+noWritten = record { timestamp = start; «entry_count» = 0; entries = []; own = false }
 
 abbrev pub writtenAt : ℕ → Client → Written
 writtenAt at client = getD (client .written) at noWritten
@@ -61,7 +61,7 @@ abbrev pub writtenKept : Written → Option WrittenProof
 writtenKept written = ifIssued (number (written .timestamp)) (writtenRecord written)
 
 -- "the desk's last written proof, if any"; document 02, #103: a desk "keeps its last written proof for each set". That of the operation's
--- register.
+-- register, whether its own or, #106, handed to it: "the last handed for a set is shown until the laptop has its own".
 abbrev pub lastWritten : Client → Option WrittenProof
 lastWritten client = writtenKept (writtenAt (registerPlace (client .register)) client)
 
@@ -83,7 +83,7 @@ withSignature signatures id signature = take (64 * (id .0 - 1)) signatures ++ (s
 
 -- No proof of any register is kept yet.
 abbrev pub noneWritten : List Written
-noneWritten = replicate 16 (record { timestamp = start; «entry_count» = 0; entries = replicate entriesRoom 0 })
+noneWritten = replicate 16 (record { timestamp = start; «entry_count» = 0; entries = replicate entriesRoom 0; own = false })
 
 -- A client with no operation, which used the nonces up to this one.
 abbrev pub idleClient : ℕ → ClientId → ℕ → Client
@@ -180,11 +180,18 @@ withSignatures signatures c = remade (c .phase) (c .«card_length») (c .card) (
 abbrev pub withSigners : ReplicaSet → Client → Client
 withSigners signers c = remade (c .phase) (c .«card_length») (c .card) (c .digest) signers (c .«entry_count») (c .entries) (c .signatures) (c .written) c
 
--- A new written proof of the operation's register; those of the others stay.
+-- A written proof as it is kept, with whether it is the client's own.
+abbrev pub keeping : Bool → Timestamp → List Entry → Written
+keeping own timestamp entries = record { timestamp = timestamp; «entry_count» = length entries; entries = filled entriesRoom (entriesBytes entries); own = own }
+
+-- Another written proof of a register; those of the others stay.
+abbrev pub withWrittenFor : RegisterId → Written → Client → Client
+withWrittenFor register last c =
+    remade (c .phase) (c .«card_length») (c .card) (c .digest) (c .signers) (c .«entry_count») (c .entries) (c .signatures) (set (c .written) (registerPlace register) last) c
+
+-- The one that a write of its own ends with, for the operation's register.
 abbrev pub withLastWritten : Timestamp → List Entry → Client → Client
-withLastWritten timestamp entries c =
-    let last : Written = record { timestamp = timestamp; «entry_count» = length entries; entries = filled entriesRoom (entriesBytes entries) } in
-    remade (c .phase) (c .«card_length») (c .card) (c .digest) (c .signers) (c .«entry_count») (c .entries) (c .signatures) (set (c .written) (registerPlace (c .register)) last) c
+withLastWritten timestamp entries c = withWrittenFor (c .register) (keeping true timestamp entries) c
 
 -- ---- Answers
 

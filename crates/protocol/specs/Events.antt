@@ -11,7 +11,8 @@ use Rattle.base.specs.declared.taking.Taking.{Taking}
 use Rattle.base.specs.declared.taking.Taking.the-variants.{Taken, Refused as OrderRefused}
 use Rattle.wire.specs.Decode.{registerIn}
 use Rattle.protocol.specs.Bank.{withBankPart, placeIn, bankStep, BankCall, bankCall}
-use Rattle.protocol.specs.Client.{Answer, send, waits, Turn, madeClient, beginWrite, beginRead, clientStep, Given, giving, ClientCall, beginWriteCall, beginReadCall, clientCall}
+use Rattle.protocol.specs.Client.{Answer, send, waits, Turn, turn, madeClient, beginWrite, beginRead, clientStep, Given, giving, ClientCall, leaving, beginWriteCall, beginReadCall, clientCall}
+use Rattle.protocol.specs.Handing.{making, takeProof, TakingCall, handCall, makingCall}
 use Rattle.protocol.specs.Order.{takeOrder, OrderCall, orderCall}
 use Rattle.protocol.specs.RegisterReplica.{Reply}
 use Rattle.protocol.specs.Viewer.{madeViewer, viewerStep, viewerCall}
@@ -33,9 +34,12 @@ pub data ClientEvent : Type 0 where
   write-begun : RegisterId → List ℕ → ClientEvent
   read-begun : RegisterId → ClientEvent
   reply-handed : List ℕ → List ℕ → ClientEvent
+  -- Document 02, #106: "making it and handing it a proof are events too, refused or not": a first nonce; a register, a proof's bytes, verdicts.
+  made : ℕ → ClientEvent
+  proof-handed : RegisterId → List ℕ → List ℕ → ClientEvent
 
--- The register of an event, and of what is answered to it: the one that is named, or that the message is for. An order is for all of them,
--- and nothing is sent for it: 0 is no register's number.
+-- The register of an event, and of what is answered to it: the one that is named, or that the message is for. An order and a making are for
+-- all of them, and nothing is sent for them: 0 is no register's number.
 abbrev pub replicaEventRegister : ReplicaEvent → RegisterId
 replicaEventRegister (request-handed bytes verdicts) = registerIn bytes
 replicaEventRegister (order-handed order) = record { 0 = 0 }
@@ -44,6 +48,8 @@ abbrev pub clientEventRegister : ClientEvent → RegisterId
 clientEventRegister (write-begun x card) = x
 clientEventRegister (read-begun x) = x
 clientEventRegister (reply-handed bytes verdicts) = registerIn bytes
+clientEventRegister (made nonce) = record { 0 = 0 }
+clientEventRegister (proof-handed x bytes verdicts) = x
 
 -- ---- A replica
 
@@ -113,16 +119,28 @@ handedStep id before bytes verdicts = cond (isWriter id) (clientStep before byte
 abbrev pub handedCall : ClientId → Client → List ℕ → List ℕ → List ℕ → ClientCall
 handedCall id before bytes verdicts old = cond (isWriter id) (clientCall before bytes verdicts old) (viewerCall before bytes verdicts old)
 
--- The step of an event, and its call.
-abbrev pub onClientEvent : ClientId → ClientEvent → Client → Outcome Turn
-onClientEvent id (write-begun x card) before = beginWrite before x card
-onClientEvent id (read-begun x) before = beginRead before x
-onClientEvent id (reply-handed bytes verdicts) before = handedStep id before bytes verdicts
+-- A making and a proof that is taken answer as what is counted does: nothing is to send.
+abbrev pub takingTurn : Outcome Client → Outcome Turn
+takingTurn (accepted next) = turn waits next
+takingTurn (refused number) = refused number
 
-abbrev pub clientEventCall : ClientId → ClientEvent → List ℕ → Client → ClientCall
-clientEventCall id (write-begun x card) old before = beginWriteCall before x card old
-clientEventCall id (read-begun x) old before = beginReadCall before x old
-clientEventCall id (reply-handed bytes verdicts) old before = handedCall id before bytes verdicts old
+abbrev pub afterTaking : List ℕ → TakingCall → ClientCall
+afterTaking old call = leaving (call .client) (giving (takingAnswer (call .answer)) [] old)
+
+-- The step of an event, and its call, with the f that a client is made with.
+abbrev pub onClientEvent : ℕ → ClientId → ClientEvent → Client → Outcome Turn
+onClientEvent f id (write-begun x card) before = beginWrite before x card
+onClientEvent f id (read-begun x) before = beginRead before x
+onClientEvent f id (reply-handed bytes verdicts) before = handedStep id before bytes verdicts
+onClientEvent f id (made nonce) before = takingTurn (making f id nonce)
+onClientEvent f id (proof-handed x bytes verdicts) before = takingTurn (takeProof before x bytes verdicts)
+
+abbrev pub clientEventCall : ℕ → ClientId → ClientEvent → List ℕ → Client → ClientCall
+clientEventCall f id (write-begun x card) old before = beginWriteCall before x card old
+clientEventCall f id (read-begun x) old before = beginReadCall before x old
+clientEventCall f id (reply-handed bytes verdicts) old before = handedCall id before bytes verdicts old
+clientEventCall f id (made nonce) old before = afterTaking old (makingCall f id nonce before)
+clientEventCall f id (proof-handed x bytes verdicts) old before = afterTaking old (handCall before x bytes verdicts)
 
 -- The record that a step leaves, and its answer alone.
 abbrev pub nextClient : Client → Outcome Turn → Client

@@ -1,4 +1,4 @@
--- Document 01's proved examples, A to K.
+-- Document 01's proved examples, A to K, and one of document 02's #106.
 use mathlib.Core.Path.{_≡_}
 use mathlib.Core.Bool.{true, false}
 use mathlib.Core.List.{List, [], _∷_}
@@ -15,9 +15,10 @@ use Rattle.wire.specs.Acceptance.{admits}
 use Rattle.wire.specs.Card.{readCard, isCard}
 use Rattle.wire.specs.Decode.{forRegister}
 use Rattle.wire.specs.Message.{Message, PREPARE, WRITE, PREPARED, WRITTEN}
+use Rattle.wire.specs.Parts.{timestampIfThere}
 use Rattle.wire.specs.Proof.{PreparedProof, WrittenProof}
 use Rattle.protocol.specs.Parts.{cardStands}
-use Rattle.protocol.specs.RegisterReplica.{Reply, heldTimestamp, slotDigest, slotTimestamp, withWritten, withSlot, raised, isOwn, withSlots, answering, onRequest}
+use Rattle.protocol.specs.RegisterReplica.{Reply, heldTimestamp, slotDigest, slotTimestamp, withWritten, withSlot, raised, withSlots, answering, onRequest}
 use Rattle.protocol.specs.declared.replica.RegisterReplica.{RegisterReplica}
 use Rattle.protocol.specs.declared.replica.Slots.{Slots}
 
@@ -87,14 +88,21 @@ pub record Examples : Type 0 where
   pub I : (replica : RegisterReplica) (register : RegisterId) (a b : List ℕ) → isRegister register ≡ true → has (replica .withdrawn) two ≡ false → (a ≡ b → ⊥) → WrittenClientFits replica
       → SlotHolds (replica .register .slots) a → Open (replica .register .slots)
       → (handed replica register oneGenuine (first a) ≡ answering (PREPARED (replica .id) 1·2 a) replica) × (handed replica register oneGenuine (first b) ≡ refused 15)
-  -- "the same line closed: 2.2 taken, 1.2 b still 15." 2.2 comes with a prepared proof of a timestamp of count 1, which passed 6 to 12.
+  -- "the same line closed: 2.2 taken, 1.2 b still 15." 2.2 comes with a prepared proof of a timestamp of count 1, which passed 6 to 11.
   pub J : (replica : RegisterReplica) (register : RegisterId) (a b : List ℕ) → isRegister register ≡ true → has (replica .withdrawn) two ≡ false → (a ≡ b → ⊥) → SlotHolds (replica .register .slots) a → Closed (replica .register .slots)
       → ((digest : List ℕ) (proof : PreparedProof) (last : Option WrittenProof) (verdicts : List ℕ) → proof .timestamp / 256 ≡ 1
-      → Passes replica register verdicts (PREPARE two 2·2 digest (some proof) last) → isOwn two last ≡ true
+      → Passes replica register verdicts (PREPARE two 2·2 digest (some proof) last)
       → handed replica register verdicts (PREPARE two 2·2 digest (some proof) last)
-      ≡ answering (PREPARED (replica .id) 2·2 digest) (withSlots replica (withWritten (raised last (replica .register .slots)) (withSlot two 2·2 digest (replica .register .slots)))))
+      ≡ answering (PREPARED (replica .id) 2·2 digest) (withSlots replica (withWritten (raised (timestampIfThere last) (replica .register .slots)) (withSlot two 2·2 digest (replica .register .slots)))))
       × (handed replica register oneGenuine (first b) ≡ refused 15)
   -- "WRITE of the held stamp: WRITTEN, record kept." From any client, with a proof and a card that passed 6 to 11 and 14.
   pub K : (replica : RegisterReplica) (register : RegisterId) (client : ClientId) (card : List ℕ) (proof : PreparedProof) (verdicts : List ℕ)
       → Passes replica register verdicts (WRITE client card proof) → cardStands card (some proof) ≡ true → proof .timestamp ≡ heldTimestamp (replica .register .held)
       → handed replica register verdicts (WRITE client card proof) ≡ answering (WRITTEN (replica .id) (proof .timestamp)) replica
+  -- Document 02, #106: "a PREPARE may show a written proof of any desk, for the same set". Line 1.2 open or closed, 2.2 with a written proof of 1.2 or
+  -- later, whose client is any: taken.
+  pub of-any-client : (replica : RegisterReplica) (register : RegisterId) (a : List ℕ) → isRegister register ≡ true → SlotHolds (replica .register .slots) a
+      → (digest : List ℕ) (proof : PreparedProof) (last : WrittenProof) (verdicts : List ℕ) → proof .timestamp / 256 ≡ 1 → 1·2 ≤ last .timestamp
+      → Passes replica register verdicts (PREPARE two 2·2 digest (some proof) (some last))
+      → handed replica register verdicts (PREPARE two 2·2 digest (some proof) (some last))
+      ≡ answering (PREPARED (replica .id) 2·2 digest) (withSlots replica (withWritten (raised (last .timestamp) (replica .register .slots)) (withSlot two 2·2 digest (replica .register .slots))))

@@ -2,6 +2,7 @@ pub mod Bank
 pub mod Client
 pub mod Events
 pub mod Examples
+pub mod Handing
 pub mod OperationMessages
 pub mod Order
 pub mod Parts

@@ -8,7 +8,7 @@ use Rattle.base.specs.Party.{isWriter}
 use Rattle.base.specs.declared.party.ClientId.{ClientId}
 use Rattle.base.specs.declared.party.RegisterId.{RegisterId}
 use Rattle.protocol.specs.Client.{ClientCall, beginWriteCall, beginReadCall}
-use Rattle.protocol.specs.Events.{ClientEvent, write-begun, read-begun, reply-handed, clientEventCall}
+use Rattle.protocol.specs.Events.{ClientEvent, write-begun, read-begun, reply-handed, made, proof-handed, clientEventCall}
 use Rattle.protocol.specs.declared.client.Client.{Client}
 use Rattle.protocol.specs.declared.client.ClientAnswer.{ClientAnswer}
 use Rattle.protocol.specs.declared.client.ClientAnswer.the-variants.{Send, Counted, Done, Ended, Refused}
@@ -25,7 +25,7 @@ sentBy (Done timestamp signers) = 0
 sentBy Ended = 0
 sentBy (Refused number) = 0
 
--- A beginning ends the operation before it, unless it is refused.
+-- A beginning ends the operation before it, unless it is refused; and so does a making.
 abbrev pub unlessBegun : ClientAnswer → ℕ → ℕ
 unlessBegun (Send n) rest = 0
 unlessBegun Counted rest = 0
@@ -38,23 +38,26 @@ abbrev pub sentFrom : ClientEvent → ClientAnswer → ℕ → ℕ
 sentFrom (write-begun register card) answer rest = unlessBegun answer rest
 sentFrom (read-begun register) answer rest = unlessBegun answer rest
 sentFrom (reply-handed bytes verdicts) answer rest = sentBy answer + rest
+sentFrom (made nonce) answer rest = unlessBegun answer rest
+sentFrom (proof-handed register bytes verdicts) answer rest = sentBy answer + rest
 
--- What an operation sends in the calls that follow its beginning, up to the beginning of the next one; `id` tells which engine is called.
-unfoldable pub sentAfter : ClientId → Client → List Call → ℕ
-sentAfter id client [] = 0
-sentAfter id client ((event, old) ∷ calls) = sentFrom event (clientEventCall id event old client .answer) (sentAfter id (clientEventCall id event old client .client) calls)
+-- What an operation sends in the calls that follow its beginning, up to the beginning of the next one, or until its client is made again; `id`
+-- tells which engine is called, and with f a client is made.
+unfoldable pub sentAfter : ℕ → ClientId → Client → List Call → ℕ
+sentAfter f id client [] = 0
+sentAfter f id client ((event, old) ∷ calls) = let call = clientEventCall f id event old client in sentFrom event (call .answer) (sentAfter f id (call .client) calls)
 
 -- What an operation sends in all: in the call that begins it, and in those that follow.
-abbrev pub sentIn : ClientId → ClientCall → List Call → ℕ
-sentIn id begun calls = sentBy (begun .answer) + sentAfter id (begun .client) calls
+abbrev pub sentIn : ℕ → ClientId → ClientCall → List Call → ℕ
+sentIn f id begun calls = sentBy (begun .answer) + sentAfter f id (begun .client) calls
 
 -- For a record of any value, and calls of any bytes, verdicts and outputs, refused ones among them.
 pub record OperationMessages : Type 0 where
   -- "a write at most three"
-  pub write : (id : ClientId) → isWriter id ≡ true → (client : Client) (register : RegisterId) (card old : List ℕ) (calls : List Call)
-      → sentIn id (beginWriteCall client register card old) calls ≤ 3
+  pub write : (f : ℕ) (id : ClientId) → isWriter id ≡ true → (client : Client) (register : RegisterId) (card old : List ℕ) (calls : List Call)
+      → sentIn f id (beginWriteCall client register card old) calls ≤ 3
   -- "A read sends at most two messages"
-  pub read : (id : ClientId) → isWriter id ≡ true → (client : Client) (register : RegisterId) (old : List ℕ) (calls : List Call) → sentIn id (beginReadCall client register old) calls ≤ 2
+  pub read : (f : ℕ) (id : ClientId) → isWriter id ≡ true → (client : Client) (register : RegisterId) (old : List ℕ) (calls : List Call) → sentIn f id (beginReadCall client register old) calls ≤ 2
   -- "READ, then q CARDs, then done .. and no write-back"
-  pub view : (id : ClientId) → isWriter id ≡ false → (client : Client) (register : RegisterId) (old : List ℕ) (n : ℕ) (calls : List Call) → beginReadCall client register old .answer ≡ Send n
-      → sentIn id (beginReadCall client register old) calls ≡ 1
+  pub view : (f : ℕ) (id : ClientId) → isWriter id ≡ false → (client : Client) (register : RegisterId) (old : List ℕ) (n : ℕ) (calls : List Call) → beginReadCall client register old .answer ≡ Send n
+      → sentIn f id (beginReadCall client register old) calls ≡ 1

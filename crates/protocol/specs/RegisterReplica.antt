@@ -1,5 +1,5 @@
 -- Document 01, "A holder": what a replica makes of a message, with one register. `Bank` has the sixteen.
-use mathlib.Core.Bool.{Bool, true, false, _&&_, _||_, cond}
+use mathlib.Core.Bool.{Bool, false, _&&_, _||_, cond}
 use mathlib.Core.List.{List, _++_}
 use mathlib.Core.Option.{Option, none, some}
 use Prim.Native.Nat.{ℕ, _+_, _-_, _*_, _/_, max}
@@ -18,7 +18,7 @@ use Rattle.base.specs.declared.timestamp.Timestamp.{Timestamp}
 use Rattle.wire.specs.Acceptance.{admitted}
 use Rattle.wire.specs.Decode.{registerIn}
 use Rattle.wire.specs.Message.{Message, READ-STAMP, PREPARE, WRITE, READ, STAMP, PREPARED, WRITTEN, CARD}
-use Rattle.wire.specs.Proof.{PreparedProof, WrittenProof, signerSet, entriesBytes}
+use Rattle.wire.specs.Proof.{PreparedProof, signerSet, entriesBytes}
 use Rattle.wire.specs.Writing.{unsigned, roomy, inFront}
 use Rattle.wire.specs.declared.message.Party.the-variants.{Replica as AtReplica}
 use Rattle.wire.specs.Layout.{cardRoom, entriesRoom}
@@ -29,7 +29,7 @@ use Rattle.protocol.specs.declared.replica.RegisterReplica.{RegisterRepl
 use Rattle.protocol.specs.declared.replica.ReplicaAnswer.{ReplicaAnswer}
 use Rattle.protocol.specs.declared.replica.ReplicaAnswer.the-variants.{Send, Refused}
 use Rattle.protocol.specs.declared.replica.Slots.{Slots}
-use Rattle.wire.specs.Parts.{preparedTimestamp}
+use Rattle.wire.specs.Parts.{timestampIfThere}
 
 -- ---- What a register holds
 
@@ -93,9 +93,8 @@ abbrev pub withWritten : ℕ → Slots → Slots
 withWritten written slots = record { counts = slots .counts; digests = slots .digests; written = ofNumber written }
 
 -- "take the written proof's stamp as the written stamp if larger"
-abbrev pub raised : Option WrittenProof → Slots → ℕ
-raised none slots = number (slots .written)
-raised (some last) slots = max (number (slots .written)) (last .timestamp)
+abbrev pub raised : ℕ → Slots → ℕ
+raised last slots = max (number (slots .written)) last
 
 -- "If the line equals the stamp and digest"
 abbrev pub slotIs : ClientId → ℕ → List ℕ → Slots → Bool
@@ -107,7 +106,7 @@ slotTakes client timestamp written slots =
     eqb (slotCount slots client) 0 || (leb (slotTimestamp slots client) written && ltb (slotTimestamp slots client) timestamp)
 
 -- PREPARE: the slots afterwards, or 15: "No PREPARE rule above takes the stamp and digest."
-unfoldable pub afterPrepare : ClientId → ℕ → List ℕ → Option WrittenProof → Slots → Outcome Slots
+unfoldable pub afterPrepare : ClientId → ℕ → List ℕ → ℕ → Slots → Outcome Slots
 afterPrepare client timestamp digest last slots =
     let written = raised last slots in
     cond (slotIs client timestamp digest slots) (accepted (withWritten written slots))
@@ -132,11 +131,6 @@ afterWrite card proof held = cond (ltb (heldTimestamp held) (proof .timestamp)) 
 
 -- ---- What a replica does
 
--- 12: "The written proof's stamp has another desk than the sender."
-abbrev pub isOwn : ClientId → Option WrittenProof → Bool
-isOwn client none = true
-isOwn client (some last) = eqb (ofNumber (last .timestamp) .client .0) (client .0)
-
 -- 13: "The PREPARE stamp is not the successor of the proof's stamp for the sender."
 abbrev pub isTimestamp : ℕ → Option Timestamp → Bool
 isTimestamp timestamp none = false
@@ -160,12 +154,13 @@ answering message next = accepted (record { message = message; next = next })
 abbrev pub onReadStamp : RegisterReplica → ClientId → ℕ → Outcome Reply
 onReadStamp replica client nonce = answering (STAMP (replica .id) nonce (heldProof (replica .register .held)) client) replica
 
-abbrev pub onPrepare : RegisterReplica → ClientId → ℕ → List ℕ → Option PreparedProof → Option WrittenProof → Outcome Reply
-onPrepare replica client timestamp digest proof last =
-    guard 12 (isOwn client last)
-    (guard 13 (isTimestamp timestamp (successor (ofNumber (preparedTimestamp proof)) client))
+-- PREPARE, with the timestamps of the prepared and the written proof that it shows, 0.0 for a missing one. Document 02, #106: "a PREPARE may show a
+-- written proof of any desk, for the same set. Test 12 falls away." So nothing else in the two proofs counts here.
+abbrev pub onPrepare : RegisterReplica → ClientId → ℕ → List ℕ → ℕ → ℕ → Outcome Reply
+onPrepare replica client timestamp digest shown last =
+    guard 13 (isTimestamp timestamp (successor (ofNumber shown) client))
     (afterPrepare client timestamp digest last (replica .register .slots) >>= λ slots.
-    answering (PREPARED (replica .id) timestamp digest) (withSlots replica slots)))
+    answering (PREPARED (replica .id) timestamp digest) (withSlots replica slots))
 
 -- "WRITTEN with the proof's stamp, stored or not."
 abbrev pub onWrite : RegisterReplica → List ℕ → PreparedProof → Outcome Reply
@@ -180,7 +175,7 @@ onRead replica client nonce = answering (CARD (replica .id) nonce (heldCard (rep
 -- The four requests, once 2 to 11 are passed. The other kinds do not get here: 5 refuses them.
 unfoldable pub onRequest : RegisterReplica → Message → Outcome Reply
 onRequest replica (READ-STAMP client nonce) = onReadStamp replica client nonce
-onRequest replica (PREPARE client timestamp digest proof last) = onPrepare replica client timestamp digest proof last
+onRequest replica (PREPARE client timestamp digest proof last) = onPrepare replica client timestamp digest (timestampIfThere proof) (timestampIfThere last)
 onRequest replica (WRITE client card proof) = onWrite replica card proof
 onRequest replica (READ client nonce) = onRead replica client nonce
 onRequest replica (STAMP sender nonce proof client) = refused 5

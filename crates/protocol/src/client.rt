@@ -29,6 +29,8 @@ pub struct Written {
     pub timestamp: Timestamp,
     pub entry_count: u8,
     pub entries: [u8; ENTRIES_ROOM],
+    // A write on this record ended with it; else it was handed over, or there is none.
+    pub own: bool,
 }
 
 pub struct Client {

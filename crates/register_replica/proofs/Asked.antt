@@ -1,60 +1,33 @@
 -- What a message that tests 2 to 11 let through asks of a replica, by the parts that the code takes out of it. Assumes nothing.
 use mathlib.Core.Path.{_≡_, refl, sym, ap, subst, _∙_}
-use mathlib.Core.Bool.{Bool, true}
 use mathlib.Core.List.{List}
 use mathlib.Core.Logic.{⊎-elim}
-use mathlib.Core.Option.{Option, none, some}
-use Prim.Native.Nat.{ℕ, _/_, _≤_, _<_, max}
-use native.Mathlib.Omega.{arith}
-use borrow.Author.Tests.{ne-eqb, leb-true}
-use lib.Dec.{leb}
+use Prim.Native.Nat.{ℕ, _≤_, _<_}
 use lib.ListN.{length}
 use Rattle.base.specs.Outcome.{Outcome, accepted, refused}
-use Rattle.base.specs.Range.{within}
-use Rattle.base.specs.Timestamp.{number, ofNumber}
-use Rattle.base.specs.declared.party.ClientId.{ClientId}
+use Rattle.base.specs.Timestamp.{number}
 use Rattle.base.specs.declared.party.RegisterId.{RegisterId}
 use Rattle.base.specs.declared.replica_set.ReplicaSet.{ReplicaSet}
 use Rattle.base.specs.declared.timestamp.Timestamp.{Timestamp}
-use Rattle.base.proofs.Booleans.{and-true-both}
 use Rattle.base.proofs.Range.{bounds}
 use Rattle.base.proofs.Timestamps.{number-ofNumber}
 use Rattle.wire.specs.Acceptance.{acceptance}
-use Rattle.wire.specs.Checks.{ifThere, issued}
 use Rattle.wire.specs.Decode.{registerIn}
 use Rattle.wire.specs.Message.{Message, longest}
 use Rattle.wire.specs.Parts.{partAt, cardAt, proofPart, preparedPart, timestampIfThere, preparedTimestamp, timestampPart}
-use Rattle.wire.specs.Proof.{PreparedProof, WrittenProof, preparedFrom}
+use Rattle.wire.specs.Proof.{preparedFrom}
 use Rattle.wire.specs.declared.message.Fields.{Fields}
 use Rattle.wire.specs.declared.message.Party.the-variants.{Replica as AtReplica}
 use Rattle.wire.proofs.AdmittedMessage.{acceptance-refused}
 use Rattle.wire.proofs.MessageParts.{Handed, handed-read-stamp, handed-prepare, handed-write, handed-read, request-kind, register-is, proof-whole, shown, last-shown}
-use Rattle.protocol.specs.RegisterReplica.{afterPrepare, Reply, onReadStamp, onPrepare, onWrite, onRead, onRequest, registerStep, RegisterCall, answerOutcome, sentLength, registerAnswers, withOutput, registerCall}
+use Rattle.protocol.specs.RegisterReplica.{Reply, onReadStamp, onPrepare, onWrite, onRead, onRequest, registerStep, RegisterCall, answerOutcome, sentLength, registerAnswers, withOutput, registerCall}
 use Rattle.protocol.specs.declared.replica.RegisterReplica.{RegisterReplica}
 use Rattle.protocol.specs.declared.replica.ReplicaAnswer.the-variants.{Refused}
 use Rattle.protocol.proofs.Calls.{long-output, register-short}
 use Rattle.register_replica.specs.Leaving.{keeping, Leaves, Answers}
-use Rattle.register_replica.specs.Prepares.{preparedWith, prepareWith}
 use Rattle.register_replica.specs.Stepping.{Changes, Steps}
 use Rattle.register_replica.specs.declared.Stepped.{Stepped}
 use Rattle.register_replica.proofs.Replies.{unchanged}
-
-abbrev writtenIssued : Option WrittenProof → Bool
-writtenIssued last = ifThere (λ (proof : WrittenProof). issued (proof .timestamp)) last
-
-not-zero : (timestamp : ℕ) → issued timestamp ≡ true → timestamp ≡ 0 → ⊥
-not-zero timestamp i e =
-    let counted = leb-true 1 (timestamp / 256) (and-true-both (leb 1 (timestamp / 256)) (within 1 64 (ofNumber timestamp .client .0)) i .0) in
-    omega arith
-
--- PREPARE by its proofs is PREPARE by their timestamps.
-plain : (replica : RegisterReplica) (client : ClientId) (timestamp : ℕ) (digest : List ℕ) (proof : Option PreparedProof) (last : Option WrittenProof) → writtenIssued last ≡ true
-    → onPrepare replica client timestamp digest proof last ≡ prepareWith replica client timestamp digest (preparedTimestamp proof) (timestampIfThere last)
-unfolding prepareWith afterPrepare preparedWith
-plain replica client timestamp digest proof none i =
-    let same : max (number (replica .register .slots .written)) 0 ≡ number (replica .register .slots .written) = omega arith in
-    rw same
-plain replica client timestamp digest proof (some last) i = rw (ne-eqb (last .timestamp) 0 (not-zero (last .timestamp) i))
 
 module _ (replica : RegisterReplica) (bytes verdicts : List ℕ) where
   pub step-refused : (n : ℕ) → acceptance AtReplica (replica .f) (replica .withdrawn) bytes verdicts ≡ refused n → registerStep replica bytes verdicts ≡ refused n
@@ -86,20 +59,19 @@ module _ (replica : RegisterReplica) (bytes verdicts : List ℕ) where
     -- PREPARE, with 0 for the timestamp of a missing proof.
     step-prepare : fields .kind ≡ 2
         → registerStep replica bytes verdicts
-        ≡ prepareWith replica (record { 0 = fields .sender }) (number (fields .timestamp)) (partAt bytes (fields .digest)) (number (timestampPart (partAt bytes (fields .prepared)))) (number (timestampPart (partAt bytes (fields .written))))
+        ≡ onPrepare replica (record { 0 = fields .sender }) (number (fields .timestamp)) (partAt bytes (fields .digest)) (number (timestampPart (partAt bytes (fields .prepared)))) (number (timestampPart (partAt bytes (fields .written))))
     unfolding onRequest
     step-prepare k =
         let h = handed-prepare (replica .f) (replica .withdrawn) bytes verdicts fields e k in
         let proof = partAt bytes (fields .prepared) in
         let first : number (timestampPart proof) ≡ preparedTimestamp (preparedPart proof) = ap number (shown proof (proof-whole AtReplica (replica .f) (replica .withdrawn) bytes verdicts fields e)) ∙ number-ofNumber _ in
         let second : number (timestampPart (partAt bytes (fields .written))) ≡ timestampIfThere (proofPart 0 (partAt bytes (fields .written))) = ap number (last-shown AtReplica (replica .f) (replica .withdrawn) bytes verdicts fields e) ∙ number-ofNumber _ in
-        rw (first, second)
-        (follows _ h ∙ plain replica (record { 0 = fields .sender }) (number (fields .timestamp)) (partAt bytes (fields .digest)) (preparedPart proof) (proofPart 0 (partAt bytes (fields .written))) (h .passed .written-issued))
+        rw (first, second) (follows _ h)
 
     -- The same by what the code takes out of the message.
     pub prepare-as : fields .kind ≡ 2 → (digest : List ℕ) (first second : Timestamp) → digest ≡ partAt bytes (fields .digest)
         → first ≡ timestampPart (partAt bytes (fields .prepared)) → second ≡ timestampPart (partAt bytes (fields .written))
-        → registerStep replica bytes verdicts ≡ prepareWith replica (record { 0 = fields .sender }) (number (fields .timestamp)) digest (number first) (number second)
+        → registerStep replica bytes verdicts ≡ onPrepare replica (record { 0 = fields .sender }) (number (fields .timestamp)) digest (number first) (number second)
     prepare-as k digest first second d s l = rw (d, s, l) (step-prepare k)
 
     pub prepare-sender : fields .kind ≡ 2 → (1 ≤ fields .sender) × (fields .sender ≤ 64)

@@ -2,7 +2,7 @@
 use mathlib.Core.Path.{_≡_, refl, sym, ap, _∙_}
 use mathlib.Core.Bool.{Bool, true, false, _||_}
 use mathlib.Core.List.{List}
-use Prim.Native.Nat.{ℕ, _≤_, _<_, max}
+use Prim.Native.Nat.{ℕ, _≤_, _<_}
 use native.Mathlib.Omega.{arith}
 use borrow.Author.Tests.{le-leb}
 use lib.Dec.{eqb, leb, ltb}
@@ -22,12 +22,12 @@ use Rattle.wire.specs.Message.{Message, PREPARED, WRITTEN, longest}
 use Rattle.wire.specs.Proof.{PreparedProof}
 use Rattle.wire.specs.Writing.{Wrote, encodedOutcome, unsigned}
 use Rattle.wire.specs.declared.writer.Encoded.{Encoded}
-use Rattle.protocol.specs.RegisterReplica.{heldTimestamp, Reply, answerOutcome, answering, isTimestamp, slotIs, slotTakes, withWritten, withSlot, withSlots, holding, withHeld, afterWrite, onWrite, registerAnswers}
+use Rattle.protocol.specs.RegisterReplica.{heldTimestamp, Reply, answerOutcome, answering, isTimestamp, raised, slotIs, slotTakes, withWritten, withSlot, withSlots, holding, withHeld, afterWrite, onPrepare, onWrite, registerAnswers}
 use Rattle.protocol.specs.declared.replica.RegisterReplica.{RegisterReplica}
 use Rattle.protocol.specs.declared.replica.ReplicaAnswer.{ReplicaAnswer}
 use Rattle.protocol.specs.declared.replica.ReplicaAnswer.the-variants.{Send, Refused}
+use Rattle.protocol.specs.declared.replica.Slots.{Slots}
 use Rattle.register_replica.specs.Leaving.{keeping, Leaves}
-use Rattle.register_replica.specs.Prepares.{ownOrMissing, prepareWith}
 use Rattle.register_replica.specs.Stepping.{Changes}
 use Rattle.register_replica.specs.declared.Stepped.{Stepped}
 use Rattle.register_replica.proofs.Slots.{admitted, not-admitted}
@@ -78,30 +78,23 @@ module _ (timestamp : ℕ) (shown : Timestamp) (client : ClientId) (found : Succ
 
 -- PREPARE, test by test.
 module _ (replica : RegisterReplica) (client : ClientId) (timestamp : ℕ) (digest : List ℕ) (shown last : ℕ) where
-  pub not-own : ownOrMissing client last ≡ false → prepareWith replica client timestamp digest shown last ≡ refused 12
-  unfolding prepareWith guard
-  not-own e = rw e
+  abbrev slots : Slots
+  slots = replica .register .slots
 
-  module _ (own : ownOrMissing client last ≡ true) where
-    pub not-successor : isTimestamp timestamp (successor (ofNumber shown) client) ≡ false → prepareWith replica client timestamp digest shown last ≡ refused 13
-    unfolding prepareWith guard
-    not-successor e = rw (own, e)
+  pub not-successor : isTimestamp timestamp (successor (ofNumber shown) client) ≡ false → onPrepare replica client timestamp digest shown last ≡ refused 13
+  unfolding guard
+  not-successor e = rw e
 
-    module _ (follows : isTimestamp timestamp (successor (ofNumber shown) client) ≡ true) (first : 1 ≤ client .0) (small : client .0 < 256)
-        (admits : Bool)
-        (e : admits ≡ (slotIs client timestamp digest (replica .register .slots) || slotTakes client timestamp (max (number (replica .register .slots .written)) last) (replica .register .slots))) where
-      abbrev written : ℕ
-      written = max (number (replica .register .slots .written)) last
+  module _ (follows : isTimestamp timestamp (successor (ofNumber shown) client) ≡ true) (first : 1 ≤ client .0) (small : client .0 < 256)
+      (admits : Bool) (e : admits ≡ (slotIs client timestamp digest slots || slotTakes client timestamp (raised last slots) slots)) where
+    pub not-taken : admits ≡ false → onPrepare replica client timestamp digest shown last ≡ refused 15
+    unfolding guard
+    not-taken t = rw (follows, not-admitted client timestamp digest slots first small last (sym e ∙ t))
 
-      pub not-taken : admits ≡ false → prepareWith replica client timestamp digest shown last ≡ refused 15
-      unfolding prepareWith guard
-      not-taken t = rw (own, follows, not-admitted client timestamp digest (replica .register .slots) first small written (sym e ∙ t))
-
-      pub is-taken : admits ≡ true
-          → prepareWith replica client timestamp digest shown last
-          ≡ answering (PREPARED (replica .id) timestamp digest) (withSlots replica (withWritten written (withSlot client timestamp digest (replica .register .slots))))
-      unfolding prepareWith guard
-      is-taken t = rw (own, follows, admitted client timestamp digest (replica .register .slots) first small written (sym e ∙ t))
+    pub is-taken : admits ≡ true
+        → onPrepare replica client timestamp digest shown last ≡ answering (PREPARED (replica .id) timestamp digest) (withSlots replica (withWritten (raised last slots) (withSlot client timestamp digest slots)))
+    unfolding guard
+    is-taken t = rw (follows, admitted client timestamp digest slots first small last (sym e ∙ t))
 
 -- WRITE, test by test.
 module _ (replica : RegisterReplica) (card : List ℕ) (proof : PreparedProof) where

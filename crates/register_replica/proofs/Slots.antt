@@ -17,9 +17,8 @@ use Rattle.base.proofs.Booleans.{and-true-both}
 use Rattle.base.proofs.Same.{same-equal}
 use Rattle.base.proofs.Timestamps.{ofNumber-number}
 use Rattle.base.proofs.Apart.{apart}
-use Rattle.protocol.specs.RegisterReplica.{slotCount, slotDigest, slotTimestamp, slotIs, slotTakes, withSlot, withWritten}
+use Rattle.protocol.specs.RegisterReplica.{slotCount, slotDigest, slotTimestamp, raised, slotIs, slotTakes, withSlot, withWritten, afterPrepare}
 use Rattle.protocol.specs.declared.replica.Slots.{Slots}
-use Rattle.register_replica.specs.Prepares.{preparedWith}
 
 -- A part of a list put back where it stands.
 part-back : (at width next : ℕ) (l : List ℕ) → next ≡ at + width → take at l ++ (take width (drop at l) ++ drop next l) ≡ l
@@ -36,21 +35,25 @@ module _ (client : ClientId) (timestamp : ℕ) (digest : List ℕ) (slots : Slot
       let count : timestamp / 256 ≡ slotCount slots client = omega (arith, is) in
       rw (count, ← same-equal _ _ (both .1), set-getD, part-back (32 * (client .0 - 1)) 32 (32 * client .0) (slots .digests) (omega arith))
 
-  module _ (written : ℕ) where
+  -- With a written proof of this timestamp, 0 for none.
+  module _ (last : ℕ) where
+    abbrev written : ℕ
+    written = raised last slots
+
     pub admitted : (slotIs client timestamp digest slots || slotTakes client timestamp written slots) ≡ true
-        → preparedWith client timestamp digest written slots ≡ accepted (withWritten written (withSlot client timestamp digest slots))
-    unfolding preparedWith guard
+        → afterPrepare client timestamp digest last slots ≡ accepted (withWritten written (withSlot client timestamp digest slots))
+    unfolding afterPrepare guard
     admitted e = go (slotIs client timestamp digest slots) refl
       where
-        go : (is : Bool) → slotIs client timestamp digest slots ≡ is → preparedWith client timestamp digest written slots ≡ accepted (withWritten written (withSlot client timestamp digest slots))
+        go : (is : Bool) → slotIs client timestamp digest slots ≡ is → afterPrepare client timestamp digest last slots ≡ accepted (withWritten written (withSlot client timestamp digest slots))
         go true h = rw h (ap (λ (r : Slots). accepted (withWritten written r)) (sym (slot-again h)))
         go false h = rw (h, rw h at e)
 
-    pub not-admitted : (slotIs client timestamp digest slots || slotTakes client timestamp written slots) ≡ false → preparedWith client timestamp digest written slots ≡ refused 15
-    unfolding preparedWith guard
+    pub not-admitted : (slotIs client timestamp digest slots || slotTakes client timestamp written slots) ≡ false → afterPrepare client timestamp digest last slots ≡ refused 15
+    unfolding afterPrepare guard
     not-admitted e = go (slotIs client timestamp digest slots) refl
       where
-        go : (is : Bool) → slotIs client timestamp digest slots ≡ is → preparedWith client timestamp digest written slots ≡ refused 15
+        go : (is : Bool) → slotIs client timestamp digest slots ≡ is → afterPrepare client timestamp digest last slots ≡ refused 15
         go true h = let z : true ≡ false = rw h at e in apart (cc)
         go false h = rw (h, rw h at e)
 

@@ -1,3 +1,3 @@
 pub mod Leaving
-pub mod Prepares
+pub mod Slots
 pub mod Stepping

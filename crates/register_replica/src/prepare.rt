@@ -12,7 +12,6 @@ use crate::register::slot_admits;
 use crate::register::slot_is;
 use base::party::ClientId;
 use base::party::RegisterId;
-use base::refusal::NOT_OWN;
 use base::refusal::NOT_SUCCESSOR;
 use base::refusal::NOT_TAKEN;
 use base::replica_set::ReplicaSet;
@@ -30,9 +29,8 @@ ghost use Prim.Native.Nat.{_≤_};
 ghost use lib.ListN.{length};
 ghost use Rattle.base.specs.Timestamp.{number, ofNumber, successor};
 ghost use Rattle.wire.specs.Message.{longest};
-ghost use Rattle.protocol.specs.RegisterReplica.{isTimestamp, withSlots, registerAnswers};
+ghost use Rattle.protocol.specs.RegisterReplica.{isTimestamp, withSlots, onPrepare, registerAnswers};
 ghost use Rattle.register_replica.specs.Leaving.{Leaves, Passes, Answers};
-ghost use Rattle.register_replica.specs.Prepares.{ownOrMissing, prepareWith};
 
 fn with_slots(replica: RegisterReplica, slots: Slots) -> RegisterReplica
     ensures { λ r. ⌜ r ≡ withSlots replica slots ⌝ }
@@ -49,16 +47,6 @@ fn with_slots(replica: RegisterReplica, slots: Slots) -> RegisterReplica
     }
 }
 
-// Test 12, with 0.0 for a missing written proof.
-fn is_own(client: ClientId, last: Timestamp) -> bool
-    ensures { λ r. ⌜ r ≡ ownOrMissing client (number last) ⌝ }
-{
-    if last.number() == 0 {
-        return true;
-    }
-    last.client.0 == client.0
-}
-
 // Test 13, with 0.0 for a missing prepared proof.
 fn is_successor(timestamp: Timestamp, shown: Timestamp, client: ClientId) -> bool
     ensures { λ r. ⌜ r ≡ isTimestamp (number timestamp) (successor (ofNumber (number shown)) client) ⌝ }
@@ -69,7 +57,7 @@ fn is_successor(timestamp: Timestamp, shown: Timestamp, client: ClientId) -> boo
     }
 }
 
-// PREPARE on plain values.
+// PREPARE, with 0.0 for the timestamp of a missing proof.
 fn prepare(
     replica: RegisterReplica,
     register: RegisterId,
@@ -81,11 +69,8 @@ fn prepare(
     out: &mut [u8],
 ) -> Stepped
     requires { ⌜ ((1 ≤ client .0) × (client .0 ≤ 64)) × (longest ≤ length (now out)) ⌝ }
-    ensures { λ r. ⌜ Leaves replica (registerAnswers register replica (now (out .entry)) (prepareWith replica client (number timestamp) (now (digest .entry)) (number shown) (number last))) r (now (out .exit)) ⌝ }
+    ensures { λ r. ⌜ Leaves replica (registerAnswers register replica (now (out .entry)) (onPrepare replica client (number timestamp) (now (digest .entry)) (number shown) (number last))) r (now (out .exit)) ⌝ }
 {
-    if !is_own(client, last) {
-        return refuse(replica, NOT_OWN);
-    }
     if !is_successor(timestamp, shown, client) {
         return refuse(replica, NOT_SUCCESSOR);
     }

@@ -25,7 +25,7 @@ ghost use Rattle.protocol.specs.RegisterReplica.{holding};
 ghost use Rattle.wire.specs.Layout.{cardRoom};
 ghost use Rattle.wire.specs.Parts.{Whole};
 ghost use Rattle.wire.specs.Proof.{preparedFrom, signerSet};
-ghost use Rattle.register_replica.specs.Prepares.{isSlot, takesSlot};
+ghost use Rattle.register_replica.specs.Slots.{isSlot, takesSlot};
 ghost use Rattle.register_replica.specs.Stepping.{puttingCount, puttingDigest, putting};
 
 // Whether a client's slot has this digest. The digests are copied here, where they are read.

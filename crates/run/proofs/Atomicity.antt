@@ -17,65 +17,31 @@ use Rattle.run.specs.Premises.{Premises}
 use Rattle.run.specs.Run.{Run}
 use Rattle.run.proofs.Turns.{same-client}
 use Rattle.run.proofs.Demand3.{start-shows}
-use Rattle.run.proofs.Order.{three-ways, correct-of, finish, settled-by, rises, above-write, begun-after as finished-before, one-card, same-operation, total as claimed, not-itself, before-both}
+use Rattle.run.proofs.Order.{three-ways, finish, settled-by, rises, one-card, same-operation, total as claimed, not-itself, before-both}
 use Rattle.run.proofs.ReadsFrom.{reads-from}
-use Rattle.run.proofs.Writes.{correct-writer, chosen, begun-after, finished-with, same-write}
+use Rattle.run.proofs.Writes.{correct-writer, chosen, finished-write, finished-with}
 
 module _ (R : Run) (x : RegisterId) (P : Premises R) where
-  -- ---- No two writes have one timestamp
+  -- ---- Writes
 
   own-client : (w : Write R x) → w .timestamp % 256 ≡ w .id .0
   own-client w = chosen R x P w .own
-
-  one-client : (w w′ : Write R x) → w .timestamp ≡ w′ .timestamp → w .id ≡ w′ .id
-  one-client w w′ e = same-client (w .id) (w′ .id) (sym (own-client w) ∙ ap (λ (s : ℕ). s % 256) e ∙ own-client w′)
-
-  write-rises : (w w′ : Write R x) → w .id ≡ w′ .id → w .begun < w′ .begun → w .timestamp < w′ .timestamp
-  write-rises w w′ e l =
-      chosen R x P w′ .above (w .timestamp) (begun-after R x P w (w′ .begun) true l (rw e (w′ .card, w′ .begins)) (w′ .not-refused))
-
-  one-write : (w w′ : Write R x) → w .timestamp ≡ w′ .timestamp → w .begun ≡ w′ .begun
-  one-write w w′ e =
-      let same = one-client w w′ e in
-      three-ways (w .begun) (w′ .begun) (λ l. let r = write-rises w w′ same l in absurd (omega arith)) (λ k. k)
-      (λ l. let r = write-rises w′ w (sym same) l in absurd (omega arith))
 
   -- What was finished before a write began has a smaller timestamp.
   write-above : (o : Finished R x) (w : Write R x) → o .finished < w .begun → number (o .timestamp) < w .timestamp
   write-above o w l = chosen R x P w .above (number (o .timestamp)) (settled-by R x P o (w .begun) l)
 
-  has-write : (o : Finished R x) → o .is-write ≡ true
-      → (w : Write R x) × (w .id ≡ o .id) × (w .begun ≡ o .begun) × (w .timestamp ≡ number (o .timestamp)) × (w .card ≡ o .card)
-  has-write o e =
-      let own = finish R x P o .own e .0 in
-      let fits = finish R x P o .fits in
-      let client-is : o .timestamp .client ≡ o .id = same-client (o .timestamp .client) (o .id) (omega arith) in
-      let (w, id-is, timestamp-is, card-is, before) = reads-from R x P o (rw client-is (correct-of R x o)) in
-      let same : w .id ≡ o .id = id-is ∙ client-is in
-      (w, same, begun-is w same timestamp-is, timestamp-is, card-is)
-    where
-      begun-is : (w : Write R x) → w .id ≡ o .id → w .timestamp ≡ number (o .timestamp) → w .begun ≡ o .begun
-      begun-is w same at =
-          three-ways (w .begun) (o .begun)
-          (λ l. let z = before-it l in absurd (omega arith)) (λ k. k)
-          (λ l. let z = write-above o w (finished-before R x P o (w .begun) true l (rw (← same) (w .card, w .begins)) (w .not-refused)) in absurd (omega arith))
-        where
-          before-it : w .begun < o .begun → w .timestamp < number (o .timestamp)
-          before-it l =
-              above-write R x P (o .is-write) (o .begun) (number (o .timestamp)) e (finish R x P o .above) (w .timestamp)
-              (begun-after R x P w (o .begun) (o .is-write) l (rw same (o .begins)) (o .not-refused))
-
   -- ---- The order
 
   same : (a b : Operation R x) → Same R x a b → (placedAt R x a ≡ placedAt R x b) × (operationCard R x a ≡ operationCard R x b)
   same (read o r) (read o′ r′) e = let one = same-operation R x o o′ e in (ap number (one .same-timestamp), one .same-card)
-  same (read o r) (write w) e = absurd e
+  same (read o r) (write w s) e = absurd e
   same (read o r) (faulty-write o′ r′ p f) e = absurd e
-  same (write w) (read o r) e = absurd e
-  same (write w) (write w′) e = same-write R x P w w′ e
-  same (write w) (faulty-write o r p f) e = absurd e
+  same (write w s) (read o r) e = absurd e
+  same (write w (o, at, of)) (write w′ (o′, at′, of′)) e = (e, sym of ∙ one-card R x P o o′ (at ∙ e ∙ sym at′) ∙ of′)
+  same (write w s) (faulty-write o r p f) e = absurd e
   same (faulty-write o r p f) (read o′ r′) e = absurd e
-  same (faulty-write o r p f) (write w) e = absurd e
+  same (faulty-write o r p f) (write w s) e = absurd e
   same (faulty-write o r p f) (faulty-write o′ r′ p′ f′) e = (e, one-card R x P o o′ e)
 
   irreflexive : (a : Operation R x) → Precedes R x a a → ⊥
@@ -106,13 +72,13 @@ module _ (R : Run) (x : RegisterId) (P : Premises R) where
 
   total : (a b : Operation R x) → Laid a b
   total (read o r) (read o′ r′) = ⊎-elim inl (λ it. inr (⊎-elim (λ y. inl (laid-reads o o′ r r′ y)) (λ y. inr (laid-reads o′ o r′ r y)) it)) (claimed R x P o o′)
-  total (read o r) (write w) = by-timestamp (read o r) (write w) (λ e. inr (inr (inr (sym e, tt))))
+  total (read o r) (write w s) = by-timestamp (read o r) (write w s) (λ e. inr (inr (inr (sym e, tt))))
   total (read o r) (faulty-write o′ r′ p f) = by-timestamp (read o r) (faulty-write o′ r′ p f) (λ e. inr (inr (inr (sym e, tt))))
-  total (write w) (read o r) = by-timestamp (write w) (read o r) (λ e. inr (inl (inr (e, tt))))
-  total (write w) (write w′) = by-timestamp (write w) (write w′) (λ e. inl (one-write w w′ e))
-  total (write w) (faulty-write o r p f) = by-timestamp (write w) (faulty-write o r p f) (λ e. not-faulty w o f e)
+  total (write w s) (read o r) = by-timestamp (write w s) (read o r) (λ e. inr (inl (inr (e, tt))))
+  total (write w s) (write w′ s′) = by-timestamp (write w s) (write w′ s′) (λ e. inl e)
+  total (write w s) (faulty-write o r p f) = by-timestamp (write w s) (faulty-write o r p f) (λ e. not-faulty w o f e)
   total (faulty-write o r p f) (read o′ r′) = by-timestamp (faulty-write o r p f) (read o′ r′) (λ e. inr (inl (inr (e, tt))))
-  total (faulty-write o r p f) (write w) = by-timestamp (faulty-write o r p f) (write w) (λ e. not-faulty w o f (sym e))
+  total (faulty-write o r p f) (write w s) = by-timestamp (faulty-write o r p f) (write w s) (λ e. not-faulty w o f (sym e))
   total (faulty-write o r p f) (faulty-write o′ r′ p′ f′) = by-timestamp (faulty-write o r p f) (faulty-write o′ r′ p′ f′) (λ e. inl e)
 
   -- ---- It extends "ended before the other began"
@@ -121,16 +87,16 @@ module _ (R : Run) (x : RegisterId) (P : Premises R) where
   extends (read o r) (read o′ r′) t t′ e b l =
       let after = o′ .after in
       ⊎-elim (λ z. inr (z, omega arith)) (λ z. inl z) (eq-or-lt-of-le (rises R x P o o′ (omega arith)))
-  extends (read o r) (write w) t t′ e b l = inl (write-above o w (omega arith))
+  extends (read o r) (write w s) t t′ e b l = inl (write-above o w (omega arith))
   extends (read o r) (faulty-write o′ r′ p f) t t′ e b l = absurd b
-  extends (write w) (read o′ r′) t t′ (o, same, e) b l =
+  extends (write w s) (read o′ r′) t t′ (o, same, e) b l =
       let is = finished-with R x P w o same in
       ⊎-elim (λ z. inr (sym is ∙ z, tt)) (λ z. inl (omega arith)) (eq-or-lt-of-le (rises R x P o o′ (omega arith)))
-  extends (write w) (write w′) t t′ (o, same, e) b l =
+  extends (write w s) (write w′ s′) t t′ (o, same, e) b l =
       let is = finished-with R x P w o same in
       let above = write-above o w′ (omega arith) in
       inl (omega arith)
-  extends (write w) (faulty-write o′ r′ p f) t t′ e b l = absurd b
+  extends (write w s) (faulty-write o′ r′ p f) t t′ e b l = absurd b
   extends (faulty-write o r p f) b t t′ e b′ l = absurd e
 
   -- ---- A read shows the last write before it
@@ -153,12 +119,14 @@ module _ (R : Run) (x : RegisterId) (P : Premises R) where
   reads-last o r p = go (R .correct-client (o .timestamp .client)) refl
     where
       go : (b : Bool) → R .correct-client (o .timestamp .client) ≡ b → (w : Operation R x) × LastWrite R x w (read o r) × (operationCard R x w ≡ o .card)
-      go true c = let (w, id-is, timestamp-is, card-is, before) = reads-from R x P o c in (write w, last-at (write w) o r refl timestamp-is, card-is)
+      go true c = let (w, id-is, timestamp-is, card-is, before) = reads-from R x P o c in
+          let it : Operation R x = write w (o, sym timestamp-is, sym card-is) in
+          (it, last-at it o r refl timestamp-is, card-is)
       go false f = (faulty-write o r p f, last-at (faulty-write o r p f) o r refl refl, refl)
 
   write-positive : (w : Operation R x) → isWrite R x w ≡ true → 1 ≤ placedAt R x w
   write-positive (read o r) e = apart (cc)
-  write-positive (write w) e = chosen R x P w .positive
+  write-positive (write w s) e = chosen R x P w .positive
   write-positive (faulty-write o r p f) e = p
 
   reads-start : (o : Finished R x) (r : o .is-write ≡ false) → number (o .timestamp) ≡ 0 → (o .card ≡ startCard) × ((w : Operation R x) → isWrite R x w ≡ true → Precedes R x w (read o r) → ⊥)
@@ -171,7 +139,7 @@ module _ (R : Run) (x : RegisterId) (P : Premises R) where
   pub atomic : Atomic R x
   atomic =
       record {
-        has-write = has-write;
+        has-write = finished-write R x P;
         same = same;
         irreflexive = irreflexive;
         transitive = transitive;

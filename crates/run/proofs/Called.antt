@@ -7,20 +7,22 @@ use Prim.Native.Nat.{ℕ, zero, suc, _≤_}
 use borrow.Author.Tests.{le-leb}
 use lib.Dec.{eqb}
 use lib.ListN.{length}
-use Rattle.base.specs.Outcome.{accepted, guard}
+use Rattle.base.specs.Outcome.{Outcome, accepted, refused, guard}
 use Rattle.base.specs.Party.{isWriter}
 use Rattle.base.specs.declared.party.ClientId.{ClientId}
 use Rattle.base.specs.declared.party.ReplicaId.{ReplicaId}
-use Rattle.wire.specs.Message.{longest}
+use Rattle.base.proofs.Apart.{apart}
+use Rattle.wire.specs.Message.{Message, longest}
 use Rattle.wire.specs.declared.message.Party.the-variants.{Client as AtClient}
 use Rattle.wire.proofs.OneForm.{found-register}
-use Rattle.protocol.specs.Client.{Turn, freshClient, given}
+use Rattle.protocol.specs.Client.{send, waits, Turn, freshClient, given}
 use Rattle.protocol.specs.Bank.{freshBank, madeBank}
 use Rattle.protocol.specs.declared.client.Client.{Client}
 use Rattle.protocol.specs.declared.replica.Bank.{Bank}
 use Rattle.protocol.proofs.ClientFacts.{begins-write as begins-write-facts, begins-read as begins-read-facts}
 use Rattle.protocol.proofs.Calls.{replica-called, client-called}
-use Rattle.protocol.specs.Events.{ClientEvent, write-begun, read-begun, reply-handed, replicaEventCall, madeWith, onClientEvent}
+use Rattle.protocol.specs.Events.{ClientEvent, write-begun, read-begun, reply-handed, made, proof-handed, replicaEventCall, madeWith, takingTurn, onClientEvent}
+use Rattle.protocol.specs.Handing.{making, takeProof}
 use Rattle.run.specs.Calls.{calledAtReplica, calledAtClient, calledReplica, calledClient, givenAt, CallsAreRun}
 use Rattle.run.specs.Run.{Event, at-replica, at-client, begins-write, begins-read, to-client, registerOf, Run, afterAtReplica, afterAtClient, event, bankAt, clientAt, answerTo}
 use Rattle.run.proofs.Turns.{good-client, handed-takes}
@@ -32,10 +34,10 @@ module _ (old : List ℕ) (long : longest ≤ length old) where
   replica-left id (some (at-replica at e)) before = ap (λ (r : Bank). cond (eqb (at .0) (id .0)) r before) (replica-called old long e before .leaves)
   replica-left id (some (at-client at e)) before = refl
 
-  client-left : (id : ClientId) (e : Option Event) (before : Client) → calledAtClient id e old before ≡ afterAtClient id e before
-  client-left id none before = refl
-  client-left id (some (at-replica at e)) before = refl
-  client-left id (some (at-client at e)) before = ap (λ (c : Client). cond (eqb (at .0) (id .0)) c before) (client-called old long at e before .leaves)
+  client-left : (f : ℕ) (id : ClientId) (e : Option Event) (before : Client) → calledAtClient f id e old before ≡ afterAtClient f id e before
+  client-left f id none before = refl
+  client-left f id (some (at-replica at e)) before = refl
+  client-left f id (some (at-client at e)) before = ap (λ (c : Client). cond (eqb (at .0) (id .0)) c before) (client-called old long f at e before .leaves)
 
 -- ---- All calls of a run
 
@@ -61,24 +63,31 @@ module _ (R : Run) (output : ℕ → List ℕ) (long : (t : ℕ) → longest ≤
   clients : (id : ClientId) → R .correct-client id ≡ true → (t : ℕ) → calledClient R output id t ≡ clientAt R id t
   unfolding clientAt calledClient
   clients id c zero = made-client id c
-  clients id c (suc t) = client-left (output t) (long t) id (event R t) (calledClient R output id t) ∙ ap (afterAtClient id (event R t)) (clients id c t)
+  clients id c (suc t) = client-left (output t) (long t) (R .f) id (event R t) (calledClient R output id t) ∙ ap (afterAtClient (R .f) id (event R t)) (clients id c t)
 
-  -- What a client's event leaves it with is for the event's register.
-  event-for : (id : ClientId) (t : ℕ) (e : ClientEvent) → event R t ≡ some (at-client id e) → (turn : Turn) → onClientEvent id e (clientAt R id t) ≡ accepted turn → turn .next .register ≡ registerOf (at-client id e)
-  event-for id t (write-begun x card) q turn e =
+  -- A client that sends a message at its event is left with the event's register; what it takes sends none.
+  taking-sends-none : {A : Type 0} (step : Outcome Client) (turn : Turn) (message : Message) → takingTurn step ≡ accepted turn → turn .answer ≡ send message → A
+  taking-sends-none (accepted next) turn message e sends = let is : waits ≡ turn .answer = cc in apart (cc)
+  taking-sends-none (refused number) turn message e sends = apart (cc)
+
+  event-for : (id : ClientId) (t : ℕ) (e : ClientEvent) → event R t ≡ some (at-client id e) → (turn : Turn) (message : Message) → onClientEvent (R .f) id e (clientAt R id t) ≡ accepted turn
+      → turn .answer ≡ send message → turn .next .register ≡ registerOf (at-client id e)
+  event-for id t (write-begun x card) q turn m e sends =
       begins-write-facts (clientAt R id t) x card turn (good-client R id (R .at-correct t (begins-write id x card) q) t .fits) (R .have-bytes t (begins-write id x card) q) e .register-is
-  event-for id t (read-begun x) q turn e = begins-read-facts (clientAt R id t) x turn (good-client R id (R .at-correct t (begins-read id x) q) t .fits) e .register-is
-  event-for id t (reply-handed bytes verdicts) q turn e =
+  event-for id t (read-begun x) q turn m e sends = begins-read-facts (clientAt R id t) x turn (good-client R id (R .at-correct t (begins-read id x) q) t .fits) e .register-is
+  event-for id t (reply-handed bytes verdicts) q turn m e sends =
       let here = to-client id bytes verdicts in
       let (message, admitted, stepped, facts) = handed-takes R id (clientAt R id t) bytes verdicts turn (good-client R id (R .at-correct t here q) t) (R .have-bytes t here q) e in
       facts .same-register ∙ sym (found-register AtClient bytes (clientAt R id t .register) message (admitted .decodes))
+  event-for id t (made nonce) q turn m e sends = taking-sends-none (making (R .f) id nonce) turn m e sends
+  event-for id t (proof-handed x bytes verdicts) q turn m e sends = taking-sends-none (takeProof (clientAt R id t) x bytes verdicts) turn m e sends
 
   answers-to : (t : ℕ) (e : Event) → event R t ≡ some e → givenAt R output t e ≡ given (registerOf e) (output t) (answerTo R t (some e))
   unfolding givenAt answerTo
   answers-to t (at-replica id e) q =
       ap (λ (bank : Bank). replicaEventCall e (output t) bank .gives) (replicas id (R .at-correct t (at-replica id e) q) t) ∙ replica-called (output t) (long t) e (bankAt R id t) .gives
   answers-to t (at-client id e) q =
-      rw (clients id (R .at-correct t (at-client id e) q) t) (client-called (output t) (long t) id e (clientAt R id t) .gives (registerOf (at-client id e)) (event-for id t e q))
+      rw (clients id (R .at-correct t (at-client id e) q) t) (client-called (output t) (long t) (R .f) id e (clientAt R id t) .gives (registerOf (at-client id e)) (event-for id t e q))
 
   -- For every run, whatever stood in the outputs.
   pub calls-are-run : CallsAreRun R output

@@ -2,6 +2,7 @@ pub mod Atomicity
 pub mod Bodies
 pub mod Called
 pub mod Demand3
+pub mod Handing
 pub mod Held
 pub mod Nonces
 pub mod Operations

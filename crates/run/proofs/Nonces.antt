@@ -1,11 +1,11 @@
--- A client's nonces rise: what it asked before a beginning has another nonce. Assumes nothing.
-use mathlib.Core.Path.{_≡_, ap, _∙_}
+-- The nonces that a client used before an event are at most its record's last one: what it asked before a beginning has another nonce. A making may lower
+-- the last one, but not below a nonce that was used. Assumes nothing.
+use mathlib.Core.Path.{_≡_, ap, subst, _∙_}
 use mathlib.Core.Logic.{⊎-elim}
 use mathlib.Core.Bool.{Bool, true, false}
 use mathlib.Core.List.{List}
-use Prim.Native.Nat.{ℕ, zero, suc, _+_, _≤_, _<_}
+use Prim.Native.Nat.{ℕ, zero, suc, _+_, _-_, _≤_, _<_}
 use native.Mathlib.Omega.{arith}
-use native.Mathlib.Nat.{eq-or-lt-of-le, le-of-suc-le-suc}
 use Rattle.base.specs.Outcome.{accepted}
 use Rattle.base.specs.declared.party.ClientId.{ClientId}
 use Rattle.base.specs.declared.party.RegisterId.{RegisterId}
@@ -16,9 +16,10 @@ use Rattle.protocol.specs.declared.client.Client.{Client}
 use Rattle.protocol.specs.declared.client.Phase.{Phase}
 use Rattle.protocol.proofs.ClientCases.{Begun, ClientCase, stamp-counted, stamps-enough, stamps-ended, prepared-counted, prepareds-enough, written-counted, writtens-enough, card-counted, cards-agree, cards-viewed, cards-differ, back-counted, back-enough}
 use Rattle.wire.specs.Acceptance.{client}
+use Rattle.run.specs.Premises.{Asks, for-stamps, for-cards, Used, Premises}
 use Rattle.run.specs.Run.{Run, clientAt, answerAt, At, Said}
-use Rattle.run.proofs.Turns.{ClientStep, ClientTurn, rested, wrote, asked, heard, client-turn}
-use Rattle.run.proofs.Slots.{order}
+use Rattle.run.proofs.Turns.{ClientStep, ClientTurn, rested, wrote, asked, heard, client-turn, made-again, took}
+use Rattle.run.proofs.Slots.{order, split-last}
 
 -- Whether an answer is a question with a nonce.
 abbrev isQuestion : Answer → Bool
@@ -50,11 +51,6 @@ quiet before message turn (cards-differ s n c p b k g shown e₁ e₂ e₃ e₄ 
 quiet before message turn (back-counted s t k e₁ e₂ e₃ e₄ left) = ap isQuestion (left .answer-is)
 quiet before message turn (back-enough s t k e₁ e₂ e₃ e₄ left) = ap isQuestion (left .answer-is)
 
--- A question of a client with a nonce.
-pub data Asks (id : ClientId) (nonce : ℕ) (message : Message) : Type 0 where
-  for-stamps : message ≡ READ-STAMP id nonce → Asks id nonce message
-  for-cards : message ≡ READ id nonce → Asks id nonce message
-
 asks-question : (id : ClientId) (n : ℕ) (m : Message) → Asks id n m → isQuestion (send m) ≡ true
 asks-question id n m (for-stamps e) = ap (λ (x : Message). isQuestion (send x)) e
 asks-question id n m (for-cards e) = ap (λ (x : Message). isQuestion (send x)) e
@@ -67,11 +63,14 @@ cards-nonce : (id id′ : ClientId) (n n′ : ℕ) (m : Message) → Asks id n m
 cards-nonce id id′ n n′ m (for-stamps e) q = apart (cc)
 cards-nonce id id′ n n′ m (for-cards e) q = cc
 
-module _ (R : Run) (id : ClientId) (c : R .correct-client id ≡ true) where
-  -- What event t does to the client's nonce, and what it asks.
+module _ (R : Run) (id : ClientId) (c : R .correct-client id ≡ true) (P : Premises R) where
+  abbrev last : ℕ → ℕ
+  last t = clientAt R id t .«last_nonce»
+
+  -- What event t does to the client's nonces, and what it asks.
   record Moves (t : ℕ) : Type 0 where
-    up : clientAt R id t .«last_nonce» ≤ clientAt R id (suc t) .«last_nonce»
-    asks : (n : ℕ) (m : Message) → Asks id n m → At R t (client id) → answerAt R t ≡ accepted (send m) → n ≤ clientAt R id (suc t) .«last_nonce»
+    up : (n : ℕ) → Used R id n t → n ≤ last t → n ≤ last (suc t)
+    asks : (n : ℕ) (m : Message) → Asks id n m → At R t (client id) → answerAt R t ≡ accepted (send m) → n ≤ last (suc t)
 
   begun-moves : (t : ℕ) (x : RegisterId) (question : Message) (phase : Phase) (card : List ℕ) (turn : Turn)
       → ((n : ℕ) (m : Message) → Asks id n m → m ≡ question → n ≡ clientAt R id t .«last_nonce» + 1)
@@ -79,7 +78,7 @@ module _ (R : Run) (id : ClientId) (c : R .correct-client id ≡ true) where
   begun-moves t x question phase card turn own b s =
       let next : clientAt R id (suc t) .«last_nonce» ≡ clientAt R id t .«last_nonce» + 1 = rw (s .next-is) (b .nonce) in
       record {
-        up = omega arith;
+        up = λ n used low. omega arith;
         asks = λ n m a at e.
             let same : m ≡ question = cc (s .answer-is, b .sends) in
             let is = own n m a same in
@@ -90,33 +89,44 @@ module _ (R : Run) (id : ClientId) (c : R .correct-client id ≡ true) where
   moves t = go (client-turn R id c t)
     where
       go : ClientTurn R id t → Moves t
-      go (rested same silent) = record { up = rw same (omega arith); asks = λ n m a at e. absurd (silent at (send m) e) }
+      go (rested same silent) = record { up = λ n used low. let next : last (suc t) ≡ last t = ap (λ (after : Client). after .«last_nonce») same in omega arith; asks = λ n m a at e. absurd (silent at (send m) e) }
       go (wrote x card turn e b s) = begun-moves t x _ _ card turn (λ n m a q. stamps-nonce id _ n _ m a q) b s
       go (asked x turn e b s) = begun-moves t x _ _ _ turn (λ n m a q. cards-nonce id _ n _ m a q) b s
       go (heard h) =
           let next : clientAt R id (suc t) .«last_nonce» ≡ clientAt R id t .«last_nonce» = rw (h .step .next-is) (h .facts .same-nonce) in
           record {
-            up = omega arith;
+            up = λ n used low. omega arith;
             asks = λ n m a at e.
                 let is : h .turn .answer ≡ send m = cc (h .step .answer-is) in
                 let no-question = quiet (clientAt R id t) (h .message) (h .turn) (h .facts .case) in
                 let question = ap isQuestion is ∙ asks-question id n m a in
                 apart (cc);
           }
+      -- The premise on new nonces is for this.
+      go (made-again nonce e positive s) =
+          let next : clientAt R id (suc t) .«last_nonce» ≡ nonce - 1 = ap (λ (after : Client). after .«last_nonce») (s .next-is) in
+          record {
+            up = λ n used low. let above = P .new-nonces t id nonce e (waits, s .answer-is) n used in omega arith;
+            asks = λ n m a at q. apart (cc (s .answer-is));
+          }
+      go (took x bytes verdicts after e it s) =
+          let next : clientAt R id (suc t) .«last_nonce» ≡ clientAt R id t .«last_nonce» = ap (λ (after : Client). after .«last_nonce») (s .next-is ∙ it .after-is) in
+          record { up = λ n used low. omega arith; asks = λ n m a at q. apart (cc (s .answer-is)) }
 
-  nonce-rises : (t t′ : ℕ) → t ≤ t′ → clientAt R id t .«last_nonce» ≤ clientAt R id t′ .«last_nonce»
-  nonce-rises t zero l = let z : t ≡ 0 = omega arith in rw z (omega arith)
-  nonce-rises t (suc t′) l =
-      ⊎-elim (λ z. rw z (omega arith))
-      (λ z. let step = moves t′ .up in let rest = nonce-rises t t′ (le-of-suc-le-suc z) in omega arith)
-      (eq-or-lt-of-le l)
+  -- All nonces used before event t are at most the record's last one.
+  used-below : (t n : ℕ) → Used R id n t → n ≤ last t
+  used-below zero n (x, m, a, e) = let l = e .earlier in absurd (omega arith)
+  used-below (suc t) n (x, m, a, e) =
+      split-last (e .time) t (e .earlier)
+      (λ z. subst (λ (u : ℕ). n ≤ last (suc u)) z (moves (e .time) .asks n m a (e .by) (e .answered)))
+      (λ l. let before : Used R id n t = (x, m, a, record { time = e .time; earlier = l; by = e .by; register-is = e .register-is; answered = e .answered }) in
+      moves t .up n before (used-below t n before))
 
   -- A question with a nonce above those used before t₀ was sent at t₀ or later.
   pub asked-since : (t₀ t n : ℕ) (x : RegisterId) (m : Message) → Asks id n m → clientAt R id t₀ .«last_nonce» < n → (e : Said R x (client id) m t) → t₀ ≤ e .time
   asked-since t₀ t n x m a above e =
       ⊎-elim (λ (l : t₀ ≤ e .time). l)
       (λ (l : e .time < t₀).
-      let used = moves (e .time) .asks n m a (e .by) (e .answered) in
-      let rose = nonce-rises (suc (e .time)) t₀ l in
+      let used = used-below t₀ n (x, m, a, record { time = e .time; earlier = l; by = e .by; register-is = e .register-is; answered = e .answered }) in
       absurd (omega arith))
       (order t₀ (e .time))

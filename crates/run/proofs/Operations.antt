@@ -42,14 +42,15 @@ use Rattle.protocol.proofs.Fit.{TimestampFits}
 use Rattle.wire.proofs.Tests7To11.{Passed}
 use Rattle.protocol.proofs.ClientCases.{Leaves, betterCard, betterSigners, PhaseFits, ClientCase, stamp-counted, stamps-enough, stamps-ended, prepared-counted, prepareds-enough, written-counted, writtens-enough, card-counted, cards-agree, cards-viewed, cards-differ, back-counted, back-enough}
 use Rattle.run.specs.Claims.{NotDone}
-use Rattle.run.specs.Premises.{CardOfRun, Premises}
+use Rattle.run.specs.Premises.{CardOfRun, Premises, Asks, for-stamps, for-cards}
 use Rattle.wire.specs.Acceptance.{senderOf, replica}
-use Rattle.run.specs.Run.{Run, clientAt, answerAt, Correct, Said}
+use Rattle.run.specs.Run.{Run, clientAt, answerAt, Correct, Said, makes, event}
 use Rattle.run.proofs.Turns.{same-replica, correct-replica-range, correct-client-range, GoodClient, good-client, ClientStep, Heard}
 use Rattle.run.proofs.SentMessages.{said-later, heard-said}
 use Rattle.run.proofs.Slots.{Backed, backed-later, shaped-backed, meet, card-backed}
 use Rattle.run.proofs.Held.{held, held-rises, written-held, Showed, stamp-showed, card-showed}
-use Rattle.run.proofs.Nonces.{Asks, for-stamps, for-cards, asked-since}
+use Rattle.run.proofs.Nonces.{asked-since}
+use Rattle.run.proofs.Stages.{preparedFor}
 use Rattle.wire.specs.Parts.{preparedTimestamp, preparedSigners}
 
 -- ---- The best of the replies
@@ -260,9 +261,12 @@ module _ (R : Run) (x : RegisterId) where
   pub data Next (w : Bool) (id : ClientId) (card : List ℕ) (t₀ t : ℕ) : Type 0 where
     goes-on : During w id card t₀ (suc t) (clientAt R id (suc t)) (clientAt R id (suc t) .phase)
         → NotDone R t → Next w id card t₀ t
+    -- A write had this timestamp.
     finishes : (timestamp : Timestamp) (shown : List ℕ) (signers : ReplicaSet) → answerAt R t ≡ accepted (done timestamp shown signers)
-        → AtDone w id card t₀ (suc t) timestamp shown signers → Next w id card t₀ t
+        → (w ≡ true → preparedFor (clientAt R id t .phase) ≡ some (number timestamp)) → AtDone w id card t₀ (suc t) timestamp shown signers → Next w id card t₀ t
     stops : w ≡ true → answerAt R t ≡ accepted ended → Next w id card t₀ t
+    -- The client is made again.
+    breaks-off : (nonce : ℕ) → event R t ≡ some (makes id nonce) → answerAt R t ≡ accepted waits → Next w id card t₀ t
 
   module _ (P : Premises R) (id : ClientId) (correct : R .correct-client id ≡ true) (t₀ t : ℕ) (register-is : clientAt R id t .register ≡ x) where
     abbrev now : Client
@@ -292,7 +296,7 @@ module _ (R : Run) (x : RegisterId) where
     within-time : (sender : ReplicaId) → R .correct-replica sender ≡ true → (question : Message) (nonce shown : ℕ) → Asks id nonce question → clientAt R id t₀ .«last_nonce» < nonce
         → Showed R x sender t question id shown → (held R x sender t₀ ≤ shown) × (shown ≤ held R x sender t)
     within-time sender c question nonce shown a new w =
-        let since : t₀ ≤ w .asked .time = asked-since R id correct t₀ (w .time) nonce x question a new (w .asked) in
+        let since : t₀ ≤ w .asked .time = asked-since R id correct P t₀ (w .time) nonce x question a new (w .asked) in
         let asked-before = w .asked .earlier in
         let shown-before = w .earlier in
         let shows = w .shows in
@@ -421,7 +425,7 @@ module _ (R : Run) (x : RegisterId) where
         })
     write-heard card in-run h it (writtens-enough sender timestamp counted e phase new full left) =
         let y : Writing id card t₀ t now (number timestamp) counted = subst (WriteIn id card t₀ t now) phase it in
-        finishes timestamp (currentCard now) (now .signers) (done-is (h .turn) (done timestamp (currentCard now) (now .signers)) Idle (h .step) left)
+        finishes timestamp (currentCard now) (now .signers) (done-is (h .turn) (done timestamp (currentCard now) (now .signers)) Idle (h .step) left) (λ w. ap preparedFor phase)
         (record {
           fits = carried-fits (subst PhaseFits phase (good .phase-fits));
           own = λ w. (y .chosen .own, y .card-is);
@@ -528,7 +532,7 @@ module _ (R : Run) (x : RegisterId) where
         let y : Reading id t₀ t now nonce (number best) counted showed = subst (ReadIn id t₀ t now) phase it in
         let q = take-card h sender nonce card proof best counted showed e stands y in
         finishes (bestOf best proof) (betterCard best proof card now) (betterSigners best proof now)
-        (done-is (h .turn) (done (bestOf best proof) (betterCard best proof card now) (betterSigners best proof now)) Idle (h .step) left)
+        (done-is (h .turn) (done (bestOf best proof) (betterCard best proof card now) (betterSigners best proof now)) Idle (h .step) left) (λ w. apart (cc))
         (record {
           fits = best-fits best proof (carried-fits (subst PhaseFits phase (good .phase-fits)));
           own = λ w. apart (cc);
@@ -540,7 +544,7 @@ module _ (R : Run) (x : RegisterId) where
         let y : Reading id t₀ t now nonce (number best) counted showed = subst (ReadIn id t₀ t now) phase it in
         let q = take-card h sender nonce card proof best counted showed e stands y in
         finishes (bestOf best proof) (betterCard best proof card now) (betterSigners best proof now)
-        (done-is (h .turn) (done (bestOf best proof) (betterCard best proof card now) (betterSigners best proof now)) Idle (h .step) left)
+        (done-is (h .turn) (done (bestOf best proof) (betterCard best proof card now) (betterSigners best proof now)) Idle (h .step) left) (λ w. apart (cc))
         (record {
           fits = best-fits best proof (carried-fits (subst PhaseFits phase (good .phase-fits)));
           own = λ w. apart (cc);
@@ -567,7 +571,7 @@ module _ (R : Run) (x : RegisterId) where
         })
     read-heard card₀ h it (back-enough sender timestamp counted e phase new full left) =
         let y : WritingBack t₀ t now (number timestamp) counted = subst (ReadIn id t₀ t now) phase it in
-        finishes timestamp (currentCard now) (now .signers) (done-is (h .turn) (done timestamp (currentCard now) (now .signers)) Idle (h .step) left)
+        finishes timestamp (currentCard now) (now .signers) (done-is (h .turn) (done timestamp (currentCard now) (now .signers)) Idle (h .step) left) (λ w. apart (cc))
         (record {
           fits = carried-fits (subst PhaseFits phase (good .phase-fits));
           own = λ w. apart (cc);

@@ -1,31 +1,33 @@
 -- Finished operations and their order. Assumes nothing.
 use mathlib.Core.Path.{_≡_, refl, sym, ap, subst, subst₂, _∙_}
 use mathlib.Core.Logic.{_⊎_, inl, inr, ⊎-elim}
-use mathlib.Core.Bool.{Bool, true, false}
+use mathlib.Core.Bool.{Bool, true, false, not}
 use mathlib.Core.List.{List}
 use mathlib.Core.Option.{Option, some}
 use Prim.Native.Nat.{ℕ, zero, suc, _+_, _%_, _≤_, _<_}
 use native.Mathlib.Omega.{arith}
 use native.Mathlib.Nat.{eq-or-lt-of-le}
 use Rattle.base.specs.Outcome.{accepted}
+use Rattle.base.specs.Party.{isClient, isWriter, isViewer}
 use Rattle.base.specs.Timestamp.{number}
 use Rattle.base.specs.declared.party.ClientId.{ClientId}
 use Rattle.base.specs.declared.party.RegisterId.{RegisterId}
 use Rattle.base.specs.declared.replica_set.ReplicaSet.{ReplicaSet}
 use Rattle.base.specs.declared.timestamp.Timestamp.{Timestamp}
+use Rattle.base.proofs.Booleans.{and-true-both}
 use Rattle.base.proofs.Apart.{apart}
 use Rattle.wire.specs.Sha256.{sha256}
 use Rattle.protocol.specs.Client.{done, ended}
 use Rattle.protocol.specs.Parts.{startCard}
 use Rattle.protocol.specs.declared.client.Client.{Client}
 use Rattle.protocol.specs.declared.client.Phase.the-variants.{Idle}
-use Rattle.run.specs.Claims.{Begins, NotDone, GoesOn, Finished, Viewed, ViewAfter, SameOperation, FinishedBefore, AtOneTimestamp, LiesBefore, Before}
+use Rattle.run.specs.Claims.{Begins, NotDone, GoesOn, Finished, Viewed, ViewAfter, SameOperation, FinishedBefore, AtOneTimestamp, LiesBefore, Before, NotMade}
 use Rattle.run.specs.Premises.{Accepted, CardOfRun, eventCard, Premises}
 use Rattle.wire.specs.Acceptance.{client}
-use Rattle.run.specs.Run.{Event, begins-write, begins-read, to-client, Run, partyOf, event, clientAt, answerAt, At, Correct}
-use Rattle.run.proofs.Turns.{same-client, Silent, ClientTurn, rested, wrote, asked, heard, client-turn}
+use Rattle.run.specs.Run.{Event, begins-write, begins-read, to-client, Run, partyOf, event, clientAt, answerAt, At, Correct, makes}
+use Rattle.run.proofs.Turns.{same-client, Silent, ClientTurn, rested, wrote, asked, heard, client-turn, made-again, took}
 use Rattle.run.proofs.Slots.{split-last, order, one-backed}
-use Rattle.run.proofs.Operations.{none-in, Settled, settled-later, Shown, shown-later, During, during-later, not-idle, moved, Above, AtDone, Next, goes-on, finishes, stops, heard-next}
+use Rattle.run.proofs.Operations.{none-in, Settled, settled-later, Shown, shown-later, During, during-later, not-idle, moved, Above, AtDone, Next, goes-on, finishes, stops, heard-next, breaks-off}
 
 pub three-ways : {P : Type 0} (a b : ℕ) → (a < b → P) → (a ≡ b → P) → (b < a → P) → P
 three-ways a b it y z = ⊎-elim (λ l. ⊎-elim y it (eq-or-lt-of-le l)) z (order a b)
@@ -82,6 +84,8 @@ module _ (R : Run) (x : RegisterId) where
             moved R x true id card t₀ t₀ turn _ s (b .phase-is) (b .register-is ∙ for-it, record { card-is = b .card-is ∙ is; new = omega arith; seen = λ r k c. none-in r k })
         go (asked y turn e′ b s) = apart (cc)
         go (heard h) = apart (cc (h .event-is))
+        go (made-again nonce e′ positive s) = apart (cc)
+        go (took y bytes verdicts next e′ it s) = apart (cc)
 
     start-read : (t₀ : ℕ) → event R t₀ ≡ some (begins-read id x) → Accepted R t₀ → During R x false id startCard t₀ (suc t₀) (clientAt R id (suc t₀)) (clientAt R id (suc t₀) .phase)
     start-read t₀ e a = go (client-turn R id c t₀)
@@ -94,6 +98,8 @@ module _ (R : Run) (x : RegisterId) where
             moved R x false id startCard t₀ t₀ turn _ s (b .phase-is)
             (b .register-is ∙ for-it, record { new = omega arith; seen = λ r k c. none-in r k; shown-by = λ r k c. none-in r k; is-shown = inl (refl, b .card-is, b .no-signers) })
         go (heard h) = apart (cc (h .event-is))
+        go (made-again nonce e′ positive s) = apart (cc)
+        go (took y bytes verdicts next e′ it s) = apart (cc)
 
     pub start : (w : Bool) (t₀ : ℕ) (b : Begins R x w id (event R t₀)) → Accepted R t₀
         → During R x w id (begunWith w id (event R t₀) b) t₀ (suc t₀) (clientAt R id (suc t₀)) (clientAt R id (suc t₀) .phase)
@@ -117,6 +123,8 @@ module _ (R : Run) (x : RegisterId) where
         go (wrote y card′ turn e b s) = busy (b .was-idle)
         go (asked y turn e b s) = busy (b .was-idle)
         go (heard h) = acts (to-client id (h .bytes) (h .verdicts), h .event-is, refl) (heard-next R x P id c t₀ t w card in-run h it)
+        go (made-again nonce e positive s) = acts (makes id nonce, e, refl) (breaks-off nonce e (s .answer-is))
+        go (took y bytes verdicts next e k s) = busy (k .was-idle)
 
     -- A busy client begins nothing.
     pub none-begun : (w w′ : Bool) (card : List ℕ) (t₀ t : ℕ) → During R x w id card t₀ t (clientAt R id t) (clientAt R id t .phase) → Begins R x w′ id (event R t) → Accepted R t → ⊥
@@ -129,11 +137,17 @@ module _ (R : Run) (x : RegisterId) where
         no-message true bytes verdicts e b = apart (cc (b .1))
         no-message false bytes verdicts e b = apart (cc)
 
+        no-making : (w′ : Bool) (nonce : ℕ) → event R t ≡ some (makes id nonce) → Begins R x w′ id (event R t) → ⊥
+        no-making true nonce e b = apart (cc (b .1))
+        no-making false nonce e b = apart (cc)
+
         go : ClientTurn R id t → ⊥
         go (rested same silent) = silent (begins-at w′ id t b) (a .0) (a .1)
         go (wrote y card′ turn e b′ s) = busy (b′ .was-idle)
         go (asked y turn e b′ s) = busy (b′ .was-idle)
         go (heard h) = no-message w′ (h .bytes) (h .verdicts) (h .event-is) b
+        go (made-again nonce e positive s) = no-making w′ nonce e b
+        go (took y bytes verdicts next e k s) = busy (k .was-idle)
 
   correct-at : (id : ClientId) (t : ℕ) → At R t (client id) → R .correct-client id ≡ true
   correct-at id t at = subst (Correct R) (at .2) (R .at-correct t (at .0) (at .1))
@@ -147,19 +161,33 @@ module _ (R : Run) (x : RegisterId) where
   -- What no event between beginning and end does: a read never ends for lack of a successor.
   abbrev Between : Bool → ℕ → Type 0
   Between true t = GoesOn R t
-  Between false t = NotDone R t
+  Between false t = NotDone R t × NotMade R t
 
   between : (w : Bool) (t : ℕ) → GoesOn R t → Between w t
   between true t g = g
-  between false t g = g .not-done
+  between false t g = (g .not-done, g .not-made)
 
   between-done : (w : Bool) (t : ℕ) → Between w t → NotDone R t
   between-done true t g = g .not-done
-  between-done false t g = g
+  between-done false t g = g .0
+
+  between-made : (w : Bool) (t : ℕ) → Between w t → NotMade R t
+  between-made true t g = g .not-made
+  between-made false t g = g .1
 
   between-ended : (w : Bool) (t : ℕ) → w ≡ true → Between w t → answerAt R t ≡ accepted ended → ⊥
   between-ended true t e g = g .not-ended
   between-ended false t e g = apart (cc)
+
+  -- A viewing client is not made again.
+  never-made : (id : ClientId) → isViewer id ≡ true → (t : ℕ) → At R t (client id) → NotMade R t
+  never-made id viewer t at id′ nonce e a =
+      let one : at .0 ≡ makes id′ nonce = cc (at .1) in
+      let party : client id ≡ client id′ = sym (at .2) ∙ ap partyOf one in
+      let same : id ≡ id′ = cc in
+      let writer : isWriter id ≡ true = subst (λ (i : ClientId). isWriter i ≡ true) (sym same) (R .writers-made t id′ nonce e) in
+      let none : not (isWriter id) ≡ true = and-true-both (isClient id) (not (isWriter id)) viewer .1 in
+      apart (cc (ap not writer))
 
   module _ (P : Premises R) where
     -- An operation that began at t₀ is under way as long as nothing ends it.
@@ -181,7 +209,8 @@ module _ (R : Run) (x : RegisterId) where
         go : t₀ < t → Turned id c w card t₀ t → Under (suc t)
         go k (waits it silent) = it
         go k (acts at (goes-on it not-done)) = it
-        go k (acts at (finishes timestamp shown signers e it)) = absurd (between-done w t (none-between t k l′ at) timestamp shown signers e)
+        go k (acts at (finishes timestamp shown signers e had it)) = absurd (between-done w t (none-between t k l′ at) timestamp shown signers e)
+        go k (acts at (breaks-off nonce e a)) = absurd (between-made w t (none-between t k l′ at) id nonce e (_, a))
         go k (acts at (stops is-write e)) = absurd (between-ended w t is-write (none-between t k l′ at) e)
 
     during : (o : Finished R x) (t : ℕ) → o .begun < t → t ≤ o .finished
@@ -203,7 +232,8 @@ module _ (R : Run) (x : RegisterId) where
         go : Turned id c w begun t₀ end → AtDone R x w id begun t₀ (suc end) timestamp card signers
         go (waits it silent) = absurd (silent at (done timestamp card signers) e)
         go (acts at (goes-on it not-done)) = absurd (not-done timestamp card signers e)
-        go (acts at (finishes timestamp′ card′ signers′ e′ it)) =
+        go (acts at (breaks-off nonce e′ a′)) = apart (cc)
+        go (acts at (finishes timestamp′ card′ signers′ e′ had it)) =
             let same-timestamp : timestamp′ ≡ timestamp = cc in
             let same-card : card′ ≡ card = cc in
             let same-signers : signers′ ≡ signers = cc in
@@ -215,7 +245,7 @@ module _ (R : Run) (x : RegisterId) where
     finish o = first-done (o .id) (o .is-write) (o .begun) (o .begins) (o .not-refused) (o .finished) (o .after) (λ t l l′ at. between (o .is-write) t (o .none-between t l l′ at)) (o .at-client) (o .timestamp) (o .card) (o .signers) (o .is-done)
 
     pub view : (v : Viewed R x) → AtDone R x false (v .id) startCard (v .begun) (suc (v .finished)) (v .timestamp) (v .card) (v .signers)
-    view v = first-done (v .id) false (v .begun) (v .begins) (v .not-refused) (v .finished) (v .after) (v .none-between) (v .at-client) (v .timestamp) (v .card) (v .signers) (v .is-done)
+    view v = first-done (v .id) false (v .begun) (v .begins) (v .not-refused) (v .finished) (v .after) (λ t l l′ at. (v .none-between t l l′ at, never-made (v .id) (v .by-viewer) t at)) (v .at-client) (v .timestamp) (v .card) (v .signers) (v .is-done)
 
     -- ---- Timestamps rise
 

@@ -16,10 +16,10 @@ use Rattle.wire.specs.Decode.{decode}
 use Rattle.wire.specs.Message.{Message}
 use Rattle.wire.specs.Signatures.{Signature, signaturesOf}
 use Rattle.wire.specs.declared.message.Party.the-variants.{Replica as AtReplica, Client as AtClient}
-use Rattle.protocol.specs.Events.{request-handed, order-handed, write-begun, read-begun, reply-handed}
+use Rattle.protocol.specs.Events.{request-handed, order-handed, write-begun, read-begun, reply-handed, made, proof-handed}
 use Rattle.run.specs.Claims.{Claims}
 use Rattle.run.specs.Prefix.{prefix}
-use Rattle.run.specs.Premises.{TrueVerdicts, TrueFor, TrueAt, eventCard, CardOfRun, Premises}
+use Rattle.run.specs.Premises.{TrueVerdicts, TrueFor, TrueAt, eventCard, CardOfRun, Premises, Accepted, Used, NewNonces}
 use Rattle.run.specs.Run.{Event, at-replica, at-client, Run, afterAtReplica, afterAtClient, event, bankAt, clientAt, answerTo, answerAt, Sent}
 use Rattle.run.proofs.Demand3.{demand-3}
 use Rattle.run.proofs.Slots.{order}
@@ -54,7 +54,7 @@ module _ (R : Run) (n : ℕ) where
   unfolding clientAt
   client-same id zero l = refl
   client-same id (suc t) l =
-      ap (λ (e : Option Event). afterAtClient id e (clientAt S id t)) (event-same t l) ∙ ap (afterAtClient id (event R t)) (client-same id t (omega arith))
+      ap (λ (e : Option Event). afterAtClient (R .f) id e (clientAt S id t)) (event-same t l) ∙ ap (afterAtClient (R .f) id (event R t)) (client-same id t (omega arith))
 
   answer-to : (t : ℕ) (e : Option Event) → t < n → answerTo S t e ≡ answerTo R t e
   unfolding answerTo
@@ -101,6 +101,8 @@ module _ (R : Run) (n : ℕ) where
   true-at t (some (at-client id (read-begun x))) l h = tt
   true-at t (some (at-replica id (request-handed bytes verdicts))) l h = true-for t bytes verdicts (decode AtReplica bytes) l h
   true-at t (some (at-replica id (order-handed order))) l h = tt
+  true-at t (some (at-client id (made nonce))) l h = tt
+  true-at t (some (at-client id (proof-handed x bytes verdicts))) l h = tt
   true-at t (some (at-client id (reply-handed bytes verdicts))) l h = true-for t bytes verdicts (decode AtClient bytes) l h
 
   none-true : (t : ℕ) → TrueAt S t none
@@ -116,12 +118,38 @@ module _ (R : Run) (n : ℕ) where
       here : k .time < n → CardOfRun R card
       here l = record { time = k .time; carried = ap (eventCard R) (sym (event-same (k .time) l)) ∙ k .carried; not-refused = (k .not-refused .0, sym (answer-same (k .time) l) ∙ k .not-refused .1) }
 
+  accepted-same : (t : ℕ) → t < n → Accepted S t → Accepted R t
+  accepted-same t l a = (a .0, sym (answer-same t l) ∙ a .1)
+
+  -- A nonce used in the prefix was used in the run.
+  used-same : (id : ClientId) (k t : ℕ) → t ≤ n → Used S id k t → Used R id k t
+  used-same id k t l (x, m, a, said) =
+      let before = said .earlier in
+      let early : said .time < n = omega arith in (
+        x,
+        m,
+        a,
+        record {
+          time = said .time;
+          earlier = before;
+          by = (said .by .0, sym (event-same (said .time) early) ∙ said .by .1, said .by .2);
+          register-is = said .register-is;
+          answered = sym (answer-same (said .time) early) ∙ said .answered;
+        },
+      )
+
+  new-same : Premises R → NewNonces S
+  new-same P t id nonce e a k used =
+      ⊎-elim (λ l. let none-there = behind n (R .events) t l in apart (cc))
+      (λ l. P .new-nonces t id nonce (sym (event-same t l) ∙ e) (accepted-same t l a) k (used-same id k t (omega arith) used)) (order n t)
+
   -- A prefix of a run that meets the premises meets them.
   pub prefix-premises : Premises R → Premises S
   prefix-premises P =
       record {
         few-faulty = P .few-faulty;
         true-verdicts = λ t. ⊎-elim (λ l. rw (behind n (R .events) t l) (none-true t)) (λ l. rw (event-same t l) (true-at t (event R t) (omega arith) (P .true-verdicts t))) (order n t);
+        new-nonces = new-same P;
         different-digests = λ card card′ k k′ e. P .different-digests card card′ (card-same card k) (card-same card′ k′) e;
       }
 

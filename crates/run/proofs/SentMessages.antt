@@ -33,7 +33,7 @@ use Rattle.run.specs.Premises.{TrueVerdicts, TrueFor, TrueAt, Premises}
 use Rattle.wire.specs.Acceptance.{senderOf, Sender, replica, client}
 use Rattle.run.specs.Run.{Event, begins-write, begins-read, to-replica, to-client, registerOf, Run, event, clientAt, answerAt, At, Correct, Said, Sent}
 use Rattle.run.proofs.Bodies.{covered}
-use Rattle.run.proofs.Turns.{same-replica, Answers, RegisterStep, register-step, step-register, ClientTurn, rested, wrote, asked, heard, client-turn, Heard}
+use Rattle.run.proofs.Turns.{same-replica, Answers, RegisterStep, register-step, step-register, ClientTurn, rested, wrote, asked, heard, client-turn, Heard, made-again, took}
 
 module _ (R : Run) where
   pub said-later : (x : RegisterId) (party : Sender) (message : Message) (t t′ : ℕ) → t ≤ t′ → Said R x party message t → Said R x party message t′
@@ -73,6 +73,8 @@ module _ (R : Run) where
           let small = decoded-register AtClient (h .bytes) own (h .message) (h .admitted .decodes) (R .have-bytes t (to-client id (h .bytes) (h .verdicts)) (h .event-is)) in
           here (to-client id (h .bytes) (h .verdicts)) (h .event-is) (subst (λ (x : RegisterId). x .0 < 256) (sym (found-register AtClient (h .bytes) own (h .message) (h .admitted .decodes))) small)
           (subst LegalAnswer same (h .facts .legal))
+      go (made-again nonce e positive s) = apart (cc (s .answer-is))
+      go (took x bytes verdicts next e it s) = apart (cc (s .answer-is))
 
   -- A correct party that sent the bytes of a legal message for a register sent that message for it.
   pub said : (party : Sender) → Correct R party → (x : RegisterId) (message : Message) → Legal x message → (t : ℕ) → Sent R party (body x message) t → Said R x party message t

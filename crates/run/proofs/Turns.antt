@@ -30,7 +30,8 @@ use Rattle.base.specs.ReplicaSet.{empty}
 use Rattle.base.specs.Timestamp.{start}
 use Rattle.protocol.specs.Parts.{startCard}
 use Rattle.protocol.specs.Bank.{bankPart, withBankPart, freshBank, placeIn, bankStep}
-use Rattle.protocol.specs.Client.{Answer, send, Turn, beginWrite, beginRead, onReply, clientStep}
+use Rattle.protocol.specs.Client.{Answer, send, waits, Turn, freshClient, beginWrite, beginRead, onReply, clientStep}
+use Rattle.protocol.specs.Handing.{making, takeProof, ProofTaken}
 use Rattle.protocol.specs.Order.{withWithdrawn, takeOrder}
 use Rattle.protocol.specs.RegisterReplica.{Reply, freshRegister, onRequest, registerStep}
 use Rattle.protocol.specs.Viewer.{onViewerReply, viewerStep}
@@ -43,14 +44,15 @@ use Rattle.protocol.specs.declared.replica.RegisterReplica.{RegisterReplica}
 use Rattle.protocol.proofs.BankFacts.{fresh-part, part-elsewhere, part-there}
 use Rattle.protocol.proofs.Fit.{SlotsFit, HeldFits, RegisterReplicaFits, ClientFits}
 use Rattle.protocol.proofs.FreshRecords.{fresh-replica-fits, fresh-client-fits}
-use Rattle.protocol.proofs.OrderFacts.{took}
+use Rattle.protocol.proofs.Handing.{making-accepted, takes-proof, taken-fits}
+use Rattle.protocol.proofs.OrderFacts.{took as order-took}
 use Rattle.protocol.proofs.RegisterFacts.{RegisterFacts, register-facts}
 use Rattle.protocol.proofs.ClientCases.{Begun, PhaseFits, ClientFacts}
 use Rattle.protocol.proofs.ClientFacts.{begins-write as begins-write-facts, begins-read as begins-read-facts, client-facts, viewer-facts}
 use Rattle.protocol.proofs.Towards.{client-takes, viewer-takes}
 use Rattle.wire.specs.Acceptance.{Sender, replica, client}
-use Rattle.protocol.specs.Events.{ReplicaEvent, ClientEvent, request-handed, order-handed, write-begun, read-begun, reply-handed, BankTurn, bankTurn, orderTurn, onReplicaEvent, nextBank, bankAnswer, handedStep, onClientEvent, nextClient, clientAnswer}
-use Rattle.run.specs.Run.{Event, at-replica, at-client, begins-write, begins-read, to-replica, order-to, to-client, Run, partyOf, registerOf, event, bankAt, registerReplicaAt, registerAt, clientAt, answerTo, answerAt, At}
+use Rattle.protocol.specs.Events.{ReplicaEvent, ClientEvent, request-handed, order-handed, write-begun, read-begun, reply-handed, made, proof-handed, BankTurn, bankTurn, orderTurn, onReplicaEvent, nextBank, bankAnswer, handedStep, takingTurn, onClientEvent, nextClient, clientAnswer}
+use Rattle.run.specs.Run.{Event, at-replica, at-client, begins-write, begins-read, to-replica, order-to, to-client, makes, proof-to, Run, partyOf, registerOf, event, bankAt, registerReplicaAt, registerAt, clientAt, answerTo, answerAt, At}
 
 -- Ids are told by their numbers.
 pub same-replica : (a b : ReplicaId) → a .0 ≡ b .0 → a ≡ b
@@ -158,7 +160,7 @@ module _ (R : Run) where
       go (refused n) q = refused-stays id t (order-handed order) n e (ap orderTurn q)
       go (accepted next) q =
           let both = bank-outcome id t (order-handed order) _ e (ap orderTurn q) in
-          all-rest _ (both .0 ∙ took (bankAt R id t) order next q .next-is) (λ at message a. apart (cc (both .1)))
+          all-rest _ (both .0 ∙ order-took (bankAt R id t) order next q .next-is) (λ at message a. apart (cc (both .1)))
 
   own-bank-turn : (id : ReplicaId) (t : ℕ) → GoodBank id (bankAt R id t) → (e : ReplicaEvent) → event R t ≡ some (at-replica id e) → WholeTurn id t
   own-bank-turn id t good (request-handed bytes verdicts) q = bank-here id t bytes verdicts good q
@@ -348,13 +350,17 @@ module _ (R : Run) where
     wrote : (x : RegisterId) (card : List ℕ) (turn : Turn) → event R t ≡ some (begins-write id x card) → WriteBegun id t x card turn → ClientStep id t turn → ClientTurn id t
     asked : (x : RegisterId) (turn : Turn) → event R t ≡ some (begins-read id x) → ReadBegun id t x turn → ClientStep id t turn → ClientTurn id t
     heard : Heard id t → ClientTurn id t
+    -- Document 02, #106: it is made again, whatever it was doing; or, idle, it takes a written proof.
+    made-again : (nonce : ℕ) → event R t ≡ some (makes id nonce) → 1 ≤ nonce → ClientStep id t (record { answer = waits; next = freshClient (R .f) id nonce }) → ClientTurn id t
+    took : (x : RegisterId) (bytes verdicts : List ℕ) (next : Client) → event R t ≡ some (proof-to id x bytes verdicts) → ProofTaken (clientAt R id t) x bytes next
+        → ClientStep id t (record { answer = waits; next = next }) → ClientTurn id t
 
   -- What an event at a client leaves, by its outcome.
   pub record Left (id : ClientId) (t : ℕ) (out : Outcome Turn) : Type 0 where
     pub next-is : clientAt R id (suc t) ≡ nextClient (clientAt R id t) out
     pub answer-is : answerAt R t ≡ clientAnswer out
 
-  pub client-outcome : (id : ClientId) (t : ℕ) (e : ClientEvent) → event R t ≡ some (at-client id e) → Left id t (onClientEvent id e (clientAt R id t))
+  pub client-outcome : (id : ClientId) (t : ℕ) (e : ClientEvent) → event R t ≡ some (at-client id e) → Left id t (onClientEvent (R .f) id e (clientAt R id t))
   unfolding clientAt answerTo
   client-outcome id t e q = record { next-is = rw (q, eq-eqb (id .0) (id .0) refl); answer-is = rw q }
 
@@ -362,6 +368,11 @@ module _ (R : Run) where
   by-outcome : (id : ClientId) (t : ℕ) (out : Outcome Turn) → Left id t out → ((turn : Turn) → out ≡ accepted turn → ClientStep id t turn → ClientTurn id t) → ClientTurn id t
   by-outcome id t (refused n) left next = rested (left .next-is) (λ at answer a. apart (cc (left .answer-is)))
   by-outcome id t (accepted turn) left next = next turn refl (record { next-is = left .next-is; answer-is = left .answer-is })
+
+  by-taking : (id : ClientId) (t : ℕ) (out : Outcome Client) → Left id t (takingTurn out)
+      → ((next : Client) → out ≡ accepted next → ClientStep id t (record { answer = waits; next = next }) → ClientTurn id t) → ClientTurn id t
+  by-taking id t (refused n) left next = rested (left .next-is) (λ at answer a. apart (cc (left .answer-is)))
+  by-taking id t (accepted after) left next = next after refl (record { next-is = left .next-is; answer-is = left .answer-is })
 
   -- What a client takes, at either engine: the message, the step itself, and its facts.
   abbrev pub TakesMessage : (List ℕ → Message → Outcome Turn) → Client → List ℕ → List ℕ → Turn → Type 0
@@ -412,6 +423,13 @@ module _ (R : Run) where
       by-outcome id t (beginRead (clientAt R id t) x) (client-outcome id t (read-begun x) q) (λ turn k step.
       asked x turn q (begins-read-facts (clientAt R id t) x turn (good .fits) k) step)
   own-turn id t good (reply-handed bytes verdicts) q = client-here id t bytes verdicts good q
+  own-turn id t good (made nonce) q =
+      by-taking id t (making (R .f) id nonce) (client-outcome id t (made nonce) q) (λ next k step.
+      let (writer, positive, is) = making-accepted (R .f) id nonce .holds next k in
+      made-again nonce q positive (subst (λ (after : Client). ClientStep id t (record { answer = waits; next = after })) is step))
+  own-turn id t good (proof-handed x bytes verdicts) q =
+      by-taking id t (takeProof (clientAt R id t) x bytes verdicts) (client-outcome id t (proof-handed x bytes verdicts) q) (λ next k step.
+      took x bytes verdicts next q (takes-proof (clientAt R id t) x bytes verdicts next (good .fits .written-long) (R .have-bytes t (proof-to id x bytes verdicts) q) k) step)
 
   -- or another's.
   client-turn-of : (id : ClientId) (t : ℕ) → GoodClient id (clientAt R id t) → (e : Option Event) → event R t ≡ e → ClientTurn id t
@@ -442,6 +460,17 @@ module _ (R : Run) where
       go good (wrote x card turn e b s) = begun-good id t x _ _ card turn good (omega arith) b s
       go good (asked x turn e b s) = begun-good id t x _ _ startCard turn good (omega arith) b s
       go good (heard h) = let facts = h .facts in rw (h .step .next-is) (record { f-is = facts .same-f ∙ good .f-is; id-is = facts .same-id ∙ good .id-is; fits = facts .fits; phase-fits = facts .phase-fits })
+      go good (made-again nonce e positive s) =
+          let range = correct-client-range id c in
+          rw (s .next-is) (record { f-is = refl; id-is = refl; fits = fresh-client-fits (R .f) id nonce (omega arith) (R .have-bytes t (makes id nonce) e); phase-fits = tt })
+      go good (took x bytes verdicts next e it s) =
+          rw (s .next-is)
+          (record {
+            f-is = ap (λ (after : Client). after .f) (it .after-is) ∙ good .f-is;
+            id-is = ap (λ (after : Client). after .id) (it .after-is) ∙ good .id-is;
+            fits = taken-fits (clientAt R id t) x bytes next (good .fits) (R .have-bytes t (proof-to id x bytes verdicts) e) it;
+            phase-fits = subst PhaseFits (sym (ap (λ (after : Client). after .phase) (it .after-is))) (good .phase-fits);
+          })
 
   pub client-turn : (id : ClientId) → R .correct-client id ≡ true → (t : ℕ) → ClientTurn id t
   client-turn id c t = client-turn-of id t (good-client id c t) (event R t) refl

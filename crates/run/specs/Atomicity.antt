@@ -1,6 +1,6 @@
 -- Atomic reads and writes of a register, in the usual sense (linearizability): one order of all its operations, as if each happened at one moment
--- between its beginning and its end. As usual, a write that is under way may count. Faulty clients have no events: for each
--- timestamp of theirs that a read shows, a write of theirs is added (BFT-linearizability).
+-- between its beginning and its end. As usual, a write that was not finished, since it is under way or its client was made again, counts if it
+-- took effect. Faulty clients have no events: for each timestamp of theirs that a read shows, a write of theirs is added (BFT-linearizability).
 use mathlib.Core.Path.{_≡_}
 use mathlib.Core.Logic.{_⊎_}
 use mathlib.Core.Bool.{Bool, true, false}
@@ -15,56 +15,61 @@ use Rattle.run.specs.ReadsFrom.{Write}
 use Rattle.run.specs.Run.{Run}
 
 module _ (R : Run) (x : RegisterId) where
-  -- What is put in order: the finished reads, the writes of correct clients that have their timestamp, and for a read that shows
-  -- a faulty client's timestamp a write of that client.
+  -- A write takes effect if a finished operation shows its timestamp and card, as every finished write does itself. Document 02, #106: a client
+  -- that is made again may ask one timestamp twice, with two cards; only one of them can be shown, and the other write is never finished.
+  abbrev pub TakesEffect : Write R x → Type 0
+  TakesEffect w = (o : Finished R x) × (number (o .timestamp) ≡ w .timestamp) × (o .card ≡ w .card)
+
+  -- What is put in order: the finished reads, the writes of correct clients that take effect, and for a read that shows a faulty client's
+  -- timestamp a write of that client.
   pub data Operation : Type 0 where
     read : (o : Finished R x) → o .is-write ≡ false → Operation
-    write : Write R x → Operation
+    write : (w : Write R x) → TakesEffect w → Operation
     faulty-write : (o : Finished R x) → o .is-write ≡ false → 1 ≤ number (o .timestamp) → R .correct-client (o .timestamp .client) ≡ false → Operation
 
   abbrev pub isWrite : Operation → Bool
   isWrite (read o r) = false
-  isWrite (write w) = true
+  isWrite (write w s) = true
   isWrite (faulty-write o r p f) = true
 
   -- The timestamp at which it lies, and the card that it shows or writes.
   abbrev pub placedAt : Operation → ℕ
   placedAt (read o r) = number (o .timestamp)
-  placedAt (write w) = w .timestamp
+  placedAt (write w s) = w .timestamp
   placedAt (faulty-write o r p f) = number (o .timestamp)
 
   abbrev pub operationCard : Operation → List ℕ
   operationCard (read o r) = o .card
-  operationCard (write w) = w .card
+  operationCard (write w s) = w .card
   operationCard (faulty-write o r p f) = o .card
 
-  -- It begins with event t, and ends with event t. A write that is under way does not end; a faulty client has no events.
+  -- It begins with event t, and ends with event t. A write that is not finished does not end; a faulty client has no events.
   abbrev pub BeginsAt : Operation → ℕ → Type 0
   BeginsAt (read o r) t = o .begun ≡ t
-  BeginsAt (write w) t = w .begun ≡ t
+  BeginsAt (write w s) t = w .begun ≡ t
   BeginsAt (faulty-write o r p f) t = ⊥
 
   abbrev pub EndsAt : Operation → ℕ → Type 0
   EndsAt (read o r) t = o .finished ≡ t
-  EndsAt (write w) t = (o : Finished R x) × (o .begun ≡ w .begun) × (o .finished ≡ t)
+  EndsAt (write w s) t = (o : Finished R x) × (o .begun ≡ w .begun) × (o .finished ≡ t)
   EndsAt (faulty-write o r p f) t = ⊥
 
-  -- Two that are one operation.
+  -- Two that are one operation. Writes at one timestamp are one, of one client with one card, which it may have begun twice: made again in between.
   abbrev pub Same : Operation → Operation → Type 0
   Same (read o r) (read o′ r′) = o .begun ≡ o′ .begun
-  Same (read o r) (write w) = ⊥
+  Same (read o r) (write w s) = ⊥
   Same (read o r) (faulty-write o′ r′ p′ f′) = ⊥
-  Same (write w) (read o r) = ⊥
-  Same (write w) (write w′) = w .begun ≡ w′ .begun
-  Same (write w) (faulty-write o r p f) = ⊥
+  Same (write w s) (read o r) = ⊥
+  Same (write w s) (write w′ s′) = w .timestamp ≡ w′ .timestamp
+  Same (write w s) (faulty-write o r p f) = ⊥
   Same (faulty-write o r p f) (read o′ r′) = ⊥
-  Same (faulty-write o r p f) (write w) = ⊥
+  Same (faulty-write o r p f) (write w s) = ⊥
   Same (faulty-write o r p f) (faulty-write o′ r′ p′ f′) = number (o .timestamp) ≡ number (o′ .timestamp)
 
   -- The order of the claims; only of two reads it matters when they finished.
   abbrev pub doneAt : Operation → ℕ
   doneAt (read o r) = o .finished
-  doneAt (write w) = 0
+  doneAt (write w s) = 0
   doneAt (faulty-write o r p f) = 0
 
   abbrev pub Precedes : Operation → Operation → Type 0

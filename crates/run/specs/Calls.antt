@@ -21,10 +21,11 @@ calledAtReplica id none old before = before
 calledAtReplica id (some (at-replica at e)) old before = cond (eqb (at .0) (id .0)) (replicaEventCall e old before .bank) before
 calledAtReplica id (some (at-client at e)) old before = before
 
-abbrev pub calledAtClient : ClientId → Option Event → List ℕ → Client → Client
-calledAtClient id none old before = before
-calledAtClient id (some (at-replica at e)) old before = before
-calledAtClient id (some (at-client at e)) old before = cond (eqb (at .0) (id .0)) (clientEventCall at e old before .client) before
+-- With the run's f, which a client is made again with.
+abbrev pub calledAtClient : ℕ → ClientId → Option Event → List ℕ → Client → Client
+calledAtClient f id none old before = before
+calledAtClient f id (some (at-replica at e)) old before = before
+calledAtClient f id (some (at-client at e)) old before = cond (eqb (at .0) (id .0)) (clientEventCall f at e old before .client) before
 
 -- `output t` is what the output that is lent to event t's call holds before it.
 module _ (R : Run) (output : ℕ → List ℕ) where
@@ -35,12 +36,12 @@ module _ (R : Run) (output : ℕ → List ℕ) where
 
   unfoldable pub calledClient : ClientId → ℕ → Client
   calledClient id zero = madeWith (R .f) id (R .first-nonce id)
-  calledClient id (suc t) = calledAtClient id (event R t) (output t) (calledClient id t)
+  calledClient id (suc t) = calledAtClient (R .f) id (event R t) (output t) (calledClient id t)
 
   -- What the call of an event at time t gives back.
   unfoldable pub givenAt : ℕ → Event → Given
   givenAt t (at-replica id e) = replicaEventCall e (output t) (calledReplica id t) .gives
-  givenAt t (at-client id e) = givenByClient (clientEventCall id e (output t) (calledClient id t))
+  givenAt t (at-client id e) = givenByClient (clientEventCall (R .f) id e (output t) (calledClient id t))
 
   pub record CallsAreRun : Type 0 where
     -- "Each is set up once, before the first event, with the run's f and its own number" .. "Its party gets the record that its

@@ -21,16 +21,21 @@ use Rattle.wire.specs.Proof.{PreparedProof, signerSet, readProof}
 use Rattle.wire.specs.Signatures.{preparedSignatures}
 use Rattle.run.specs.Premises.{TrueVerdicts, Accepted}
 use Rattle.wire.specs.Acceptance.{client}
-use Rattle.run.specs.Run.{Event, begins-write, begins-read, Run, event, answerAt, At}
+use Rattle.run.specs.Run.{Event, begins-write, begins-read, makes, Run, event, answerAt, At}
 
 module _ (R : Run) where
   abbrev pub NotDone : ℕ → Type 0
   NotDone t = (timestamp : Timestamp) (card : List ℕ) (signers : ReplicaSet) → answerAt R t ≡ accepted (done timestamp card signers) → ⊥
 
-  -- Neither done nor ended.
+  -- No client is made again.
+  abbrev pub NotMade : ℕ → Type 0
+  NotMade t = (id : ClientId) (nonce : ℕ) → event R t ≡ some (makes id nonce) → Accepted R t → ⊥
+
+  -- Neither done nor ended; and not made again, since that leaves the client "with its interrupted operation never finished" (document 02, #106).
   pub record GoesOn (t : ℕ) : Type 0 where
     pub not-done : NotDone t
     pub not-ended : answerAt R t ≡ accepted ended → ⊥
+    pub not-made : NotMade t
 
 -- At one timestamp: "the write before the reads, and of two reads the one finished earlier"
 abbrev pub AtOneTimestamp : Bool → Bool → ℕ → ℕ → Type 0
@@ -66,7 +71,7 @@ module _ (R : Run) (x : RegisterId) where
   Begins false id e = e ≡ some (begins-read id x)
 
   -- "It is finished by its desk's first done after that, if no ended comes between; its stamp and card are those of that done." So are
-  -- the card's signers (document 02, #102).
+  -- the card's signers (document 02, #102). Nor may an accepted making come between (#106).
   pub record Finished : Type 0 where
     pub id : ClientId
     -- Reads of viewing clients "are left out of the ordering of reads and writes".
@@ -84,7 +89,7 @@ module _ (R : Run) (x : RegisterId) where
     pub is-done : answerAt R finished ≡ accepted (done timestamp card signers)
     pub none-between : (t : ℕ) → begun < t → t < finished → At R t (client id) → GoesOn R t
 
-  -- A view (document 02, #101): a viewing client's, from its READ to the client's first done after that.
+  -- A view (document 02, #101): a viewing client's, which is not made again, from its READ to the client's first done after that.
   pub record Viewed : Type 0 where
     pub id : ClientId
     pub by-viewer : isViewer id ≡ true

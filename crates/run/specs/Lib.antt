@@ -1,6 +1,7 @@
 pub mod Atomicity
 pub mod Calls
 pub mod Claims
+pub mod Handing
 pub mod Prefix
 pub mod Premises
 pub mod ReadsFrom

@@ -5,7 +5,7 @@ use mathlib.Core.Option.{some}
 use Prim.Native.Nat.{ℕ, zero, suc}
 use lib.ListN.{take, getElem?}
 use Rattle.base.proofs.Apart.{apart}
-use Rattle.run.specs.Run.{begins-write, Run}
+use Rattle.run.specs.Run.{begins-write, makes, proof-to, Run}
 
 -- What stands among the first elements stands in the list.
 pub in-prefix : {A : Type 0} (n : ℕ) (xs : List A) (t : ℕ) (x : A) → getElem? (take n xs) t ≡ some x → getElem? xs t ≡ some x
@@ -29,6 +29,8 @@ prefix R n =
       clients-in-range = R .clients-in-range;
       keys-in-range = R .keys-in-range;
       writers-begin = λ t id x card q. R .writers-begin t id x card (in-prefix n (R .events) t (begins-write id x card) q);
+      writers-made = λ t id nonce q. R .writers-made t id nonce (in-prefix n (R .events) t (makes id nonce) q);
+      writers-take = λ t id x bytes verdicts q. R .writers-take t id x bytes verdicts (in-prefix n (R .events) t (proof-to id x bytes verdicts) q);
       have-bytes = λ t e q. R .have-bytes t e (in-prefix n (R .events) t e q);
       at-correct = λ t e q. R .at-correct t e (in-prefix n (R .events) t e q);
     }

@@ -20,7 +20,7 @@ use Rattle.run.specs.Run.{begins-write, Run, event, answerAt, At}
 
 module _ (R : Run) (x : RegisterId) where
   -- A write of a correct client to the register that has its timestamp: begun with a card, not refused, and then answered with a PREPARE. It may
-  -- have finished, or be under way at the end of the list.
+  -- have finished, be under way at the end of the list, or have been broken off since its client was made again.
   pub record Write : Type 0 where
     pub id : ClientId
     pub card : List ℕ

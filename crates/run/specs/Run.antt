@@ -15,7 +15,7 @@ use Rattle.base.specs.declared.party.ReplicaId.{ReplicaId}
 use Rattle.lms.specs.Lms.{isPublicKey}
 use Rattle.protocol.specs.Bank.{bankPart, freshBank}
 use Rattle.protocol.specs.Client.{Answer, send, freshClient}
-use Rattle.protocol.specs.Events.{ReplicaEvent, ClientEvent, request-handed, order-handed, write-begun, read-begun, reply-handed, replicaEventRegister, clientEventRegister, onReplicaEvent, nextBank, bankAnswer, onClientEvent, nextClient, clientAnswer}
+use Rattle.protocol.specs.Events.{ReplicaEvent, ClientEvent, request-handed, order-handed, write-begun, read-begun, reply-handed, made, proof-handed, replicaEventRegister, clientEventRegister, onReplicaEvent, nextBank, bankAnswer, onClientEvent, nextClient, clientAnswer}
 use Rattle.protocol.specs.declared.client.Client.{Client}
 use Rattle.protocol.specs.declared.replica.Bank.{Bank}
 use Rattle.protocol.specs.declared.replica.Register.{Register}
@@ -43,7 +43,14 @@ order-to id order = at-replica id (order-handed order)
 abbrev pub to-client : ClientId → List ℕ → List ℕ → Event
 to-client id bytes verdicts = at-client id (reply-handed bytes verdicts)
 
--- The party of an event, as a sender of messages, and its register.
+-- Document 02, #106: a client is made again, and is handed a written proof.
+abbrev pub makes : ClientId → ℕ → Event
+makes id nonce = at-client id (made nonce)
+
+abbrev pub proof-to : ClientId → RegisterId → List ℕ → List ℕ → Event
+proof-to id x bytes verdicts = at-client id (proof-handed x bytes verdicts)
+
+-- The party of an event, as a sender of messages, and its register. A client that is made again "counts as the same desk": what it sent stays sent.
 abbrev pub partyOf : Event → Sender
 partyOf (at-replica id e) = replica id
 partyOf (at-client id e) = client id
@@ -52,13 +59,15 @@ abbrev pub registerOf : Event → RegisterId
 registerOf (at-replica id e) = replicaEventRegister e
 registerOf (at-client id e) = clientEventRegister e
 
--- Bytes are below 256.
+-- Bytes are below 256, and a first nonce has eight of them.
 abbrev pub HasBytes : Event → Type 0
 HasBytes (at-replica id (request-handed bytes verdicts)) = Bytes bytes
 HasBytes (at-replica id (order-handed order)) = Bytes order
 HasBytes (at-client id (write-begun x card)) = Bytes card
 HasBytes (at-client id (read-begun x)) = Unit {0}
 HasBytes (at-client id (reply-handed bytes verdicts)) = Bytes bytes
+HasBytes (at-client id (made nonce)) = nonce < 2 ^ 64
+HasBytes (at-client id (proof-handed x bytes verdicts)) = Bytes bytes
 
 abbrev pub CorrectIn : (ReplicaId → Bool) → (ClientId → Bool) → Sender → Type 0
 CorrectIn correct-replica correct-client (replica id) = correct-replica id ≡ true
@@ -78,8 +87,11 @@ pub record Run : Type 0 where
   pub replicas-in-range : (id : ReplicaId) → correct-replica id ≡ true → isReplica f id ≡ true
   pub clients-in-range : (id : ClientId) → correct-client id ≡ true → (isClient id ≡ true) × (1 ≤ first-nonce id) × (first-nonce id < 2 ^ 64)
   pub keys-in-range : (id : ReplicaId) → correct-replica id ≡ true → (isPublicKey (office-key id) ≡ true) × Bytes (office-key id)
-  -- A viewing client has no write to begin.
+  -- A viewing client has no write to begin,
   pub writers-begin : (t : ℕ) (id : ClientId) (x : RegisterId) (card : List ℕ) → getElem? events t ≡ some (begins-write id x card) → isWriter id ≡ true
+  -- is not made again, and is handed no written proof.
+  pub writers-made : (t : ℕ) (id : ClientId) (nonce : ℕ) → getElem? events t ≡ some (makes id nonce) → isWriter id ≡ true
+  pub writers-take : (t : ℕ) (id : ClientId) (x : RegisterId) (bytes verdicts : List ℕ) → getElem? events t ≡ some (proof-to id x bytes verdicts) → isWriter id ≡ true
   pub have-bytes : (t : ℕ) (e : Event) → getElem? events t ≡ some e → HasBytes e
   pub at-correct : (t : ℕ) (e : Event) → getElem? events t ≡ some e → CorrectIn correct-replica correct-client (partyOf e)
 
@@ -89,10 +101,11 @@ afterAtReplica id none before = before
 afterAtReplica id (some (at-replica at e)) before = cond (eqb (at .0) (id .0)) (nextBank before (onReplicaEvent e before)) before
 afterAtReplica id (some (at-client at e)) before = before
 
-abbrev pub afterAtClient : ClientId → Option Event → Client → Client
-afterAtClient id none before = before
-afterAtClient id (some (at-replica at e)) before = before
-afterAtClient id (some (at-client at e)) before = cond (eqb (at .0) (id .0)) (nextClient before (onClientEvent at e before)) before
+-- With the run's f, which a client is made again with.
+abbrev pub afterAtClient : ℕ → ClientId → Option Event → Client → Client
+afterAtClient f id none before = before
+afterAtClient f id (some (at-replica at e)) before = before
+afterAtClient f id (some (at-client at e)) before = cond (eqb (at .0) (id .0)) (nextClient before (onClientEvent f at e before)) before
 
 module _ (R : Run) where
   -- Event t, counted from 0.
@@ -106,13 +119,13 @@ module _ (R : Run) where
 
   unfoldable pub clientAt : ClientId → ℕ → Client
   clientAt id zero = freshClient (R .f) id (R .first-nonce id)
-  clientAt id (suc t) = afterAtClient id (event t) (clientAt id t)
+  clientAt id (suc t) = afterAtClient (R .f) id (event t) (clientAt id t)
 
   -- The answer to an event at time t; where there is none, a refusal without a number of document 01's.
   unfoldable pub answerTo : ℕ → Option Event → Outcome Answer
   answerTo t none = refused 0
   answerTo t (some (at-replica id e)) = bankAnswer (onReplicaEvent e (bankAt id t))
-  answerTo t (some (at-client id e)) = clientAnswer (onClientEvent id e (clientAt id t))
+  answerTo t (some (at-client id e)) = clientAnswer (onClientEvent (R .f) id e (clientAt id t))
 
   abbrev pub answerAt : ℕ → Outcome Answer
   answerAt t = answerTo t (event t)

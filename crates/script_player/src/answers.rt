@@ -7,6 +7,7 @@ use crate::words::word;
 use base::replica_set::ReplicaSet;
 use base::slices::behind;
 use base::slices::front;
+use base::taking::Taking;
 use base::timestamp::Timestamp;
 use console::print_hex;
 use console::print_number;
@@ -37,7 +38,7 @@ pub const COUNTED: u8 = 5;
 
 pub const ENDED: u8 = 6;
 
-pub const TAKEN: u8 = 7;
+const TAKEN: u8 = 7;
 
 // The line itself is said.
 pub const COMMENT: u8 = 8;
@@ -65,6 +66,14 @@ pub fn plain(outcome: Outcome) -> Answer {
         outcome: outcome,
         card_length: 0,
         card: [0; 17],
+    }
+}
+
+// What a call answers that sends nothing.
+pub fn taking(answer: Taking) -> Outcome {
+    match answer {
+        Taking::Taken => Outcome::Said(TAKEN),
+        Taking::Refused(number) => Outcome::Refused(number),
     }
 }
 

@@ -7,6 +7,7 @@ use crate::answers::READY;
 use crate::answers::UNREAD;
 use crate::answers::finish;
 use crate::answers::plain;
+use crate::answers::taking;
 use crate::answers::untouched;
 use crate::log::Message;
 use crate::log::Store;
@@ -35,7 +36,7 @@ pub fn nobody() -> Client {
     client::fresh(0, ClientId(0), 0).client
 }
 
-// The record as it was, and an outcome with no card.
+// A record, and an outcome with no card.
 fn kept(client: Client, outcome: Outcome) -> ClientCalled {
     ClientCalled {
         client: client,
@@ -90,6 +91,13 @@ fn step(client: Client, message: &[u8], verdicts: &[u8], out: &mut [u8]) -> Clie
     called(client::step(client, message, verdicts, out))
 }
 
+fn hand(client: Client, register: u8, proof: &[u8], verdicts: &[u8]) -> ClientCalled {
+    let handed = client::handing::hand(client, RegisterId(register), proof, verdicts);
+    let answer = handed.answer;
+    let left = handed.client;
+    kept(left, taking(answer))
+}
+
 fn call(
     client: Client,
     call: Call,
@@ -102,6 +110,9 @@ fn call(
         Call::Write(register, n) => begin_write(client, register, front(message, n), out),
         Call::Read(register) => begin_read(client, register, out),
         Call::HandOver(n, m) => step(client, front(message, n), front(verdicts, m), out),
+        Call::Hand(register, n, m) => {
+            hand(client, register, front(message, n), front(verdicts, m))
+        }
         Call::Copy(said) => kept(client, Outcome::Said(said)),
         // A client takes no orders, and has no key.
         _ => kept(client, Outcome::Said(UNREAD)),

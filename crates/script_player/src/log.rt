@@ -15,6 +15,7 @@ use text::decimal::decimal_or_zero;
 use text::hex::Digit;
 use text::hex::Length;
 use wire::message::Party;
+use wire::signatures::handed_signature_count;
 use wire::signatures::signature_count;
 
 // So many messages are kept, the first ones, each at its number with so much room: its length in two bytes, and its bytes.
@@ -29,12 +30,14 @@ pub type Message = [u8; 4_096];
 
 pub type Verdicts = [u8; 400];
 
-// So many bytes of a card, a key or an order are taken.
+// So many bytes of a card, a key, an order or a written proof are taken.
 const CARD: usize = 64;
 
 const KEY: usize = 64;
 
 const ORDER: usize = 2_048;
+
+const PROOF: usize = 2_048;
 
 pub fn empty() -> Store {
     [0; 321_600]
@@ -88,15 +91,15 @@ fn party(whom: Whom) -> Party {
     }
 }
 
-// The verdicts that a word is: `+` for a 1 per signature, which are there already, or hex. A message that cannot be read has none, and is refused before they count.
-fn verdicts(name: &[u8], party: Party, message: &[u8], ones: &mut [u8]) -> Length {
+// The verdicts that a word is: `+` for a 1 per signature, which are there already, or hex.
+fn verdicts(name: &[u8], signatures: usize, ones: &mut [u8]) -> Length {
     if check::same(name, b"+") {
-        return Length::Count(signature_count(party, message));
+        return Length::Count(signatures);
     }
     hex(name, ones)
 }
 
-// `to-PARTY ID MESSAGE VERDICTS`
+// `to-PARTY ID MESSAGE VERDICTS`. A message that cannot be read has no signatures, and is refused before its verdicts count.
 fn hand_over(
     party: Party,
     line: &[u8],
@@ -108,7 +111,8 @@ fn hand_over(
     let Length::Count(n) = message(word(line, 2), store, sent, bytes) else {
         return Call::Copy(UNREAD);
     };
-    let Length::Count(m) = verdicts(rest(line, 3), party, front(bytes, n), ones) else {
+    let signatures = signature_count(party, front(bytes, n));
+    let Length::Count(m) = verdicts(rest(line, 3), signatures, ones) else {
         return Call::Copy(UNREAD);
     };
     Call::HandOver(n, m)
@@ -159,6 +163,21 @@ fn order(line: &[u8], bytes: &mut Message) -> Call {
     Call::Order(n)
 }
 
+// `hand ID REGISTER PROOF VERDICTS`, likewise
+fn hand(line: &[u8], bytes: &mut Message, ones: &mut Verdicts) -> Call {
+    let Digit::Value(register) = decimal_byte(word(line, 2)) else {
+        return Call::Copy(UNREAD);
+    };
+    let Length::Count(n) = short_hex(word(line, 3), PROOF, bytes) else {
+        return Call::Copy(UNREAD);
+    };
+    let signatures = handed_signature_count(front(bytes, n));
+    let Length::Count(m) = verdicts(rest(line, 4), signatures, ones) else {
+        return Call::Copy(UNREAD);
+    };
+    Call::Hand(register, n, m)
+}
+
 // The call of a task, with what its line hands over stored; a call whose words cannot be read only copies.
 pub fn handed(
     task: Task,
@@ -174,6 +193,7 @@ pub fn handed(
         Call::SetUp(f, id, nonce) => set_up(whom, f, id, nonce, line, bytes),
         Call::Write(_, _) => write(line, bytes),
         Call::Order(_) => order(line, bytes),
+        Call::Hand(_, _, _) => hand(line, bytes, ones),
         Call::HandOver(_, _) => hand_over(party(whom), line, store, sent, bytes, ones),
         _ => call,
     }

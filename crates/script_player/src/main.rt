@@ -10,6 +10,7 @@
 //   to-viewer ID MESSAGE VERDICTS
 //   lent N CALL                        the same with an output of N bytes, 0 to 1,600, in place of 1,600
 //   order ID ORDER                     hand an order to a replica
+//   hand ID REGISTER PROOF VERDICTS    hand a written proof to a client
 //   keep PARTY ID, restore PARTY ID    copy a party's record aside, and put it back; PARTY is replica, client or viewer
 //   # TEXT                             is printed as it stands
 // Any other line, and one about a party that is not set up, is unread.

@@ -1,10 +1,10 @@
 // Calls of a replica, which has a bank of sixteen registers.
 use crate::answers::Outcome;
 use crate::answers::READY;
-use crate::answers::TAKEN;
 use crate::answers::UNREAD;
 use crate::answers::finish;
 use crate::answers::plain;
+use crate::answers::taking;
 use crate::answers::untouched;
 use crate::log::Message;
 use crate::log::Store;
@@ -18,7 +18,6 @@ use crate::tasks::lent;
 use base::party::ReplicaId;
 use base::party::Setup;
 use base::slices::front;
-use base::taking::Taking;
 use protocol::replica::Bank;
 use protocol::replica::ReplicaAnswer;
 
@@ -66,20 +65,13 @@ fn step(before: Bank, message: &[u8], verdicts: &[u8], out: &mut [u8]) -> Replic
     }
 }
 
-fn taking_outcome(taking: Taking) -> Outcome {
-    match taking {
-        Taking::Taken => Outcome::Said(TAKEN),
-        Taking::Refused(number) => Outcome::Refused(number),
-    }
-}
-
 fn take_order(before: Bank, order: &[u8]) -> ReplicaCalled {
     let left = bank::take_order(before, order);
     let answer = left.answer;
     let bank = left.bank;
     ReplicaCalled {
         bank: bank,
-        outcome: taking_outcome(answer),
+        outcome: taking(answer),
     }
 }
 

@@ -36,6 +36,8 @@ pub enum Call {
     // The register. A viewing client's view is a read too.
     Read(u8),
     HandOver(usize, usize),
+    // The register, and the lengths of a written proof and its verdicts.
+    Hand(u8, usize, usize),
     // The order's length.
     Order(usize),
     // Its record is copied, and the word is said.
@@ -95,7 +97,9 @@ const RESTORE: usize = 11;
 
 const ORDER: usize = 12;
 
-const NO_COMMAND: usize = 13;
+const HAND: usize = 13;
+
+const NO_COMMAND: usize = 14;
 
 pub fn nothing_held() -> Held {
     [false; 230]
@@ -197,7 +201,7 @@ fn command(name: &[u8]) -> usize {
     let mut n = 0;
     while n < NO_COMMAND {
         let listed = word(
-            b"to-replica to-client to-viewer write read view lent replica client viewer keep restore order",
+            b"to-replica to-client to-viewer write read view lent replica client viewer keep restore order hand",
             n,
         );
         if check::same(listed, name) {
@@ -319,8 +323,9 @@ pub fn of_line(line: &[u8], held: &Held) -> Task {
         VIEWER => set_up(Whom::Viewer, word(line, 1), word(line, 2), rest(line, 3)),
         KEEP => of_copy(line, held),
         RESTORE => of_copy(line, held),
-        // no output is lent with an order
+        // no output is lent with an order or a written proof
         ORDER => of_named(Whom::Replica, Call::Order(0), line, held),
+        HAND => of_named(Whom::Client, Call::Hand(0, 0, 0), line, held),
         NO_COMMAND => other(line),
         _ => of_call(behind_lent(line), held),
     }

@@ -87,7 +87,7 @@ fn call(
         Call::Read(register) => begin_view(viewer, register, out),
         Call::HandOver(n, m) => step(viewer, front(message, n), front(verdicts, m), out),
         Call::Copy(said) => kept(viewer, Outcome::Said(said)),
-        // A viewing client writes nothing, takes no orders, and has no key.
+        // A viewing client writes nothing, takes neither orders nor written proofs, and has no key.
         _ => kept(viewer, Outcome::Said(UNREAD)),
     }
 }

@@ -1,5 +1,6 @@
 pub mod AcceptanceInHalves
 pub mod AdmittedMessage
+pub mod AdmittedProof
 pub mod CarriedCard
 pub mod DigestBytes
 pub mod FieldEnds
@@ -13,6 +14,7 @@ pub mod MessageParts
 pub mod MessageSignatures
 pub mod OneForm
 pub mod ProofBytes
+pub mod ProofSignatures
 pub mod ReadingByKind
 pub mod RecordBytes
 pub mod RoundTrip

@@ -17,7 +17,6 @@ use Rattle.base.specs.declared.party.RegisterId.{RegisterId}
 use Rattle.base.specs.declared.party.ReplicaId.{ReplicaId}
 use Rattle.base.proofs.Filling.{filled-whole}
 use Rattle.base.proofs.Timestamps.{number-ofNumber}
-use Rattle.base.proofs.Apart.{apart}
 use Rattle.wire.specs.Acceptance.{Sender, replica, numbered}
 use Rattle.wire.specs.Accepting.{countIn}
 use Rattle.wire.specs.Checks.{preparedOf, writtenOf, entriesIfThere, entriesOf}
@@ -41,7 +40,7 @@ use Rattle.wire.proofs.ProofBytes.{length-read}
 
 -- ---- How many
 
-length-signed : (x : RegisterId) (message : ReplicaId → Message) (entries : List Entry) → length (signedBy x message entries) ≡ length entries
+pub length-signed : (x : RegisterId) (message : ReplicaId → Message) (entries : List Entry) → length (signedBy x message entries) ≡ length entries
 length-signed x message [] = refl
 length-signed x message (entry ∷ entries) = ap suc (length-signed x message entries)
 
@@ -139,7 +138,7 @@ module _ {A : Type 0} where
   in-second (x ∷ a) b zero h = absurd (omega arith)
   in-second (x ∷ a) b (suc i) h = let less : suc i - suc (length a) ≡ i - length a = omega arith in in-second a b i (omega arith) ∙ rw less
 
-  behind-all : (a : List A) (i : ℕ) → length a ≤ i → getElem? a i ≡ none
+  pub behind-all : (a : List A) (i : ℕ) → length a ≤ i → getElem? a i ≡ none
   behind-all [] i h = refl
   behind-all (x ∷ a) zero h = absurd (omega arith)
   behind-all (x ∷ a) (suc i) h = behind-all a i (omega arith)
@@ -242,13 +241,3 @@ no-answer e = record { answered = rw e; holds = rw e }
 
 pub refuses : {found : Outcome (Option Signature)} {old : List ℕ} {n : ℕ} → found ≡ refused n → ShowsSignature found old (Refused n) old
 refuses e = record { answered = rw e; holds = rw e }
-
--- What is covered fits into the output that it stands in.
-pub covered-inside : (found : Outcome (Option Signature)) {old : List ℕ} {signer : Signer} {covered : ℕ} {new : List ℕ} → ShowsSignature found old (By signer covered) new → length new ≡ length old → covered ≤ length old
-covered-inside (accepted (some signature)) {old} {signer} {covered} {new} a same =
-    let short : _≡_ {A = Sender × ℕ} (signerOf signer, covered) (signature .signer, length (signature .covers)) = cc (a .answered) in
-    let all : covered ≡ length (signature .covers) = ap (λ (p : Sender × ℕ). p .1) short in
-    let size : length new ≡ length (signature .covers) + length (drop (length (signature .covers)) old) = ap length (a .holds) ∙ length-append (signature .covers) (drop (length (signature .covers)) old) in
-    omega arith
-covered-inside (accepted none) a same = apart (cc (a .answered))
-covered-inside (refused n) a same = apart (cc (a .answered))

@@ -5,6 +5,7 @@ pub mod CardPart
 pub mod Checks
 pub mod Decode
 pub mod Found
+pub mod HandedProof
 pub mod Judging
 pub mod Kinds
 pub mod Layout

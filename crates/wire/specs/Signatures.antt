@@ -1,4 +1,5 @@
--- Document 01, "Messages": the signatures (seals) of a message, whose each is and which bytes it covers. A signing box asks for them one by one.
+-- Document 01, "Messages": the signatures (seals) of a message, or of a proof by itself, whose each is and which bytes it covers. A signing box
+-- asks for them one by one.
 use mathlib.Core.Path.{_≡_}
 use mathlib.Core.List.{List, [], _∷_, _++_}
 use mathlib.Core.Option.{Option, none, some}
@@ -12,7 +13,7 @@ use Rattle.wire.specs.Checks.{preparedOf, writtenOf}
 use Rattle.wire.specs.Decode.{decode}
 use Rattle.wire.specs.Message.{Message, PREPARED, WRITTEN, body}
 use Rattle.wire.specs.Parts.{countPart, entriesPart}
-use Rattle.wire.specs.Proof.{Entry, PreparedProof, WrittenProof}
+use Rattle.wire.specs.Proof.{Entry, PreparedProof, WrittenProof, readProof}
 use Rattle.wire.specs.Writing.{inFront}
 use Rattle.wire.specs.declared.message.Party.{Party}
 use Rattle.wire.specs.declared.signatures.Signed.{Signed}
@@ -59,6 +60,18 @@ signaturesTo party bytes = signaturesIfRead bytes (decode party bytes)
 -- The i-th of them, counted from 0, if there are so many; or the refusal of the bytes.
 unfoldable pub signatureTo : Party → List ℕ → ℕ → Outcome (Option Signature)
 signatureTo party bytes i = decode party bytes >>= λ sent. accepted (getElem? (signaturesOf bytes sent) i)
+
+-- The signatures of a written proof by itself, for a register (document 02, #106): those of its entries; none if the bytes are no such proof.
+abbrev pub signaturesIfProof : RegisterId → Outcome WrittenProof → List Signature
+signaturesIfProof register (accepted proof) = writtenSignatures register proof
+signaturesIfProof register (refused number) = []
+
+unfoldable pub handedSignatures : RegisterId → List ℕ → List Signature
+handedSignatures register bytes = signaturesIfProof register (readProof 0 bytes)
+
+-- The i-th of them, counted from 0, if there are so many; or 4.
+unfoldable pub handedSignature : RegisterId → List ℕ → ℕ → Outcome (Option Signature)
+handedSignature register bytes i = readProof 0 bytes >>= λ proof. accepted (getElem? (writtenSignatures register proof) i)
 
 -- What an answer of the code stands for: the signer, and how many bytes the signature covers.
 abbrev pub signerOf : Signer → Sender

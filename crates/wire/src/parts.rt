@@ -1,4 +1,4 @@
-// The parts of a message that was read, and of its prepared proof: parts of the caller's slice, empty where there is none. And the
+// The parts of a message that was read, and of its proofs: parts of the caller's slice, empty where there is none. And the
 // register of bytes that may be no message.
 use crate::layout::DIGEST;
 use crate::layout::PREPARED_HEAD;
@@ -79,9 +79,15 @@ pub fn written_entry_count(proof: &[u8]) -> u8
     proof[WRITTEN_HEAD - 1]
 }
 
-// The bytes of a prepared proof's entries.
+// The bytes of a prepared proof's entries, and of a written one's.
 pub fn entries(proof: &[u8]) -> &[u8]
     ensures { λ r. ⌜ now r ≡ entriesPart 32 (now (proof .entry)) ⌝ }
 {
     behind(proof, PREPARED_HEAD)
+}
+
+pub fn written_entries(proof: &[u8]) -> &[u8]
+    ensures { λ r. ⌜ now r ≡ entriesPart 0 (now (proof .entry)) ⌝ }
+{
+    behind(proof, WRITTEN_HEAD)
 }

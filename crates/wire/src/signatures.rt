@@ -1,6 +1,7 @@
-// The signatures of a message: its own and those of its proofs' entries. So many verdicts come with it.
+// The signatures of a message: its own and those of its proofs' entries; and those of a written proof by itself. So many verdicts come with it.
 // A signing box, which makes and judges them, asks here how many there are, whose each is, and which bytes it covers.
 use crate::arrays::digest_array;
+use crate::handed_proof::is_whole;
 use crate::layout::ENTRY;
 use crate::layout::LONGEST_MESSAGE;
 use crate::layout::PREPARED_HEAD;
@@ -17,6 +18,7 @@ use base::numbers::difference;
 use base::party::ClientId;
 use base::party::RegisterId;
 use base::party::ReplicaId;
+use base::refusal::FIELD_LENGTHS;
 use base::refusal::OUTPUT_TOO_SHORT;
 use base::slices::front;
 ghost use mathlib.Core.Path.{_≡_};
@@ -25,13 +27,14 @@ ghost use mathlib.Core.Option.{some};
 ghost use Prim.Native.Nat.{_-_, _/_, _≤_, _<_};
 ghost use lib.ListN.{length, take, getElem?};
 ghost use Rattle.base.specs.Outcome.{accepted, guard};
+ghost use Rattle.base.specs.declared.party.RegisterId.{RegisterId};
 ghost use Rattle.wire.specs.Acceptance.{numbered};
 ghost use Rattle.wire.specs.Accepting.{entryCount, countIn};
 ghost use Rattle.wire.specs.Decode.{reading};
 ghost use Rattle.wire.specs.Message.{longest};
 ghost use Rattle.wire.specs.Parts.{countPart, proofPart};
 ghost use Rattle.wire.specs.Proof.{proofFrom};
-ghost use Rattle.wire.specs.Signatures.{signaturesTo, signatureTo, signerOf, ShowsSignature, EntriesStand, signaturesIfThere, preparedSignatures, writtenSignatures};
+ghost use Rattle.wire.specs.Signatures.{signaturesTo, signatureTo, handedSignatures, handedSignature, signerOf, ShowsSignature, EntriesStand, signaturesIfThere, preparedSignatures, writtenSignatures};
 ghost use Rattle.wire.specs.Writing.{roomy};
 
 // Whose a signature is.
@@ -170,4 +173,30 @@ pub fn signature(party: Party, bytes: &[u8], i: usize, out: &mut [u8]) -> Signed
         Reading::Message(fields) => of_fields(party, bytes, fields, i, out),
         Reading::Refused(number) => Signed::Refused(number),
     }
+}
+
+// How many signatures a written proof by itself has (document 02, #106): one for each entry. Other bytes have none.
+pub fn handed_signature_count(proof: &[u8]) -> usize
+    ensures { λ r. ⌜ ((register : RegisterId) → r ≡ length (handedSignatures register (now (proof .entry)))) × (r ≤ 255) ⌝ }
+{
+    if !is_whole(proof) {
+        return 0;
+    }
+    crate::parts::written_entry_count(proof) as usize
+}
+
+// Whose the i-th of them is, if the proof is for this register, and which bytes it covers, as `signature` says it of a message.
+pub fn handed_signature(register: RegisterId, proof: &[u8], i: usize, out: &mut [u8]) -> Signed
+    ensures { λ r. ⌜ ShowsSignature (guard 1 (roomy (now (out .entry))) (handedSignature register (now (proof .entry)) i)) (now (out .entry)) r (now (out .exit)) ⌝ }
+{
+    if out.len() < LONGEST_MESSAGE {
+        return Signed::Refused(OUTPUT_TOO_SHORT);
+    }
+    if !is_whole(proof) {
+        return Signed::Refused(FIELD_LENGTHS);
+    }
+    if i < crate::parts::written_entry_count(proof) as usize {
+        return of_written(register, proof, i, out);
+    }
+    Signed::Nothing
 }

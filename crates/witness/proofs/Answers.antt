@@ -1,18 +1,23 @@
 -- Answers as numbers, so that a test compares them, and what its passing says. Assumes nothing.
-use mathlib.Core.Path.{_≡_, refl}
-use mathlib.Core.Bool.{Bool, true, false, _||_, not, false≢true}
+use mathlib.Core.Path.{_≡_, refl, ap, _∙_}
+use mathlib.Core.Bool.{Bool, true, false, _&&_, _||_, not, false≢true}
 use mathlib.Core.List.{List, [], _∷_}
-use Prim.Native.Nat.{ℕ}
+use Prim.Native.Nat.{ℕ, _^_, _<_}
+use native.Mathlib.Omega.{arith}
 use borrow.Author.Tests.{eqb-false}
 use lib.Dec.{eqb}
-use lib.ListN.{getD}
+use lib.ListN.{getD, take, drop}
+use Rattle.base.specs.BigEndian.{fromBytes, toBytes}
 use Rattle.base.specs.Outcome.{Outcome, accepted, refused}
+use Rattle.base.specs.declared.party.ClientId.{ClientId}
 use Rattle.base.specs.declared.party.RegisterId.{RegisterId}
 use Rattle.base.specs.declared.replica_set.ReplicaSet.{ReplicaSet}
 use Rattle.base.specs.declared.timestamp.Timestamp.{Timestamp}
 use Rattle.base.proofs.Apart.{apart}
+use Rattle.base.proofs.BigEndian.{fromBytes-toBytes}
 use Rattle.protocol.specs.Client.{Answer, send, waits, done, ended}
-use Rattle.wire.specs.Message.{Message, body}
+use Rattle.run.specs.Premises.{Asks, for-stamps, for-cards}
+use Rattle.wire.specs.Message.{Message, READ-STAMP, READ, fields, joined, body}
 
 -- ---- Tests and what they say
 
@@ -96,3 +101,29 @@ is-counted x (accepted waits) h = refl
 is-counted x (accepted (done timestamp card signers)) h = no-test h
 is-counted x (accepted ended) h = no-test h
 is-counted x (refused number) h = no-test h
+
+-- A question, READ-STAMP or READ, by its kind, and its nonce.
+abbrev pub isQuestion : List ℕ → Bool
+isQuestion numbers = eqb (getD numbers 0 1) 0 && (eqb (getD numbers 3 0) 1 || eqb (getD numbers 3 0) 4)
+
+abbrev pub askedNonce : List ℕ → ℕ
+askedNonce numbers = fromBytes (take 8 (drop 5 numbers))
+
+nonce-stands : (x : RegisterId) (id : ClientId) (n : ℕ)
+    → (take 8 (drop 5 (code x (accepted (send (READ-STAMP id n))))) ≡ toBytes 8 n) × (take 8 (drop 5 (code x (accepted (send (READ id n))))) ≡ toBytes 8 n)
+unfolding code body fields joined toBytes
+nonce-stands x id n = (refl, refl)
+
+asks-stand : (x : RegisterId) (id : ClientId) (n : ℕ) → (isQuestion (code x (accepted (send (READ-STAMP id n)))) ≡ true) × (isQuestion (code x (accepted (send (READ id n)))) ≡ true)
+unfolding code body fields joined toBytes
+asks-stand x id n = (refl, refl)
+
+pub question-told : (x : RegisterId) (id : ClientId) (n : ℕ) (m : Message) → Asks id n m → n < 2 ^ 64 → (isQuestion (code x (accepted (send m))) ≡ true) × (askedNonce (code x (accepted (send m))) ≡ n)
+question-told x id n m (for-stamps e) small = (
+  ap (λ (m : Message). isQuestion (code x (accepted (send m)))) e ∙ asks-stand x id n .0,
+  ap (λ (m : Message). askedNonce (code x (accepted (send m)))) e ∙ ap fromBytes (nonce-stands x id n .0) ∙ fromBytes-toBytes 8 n (omega arith),
+)
+question-told x id n m (for-cards e) small = (
+  ap (λ (m : Message). isQuestion (code x (accepted (send m)))) e ∙ asks-stand x id n .1,
+  ap (λ (m : Message). askedNonce (code x (accepted (send m)))) e ∙ ap fromBytes (nonce-stands x id n .1) ∙ fromBytes-toBytes 8 n (omega arith),
+)

@@ -13,7 +13,7 @@ use Rattle.base.specs.Range.{within}
 use Rattle.base.specs.declared.party.ReplicaId.{ReplicaId}
 use Rattle.protocol.specs.Client.{send}
 use Rattle.run.specs.Claims.{Genuine, Claims}
-use Rattle.run.specs.Premises.{TrueAt, CardOfRun}
+use Rattle.run.specs.Premises.{TrueAt, CardOfRun, NewNonces}
 use Rattle.run.specs.Run.{to-replica, Run, event}
 use Rattle.wire.specs.Message.{Message, PREPARE, PREPARED}
 use Rattle.wire.specs.Proof.{PreparedProof}
@@ -22,7 +22,7 @@ use Rattle.witness.proofs.Cards.{rightDigests, differentDigests}
 use Rattle.witness.proofs.Cast.{replica-1, replica-2, replica-3, replica-4, register-1, client-1, 1·1, entry, from-client, one, three}
 use Rattle.witness.proofs.Computing.{messages, steps}
 use Rattle.witness.proofs.Replay.{plays, freshStore, played}
-use Rattle.witness.proofs.Story.{Line, _↝_, each, wellTold, told, Told, hasBytes, allBytes, AllTrue, trueVerdicts, true-verdicts, NoOtherCards, different-digests, genuine-told}
+use Rattle.witness.proofs.Story.{Line, _↝_, each, wellTold, told, Told, hasBytes, allBytes, AllTrue, trueVerdicts, true-verdicts, newNonces, new-nonces, NoOtherCards, different-digests, genuine-told}
 
 -- The bound of `Premises` gives way, the other premises stand, and so do two proofs that contradict claim 1.
 pub record BoundNeeded : Type 0 where
@@ -30,6 +30,7 @@ pub record BoundNeeded : Type 0 where
   pub f-is-1 : run .f ≡ 1
   pub two-faulty : count (replicaCount (run .f)) (λ id. not (run .correct-replica id)) ≡ 2
   pub true-verdicts : (t : ℕ) → TrueAt run t (event run t)
+  pub new-nonces : NewNonces run
   pub different-digests : (card card′ : List ℕ) → CardOfRun run card → CardOfRun run card′ → sha256 card ≡ sha256 card′ → card ≡ card′
   pub proof : PreparedProof
   pub proof′ : PreparedProof
@@ -80,6 +81,10 @@ verdicts-true : AllTrue run story
 unfolding run story messages trueVerdicts
 verdicts-true = refl
 
+no-makings : newNonces story ≡ true
+unfolding story newNonces
+no-makings = refl
+
 no-cards : NoOtherCards run story []
 unfolding story messages
 no-cards = refl
@@ -100,6 +105,7 @@ bound-needed =
       f-is-1 = refl;
       two-faulty = refl;
       true-verdicts = true-verdicts run story as-told verdicts-true;
+      new-nonces = new-nonces run story as-told no-makings;
       different-digests = different-digests run story as-told [] no-cards refl refl;
       proof = proof-of digest-a replica-1;
       proof′ = proof-of digest-b replica-2;

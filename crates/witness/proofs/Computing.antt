@@ -8,6 +8,7 @@ use Rattle.base.specs.ReplicaSet.{has, with, withAll}
 use Rattle.base.specs.Rising.{rising}
 use Rattle.base.specs.Same.{same}
 use Rattle.protocol.specs.Client.{gathered, beginWrite, beginRead, afterStamp, onStamp, afterPrepared, onPrepared, afterWritten, afterWriteBack, onWritten, afterCard, countCard, onCard, clientStep, onReply}
+use Rattle.protocol.specs.Handing.{takeProof}
 use Rattle.protocol.specs.Bank.{noRegister, bankStep}
 use Rattle.protocol.specs.Order.{ordered, takeOrder}
 use Rattle.protocol.specs.RegisterReplica.{freshRegister, afterPrepare, afterWrite, registerStep, onRequest}
@@ -17,6 +18,7 @@ use Rattle.wire.specs.Card.{table, readFields, goodCardMap, readCard}
 use Rattle.wire.specs.Acceptance.{admits, admitted}
 use Rattle.wire.specs.Checks.{entriesOf, all, oneEach, shaped, proven, checked, proofOutcome}
 use Rattle.wire.specs.Decode.{kinds, ofKind, framed, messageIn, decode}
+use Rattle.wire.specs.HandedProof.{admittedProof}
 use Rattle.wire.specs.Layout.{rules, place, field}
 use Rattle.wire.specs.Message.{fields, joined, body, encode}
 use Rattle.wire.specs.Order.{isOrder}
@@ -28,7 +30,7 @@ unfolding fromBytes toBytes guard within same rules place field kinds ofKind fra
 messages = tt
 
 unfoldable pub steps : Unit {0}
-unfolding messages count hasClient withClient has with withAll rising entriesOf all oneEach shaped proven checked admits admitted proofOutcome table readFields goodCardMap readCard freshRegister afterPrepare afterWrite onRequest registerStep isOrder ordered takeOrder noRegister bankStep gathered beginWrite beginRead afterStamp onStamp afterPrepared onPrepared afterWritten afterWriteBack onWritten afterCard countCard onCard onReply clientStep afterView onViewerReply viewerStep bankAt clientAt answerTo
+unfolding messages count hasClient withClient has with withAll rising entriesOf all oneEach shaped proven checked admits admitted proofOutcome table readFields goodCardMap readCard freshRegister afterPrepare afterWrite onRequest registerStep isOrder ordered takeOrder noRegister bankStep gathered beginWrite beginRead afterStamp onStamp afterPrepared onPrepared afterWritten afterWriteBack onWritten afterCard countCard onCard onReply clientStep admittedProof takeProof afterView onViewerReply viewerStep bankAt clientAt answerTo
 steps = tt
 
 unfoldable pub digests : Unit {0}

@@ -1,4 +1,5 @@
 pub mod Answers
+pub mod AnyWrite
 pub mod BoundNeeded
 pub mod Cards
 pub mod Cast
@@ -6,6 +7,8 @@ pub mod Computing
 pub mod FirstWrite
 pub mod GoodOrder
 pub mod Meeting
+pub mod NewLaptop
+pub mod NoncesNeeded
 pub mod NotEmpty
 pub mod Replay
 pub mod SameHanded

@@ -30,7 +30,7 @@ use Rattle.witness.proofs.Cast.{replica-1, replica-2, replica-3, replic
 use Rattle.witness.proofs.Computing.{messages, steps, digests}
 use Rattle.witness.proofs.FirstWrite.{proof, prepared, write, written, shows, write-under-way, write-done}
 use Rattle.witness.proofs.Replay.{plays, freshStore, played}
-use Rattle.witness.proofs.Story.{Line, _↝_, _↛_, each, wellTold, told, Told, hasBytes, NoOtherCards, AllTrue, trueVerdicts, premises-told, only-counted, Sends, sends-told, done-told, refused-told, finished-told, allBytes, genuine-told}
+use Rattle.witness.proofs.Story.{Line, _↝_, _↛_, each, wellTold, told, Told, hasBytes, NoOtherCards, AllTrue, trueVerdicts, newNonces, premises-told, only-counted, Sends, sends-told, done-told, refused-told, finished-told, allBytes, genuine-told}
 
 -- ---- What is said
 
@@ -196,6 +196,10 @@ verdicts-true : AllTrue run story
 unfolding run story messages trueVerdicts
 verdicts-true = refl
 
+no-makings : newNonces story ≡ true
+unfolding story newNonces
+no-makings = refl
+
 no-other-cards : NoOtherCards run story cards
 unfolding story messages cards
 no-other-cards = refl
@@ -204,7 +208,7 @@ no-other-cards = refl
 
 pub premises : Premises run
 unfolding run count within
-premises = premises-told run story as-told cards (lit≤ tt) verdicts-true no-other-cards right-digests different-cards
+premises = premises-told run story as-told cards (lit≤ tt) verdicts-true no-makings no-other-cards right-digests different-cards
 
 pub claims : (x : RegisterId) → Claims run x
 claims = demand-3 run premises

@@ -57,7 +57,9 @@ records-right other (suc n) of (suc i) inside = records-right other n (λ j. of 
 
 -- ---- The store, and an event played with it
 
+-- With the f that clients are made with.
 pub record Store : Type 0 where
+  pub f : ℕ
   pub replicas : List Bank
   pub clients : List Client
 
@@ -84,10 +86,10 @@ inStore store (at-replica id e) = ltb (id .0) (length (store .replicas))
 inStore store (at-client id e) = ltb (id .0) (length (store .clients))
 
 abbrev withReplica : Store → ReplicaId → Bank → Store
-withReplica store id next = record { replicas = set (store .replicas) (id .0) next; clients = store .clients }
+withReplica store id next = record { f = store .f; replicas = set (store .replicas) (id .0) next; clients = store .clients }
 
 abbrev withClient : Store → ClientId → Client → Store
-withClient store id next = record { replicas = store .replicas; clients = set (store .clients) (id .0) next }
+withClient store id next = record { f = store .f; replicas = store .replicas; clients = set (store .clients) (id .0) next }
 
 -- How a replica steps as it is played: as `onReplicaEvent` says, or with an order's outcome as told, since no proof computes the hashes of its
 -- signature check.
@@ -106,7 +108,7 @@ play step store (at-replica id e) =
     record { answer = bankAnswer turn; next = withReplica store id (nextBank before turn) }
 play step store (at-client id e) =
     let before = clientIn store id in
-    let turn = onClientEvent id e before in
+    let turn = onClientEvent (store .f) id e before in
     record { answer = clientAnswer turn; next = withClient store id (nextClient before turn) }
 
 -- The lines' answers are those of their events, all at parties of the store.
@@ -126,12 +128,14 @@ module _ (R : Run) where
   abbrev pub freshStore : ℕ → Store
   freshStore c =
       record {
+        f = R .f;
         replicas = records 5 (λ i. freshBank (R .f) (replica-of i) (R .office-key (replica-of i)));
         clients = records (suc c) (λ i. freshClient (R .f) (client-of i) (R .first-nonce (client-of i)));
       }
 
   -- The store has the run's records before event t.
   record Holds (t : ℕ) (store : Store) : Type 0 where
+    f-is : store .f ≡ R .f
     replicas : Right no-replica (store .replicas) (λ i. bankAt R (replica-of i) t)
     clients : Right no-client (store .clients) (λ i. clientAt R (client-of i) t)
 
@@ -139,6 +143,7 @@ module _ (R : Run) where
   unfolding bankAt clientAt
   fresh-holds c =
       record {
+        f-is = refl;
         replicas = records-right no-replica 5 (λ i. freshBank (R .f) (replica-of i) (R .office-key (replica-of i)));
         clients = records-right no-client (suc c) (λ i. freshClient (R .f) (client-of i) (R .first-nonce (client-of i)));
       }
@@ -148,9 +153,9 @@ module _ (R : Run) where
   unfolding bankAt
   next-replica t e found i = ap (λ (x : Option Event). afterAtReplica (replica-of i) x (bankAt R (replica-of i) t)) (sym found)
 
-  next-client : (t : ℕ) (e : Event) → event R t ≡ some e → (i : ℕ) → afterAtClient (client-of i) (some e) (clientAt R (client-of i) t) ≡ clientAt R (client-of i) (suc t)
+  next-client : (t : ℕ) (e : Event) → event R t ≡ some e → (i : ℕ) → afterAtClient (R .f) (client-of i) (some e) (clientAt R (client-of i) t) ≡ clientAt R (client-of i) (suc t)
   unfolding clientAt
-  next-client t e found i = ap (λ (x : Option Event). afterAtClient (client-of i) x (clientAt R (client-of i) t)) (sym found)
+  next-client t e found i = ap (λ (x : Option Event). afterAtClient (R .f) (client-of i) x (clientAt R (client-of i) t)) (sym found)
 
   -- The replicas of the run step so.
   abbrev pub Rightly : Stepping → Type 0
@@ -173,6 +178,7 @@ module _ (R : Run) where
     still-holds : (t : ℕ) (store : Store) (e : Event) → event R t ≡ some e → inStore store e ≡ true → Holds t store → Holds (suc t) (play step store e .next)
     still-holds t store (at-replica id e) found there holds =
         record {
+          f-is = holds .f-is;
           replicas = λ i inside.
               steps-right no-replica (store .replicas) (λ j. bankAt R (replica-of j) t) (id .0) (λ b. nextBank b (step e b)) (ltb-true (id .0) (length (store .replicas)) there) (holds .replicas) i inside
               ∙ steps-so t id e found i ∙ next-replica t (at-replica id e) found i;
@@ -180,9 +186,11 @@ module _ (R : Run) where
         }
     still-holds t store (at-client id e) found there holds =
         record {
+          f-is = holds .f-is;
           replicas = λ i inside. holds .replicas i inside ∙ next-replica t (at-client id e) found i;
           clients = λ i inside.
-              steps-right no-client (store .clients) (λ j. clientAt R (client-of j) t) (id .0) (λ c. nextClient c (onClientEvent id e c)) (ltb-true (id .0) (length (store .clients)) there) (holds .clients) i inside
+              steps-right no-client (store .clients) (λ j. clientAt R (client-of j) t) (id .0) (λ c. nextClient c (onClientEvent (store .f) id e c)) (ltb-true (id .0) (length (store .clients)) there) (holds .clients) i inside
+              ∙ ap (λ (f : ℕ). afterAtClient f (client-of i) (some (at-client id e)) (clientAt R (client-of i) t)) (holds .f-is)
               ∙ next-client t (at-client id e) found i;
         }
 
@@ -190,7 +198,9 @@ module _ (R : Run) where
     unfolding answerTo
     answers-right t store (at-replica id e) found there holds =
         ap bankAnswer (sym (right t id e found)) ∙ ap (λ (b : Bank). bankAnswer (step e b)) (sym (holds .replicas (id .0) (ltb-true (id .0) (length (store .replicas)) there)))
-    answers-right t store (at-client id e) found there holds = ap (λ (c : Client). clientAnswer (onClientEvent id e c)) (sym (holds .clients (id .0) (ltb-true (id .0) (length (store .clients)) there)))
+    answers-right t store (at-client id e) found there holds =
+        ap (λ (f : ℕ). clientAnswer (onClientEvent f id e (clientAt R id t))) (sym (holds .f-is))
+        ∙ ap (λ (c : Client). clientAnswer (onClientEvent (store .f) id e c)) (sym (holds .clients (id .0) (ltb-true (id .0) (length (store .clients)) there)))
 
     each-played : (t : ℕ) (store : Store) (lines : List Line) → ((i : ℕ) → event R (t + i) ≡ getElem? (eventsOf lines) i) → Holds t store → playsBy step store lines ≡ true
         → Each (λ s line. code (registerOf (line .event)) (answerTo R s (some (line .event))) ≡ code (registerOf (line .event)) (line .answer)) t lines

@@ -4,8 +4,8 @@ use mathlib.Core.Logic.{_⊎_, inl, inr, ⊎-elim}
 use mathlib.Core.Bool.{Bool, true, false, _&&_, _||_, not}
 use mathlib.Core.List.{List, [], _∷_}
 use mathlib.Core.Option.{Option, none, some}
-use Prim.Native.Nat.{ℕ, zero, suc, _+_, _≤_, _<_}
-use native.Mathlib.Nat.{zero-add}
+use Prim.Native.Nat.{ℕ, zero, suc, _+_, _^_, _≤_, _<_}
+use native.Mathlib.Nat.{zero-add, eq-or-lt-of-le}
 use native.Mathlib.Omega.{arith}
 use borrow.Author.Tests.{eqb-true, eq-eqb, ltb-true, lt-leb}
 use lib.Dec.{eqb, leb, ltb, lit<, lit≤}
@@ -25,14 +25,15 @@ use Rattle.base.specs.declared.replica_set.ReplicaSet.{ReplicaSet}
 use Rattle.base.specs.declared.timestamp.Timestamp.{Timestamp}
 use Rattle.lms.specs.Lms.{isPublicKey}
 use Rattle.protocol.specs.Client.{Answer, send, waits, done, ended}
-use Rattle.protocol.specs.Events.{request-handed, order-handed, write-begun, read-begun, reply-handed}
-use Rattle.run.proofs.SentMessages.{said-later}
-use Rattle.run.specs.Claims.{GoesOn, Begins, Finished, Viewed, Genuine}
-use Rattle.run.specs.Premises.{TrueVerdicts, TrueFor, TrueAt, eventCard, Accepted, CardOfRun, FewFaulty, Premises}
+use Rattle.protocol.specs.Events.{request-handed, order-handed, write-begun, read-begun, reply-handed, made, proof-handed}
+use Rattle.run.proofs.SentMessages.{said-later, sent-legal}
+use Rattle.run.proofs.Slots.{split-last, order}
+use Rattle.run.specs.Claims.{NotMade, GoesOn, Begins, Finished, Viewed, Genuine}
+use Rattle.run.specs.Premises.{TrueVerdicts, TrueFor, TrueAt, eventCard, Accepted, CardOfRun, FewFaulty, Asks, for-stamps, for-cards, NewNonces, Premises}
 use Rattle.wire.specs.Acceptance.{Sender, replica, client}
-use Rattle.run.specs.Run.{Event, at-replica, at-client, begins-write, partyOf, registerOf, HasBytes, CorrectIn, Run, event, answerTo, answerAt, At, Sent}
+use Rattle.run.specs.Run.{Event, at-replica, at-client, begins-write, begins-read, makes, proof-to, partyOf, registerOf, HasBytes, CorrectIn, Run, event, answerTo, answerAt, At, Sent}
 use Rattle.wire.specs.Decode.{decode}
-use Rattle.wire.specs.Message.{Message, body}
+use Rattle.wire.specs.Message.{Message, Fits, body}
 use Rattle.wire.specs.Proof.{PreparedProof, signerSet, proofBytes, readProof}
 use Rattle.wire.specs.Checks.{proofOutcome}
 use Rattle.wire.specs.Sha256.{sha256}
@@ -40,7 +41,7 @@ use Rattle.wire.specs.Signatures.{Signature, signaturesOf, preparedSignatures}
 use Rattle.wire.specs.declared.message.Party.the-variants.{Replica as AtReplica, Client as AtClient}
 use Rattle.base.proofs.Same.{same-equal}
 use Rattle.base.proofs.Booleans.{or-true}
-use Rattle.witness.proofs.Answers.{no-test, code, is-sent, is-done, is-accepted, is-refused, isRefused, not-refused, goesOn, isCounted, is-counted}
+use Rattle.witness.proofs.Answers.{no-test, code, is-sent, is-done, is-accepted, is-refused, isRefused, not-refused, goesOn, isCounted, is-counted, isQuestion, askedNonce, question-told}
 use Rattle.witness.proofs.Cards.{Known, isKnown, isKnownIfThere, is-one, rightDigests, differentDigests, different}
 
 -- What happened, and what was answered or refused.
@@ -113,7 +114,7 @@ lineOf lines t e found = go (getElem? lines t) refl
         let there : some (line .event) ≡ some e = sym (ap eventIn at) ∙ sym (event-in t lines) ∙ found in
         (line, at, cc)
 
--- ---- A run from its lines: its bytes are bytes, writers begin its writes, and its events are at correct parties
+-- ---- A run from its lines: its bytes are bytes, viewing clients have their events alone, and its events are at correct parties
 
 unfoldable pub allBytes : List ℕ → Bool
 allBytes [] = true
@@ -132,6 +133,8 @@ hasBytes (at-client id (read-begun x)) = true
 hasBytes (at-replica id (request-handed bytes verdicts)) = allBytes bytes
 hasBytes (at-replica id (order-handed order)) = allBytes order
 hasBytes (at-client id (reply-handed bytes verdicts)) = allBytes bytes
+hasBytes (at-client id (made nonce)) = ltb nonce (2 ^ 64)
+hasBytes (at-client id (proof-handed x bytes verdicts)) = allBytes bytes
 
 pub has-bytes : (e : Event) → hasBytes e ≡ true → HasBytes e
 unfolding hasBytes
@@ -140,13 +143,18 @@ has-bytes (at-client id (read-begun x)) h = tt
 has-bytes (at-replica id (request-handed bytes verdicts)) h = all-bytes bytes h
 has-bytes (at-replica id (order-handed order)) h = all-bytes order h
 has-bytes (at-client id (reply-handed bytes verdicts)) h = all-bytes bytes h
+has-bytes (at-client id (made nonce)) h = ltb-true nonce (2 ^ 64) h
+has-bytes (at-client id (proof-handed x bytes verdicts)) h = all-bytes bytes h
 
-abbrev writerBegins : Event → Bool
-writerBegins (at-client id (write-begun x card)) = isWriter id
-writerBegins (at-client id (read-begun x)) = true
-writerBegins (at-replica id (request-handed bytes verdicts)) = true
-writerBegins (at-replica id (order-handed order)) = true
-writerBegins (at-client id (reply-handed bytes verdicts)) = true
+-- What a viewing client has no part in is at a writer.
+abbrev atWriter : Event → Bool
+atWriter (at-client id (write-begun x card)) = isWriter id
+atWriter (at-client id (read-begun x)) = true
+atWriter (at-replica id (request-handed bytes verdicts)) = true
+atWriter (at-replica id (order-handed order)) = true
+atWriter (at-client id (reply-handed bytes verdicts)) = true
+atWriter (at-client id (made nonce)) = isWriter id
+atWriter (at-client id (proof-handed x bytes verdicts)) = isWriter id
 
 abbrev pub correctIn : (ReplicaId → Bool) → (ClientId → Bool) → Sender → Bool
 correctIn replicas clients (replica id) = replicas id
@@ -176,16 +184,16 @@ unfolding isPublicKey fromBytes allBytes
 zero-key = (refl, all-bytes zeroKey refl)
 
 abbrev pub wellTold : ℕ → ℕ → ℕ → Line → Bool
-wellTold r c t line = hasBytes (line .event) && (writerBegins (line .event) && correctIn (replicasTo r) (clientsTo c) (partyOf (line .event)))
+wellTold r c t line = hasBytes (line .event) && (atWriter (line .event) && correctIn (replicasTo r) (clientsTo c) (partyOf (line .event)))
 
 module _ (r c : ℕ) (at-most-four : r ≤ 4) (at-most-96 : c ≤ 96) (lines : List Line) (good : each (wellTold r c) 0 lines ≡ true) where
-  pub well-told : (t : ℕ) (e : Event) → getElem? (eventsOf lines) t ≡ some e → (hasBytes e ≡ true) × (writerBegins e ≡ true) × (correctIn (replicasTo r) (clientsTo c) (partyOf e) ≡ true)
+  pub well-told : (t : ℕ) (e : Event) → getElem? (eventsOf lines) t ≡ some e → (hasBytes e ≡ true) × (atWriter e ≡ true) × (correctIn (replicasTo r) (clientsTo c) (partyOf e) ≡ true)
   well-told t e found =
       let at = lineOf lines t e found in
       let test = each-tested (wellTold r c) t lines (at .0) good (at .1) in
       let here : wellTold r c t (record { event = e; answer = at .0 .answer }) ≡ true = subst (λ (x : Event). wellTold r c t (record { event = x; answer = at .0 .answer }) ≡ true) (at .2) test in
-      let both = and-true-both (hasBytes e) (writerBegins e && correctIn (replicasTo r) (clientsTo c) (partyOf e)) here in
-      let rest = and-true-both (writerBegins e) (correctIn (replicasTo r) (clientsTo c) (partyOf e)) (both .1) in
+      let both = and-true-both (hasBytes e) (atWriter e && correctIn (replicasTo r) (clientsTo c) (partyOf e)) here in
+      let rest = and-true-both (atWriter e) (correctIn (replicasTo r) (clientsTo c) (partyOf e)) (both .1) in
       (both .0, rest .0, rest .1)
 
   -- All replicas have this key.
@@ -203,6 +211,8 @@ module _ (r c : ℕ) (at-most-four : r ≤ 4) (at-most-96 : c ≤ 96) (lines : L
         clients-in-range = λ id h. let b = bounds 1 c (id .0) h in (inside 1 96 (id .0) (b .0) (omega arith), lit≤ tt, lit< tt);
         keys-in-range = λ id h. is-key;
         writers-begin = λ t id x card found. well-told t (begins-write id x card) found .1;
+        writers-made = λ t id nonce found. well-told t (makes id nonce) found .1;
+        writers-take = λ t id x bytes verdicts found. well-told t (proof-to id x bytes verdicts) found .1;
         have-bytes = λ t e found. has-bytes e (well-told t e found .0);
         at-correct = λ t e found. correct-in (replicasTo r) (clientsTo c) (partyOf e) (well-told t e found .2);
       }
@@ -257,10 +267,43 @@ sentBefore lines party bytes (suc t) = sentIn party bytes (getElem? lines t) || 
 
 -- ---- Tests of a told run
 
--- The party's answers between two events are good.
+abbrev isMaking : Event → Bool
+isMaking (at-replica id e) = false
+isMaking (at-client id (write-begun x card)) = false
+isMaking (at-client id (read-begun x)) = false
+isMaking (at-client id (reply-handed bytes verdicts)) = false
+isMaking (at-client id (made nonce)) = true
+isMaking (at-client id (proof-handed x bytes verdicts)) = false
+
+-- What the line asks, if it is the client's question, has a nonce below this one.
+abbrev asksBelow : ClientId → ℕ → Option Line → Bool
+asksBelow id nonce none = true
+asksBelow id nonce (some line) =
+    let numbers = code (registerOf (line .event)) (line .answer) in
+    not (sameParty (partyOf (line .event)) (client id)) || (not (isQuestion numbers) || ltb (askedNonce numbers) nonce)
+
+-- So do the first t lines.
+askedBelow : List Line → ClientId → ℕ → ℕ → Bool
+askedBelow lines id nonce zero = true
+askedBelow lines id nonce (suc t) = asksBelow id nonce (getElem? lines t) && askedBelow lines id nonce t
+
+-- A making that is not refused has a new nonce.
+abbrev newAt : List Line → ℕ → Event → Outcome Answer → Bool
+newAt lines t (at-replica id e) answer = true
+newAt lines t (at-client id (write-begun x card)) answer = true
+newAt lines t (at-client id (read-begun x)) answer = true
+newAt lines t (at-client id (reply-handed bytes verdicts)) answer = true
+newAt lines t (at-client id (made nonce)) answer = isRefused answer || askedBelow lines id nonce t
+newAt lines t (at-client id (proof-handed x bytes verdicts)) answer = true
+
+unfoldable pub newNonces : List Line → Bool
+unfolding askedBelow code
+newNonces lines = each (λ t line. newAt lines t (line .event) (line .answer)) 0 lines
+
+-- The party is not made again between two events, and its answers are good.
 abbrev pub goodBetween : (List ℕ → Bool) → Sender → ℕ → ℕ → ℕ → Line → Bool
 goodBetween good party begun finished t line =
-    leb t begun || (leb finished t || (not (sameParty (partyOf (line .event)) party) || good (code (registerOf (line .event)) (line .answer))))
+    leb t begun || (leb finished t || (not (sameParty (partyOf (line .event)) party) || ((not (isMaking (line .event)) || isRefused (line .answer)) && good (code (registerOf (line .event)) (line .answer)))))
 
 abbrev pub AllBetween : List Line → (List ℕ → Bool) → Sender → ℕ → ℕ → Type 0
 AllBetween lines good party begun finished = each (goodBetween good party begun finished) 0 lines ≡ true
@@ -294,6 +337,8 @@ module _ (R : Run) (lines : List Line) where
   trueEvent t (at-replica id (request-handed bytes verdicts)) = trueFor t bytes verdicts (decode AtReplica bytes)
   trueEvent t (at-replica id (order-handed order)) = true
   trueEvent t (at-client id (reply-handed bytes verdicts)) = trueFor t bytes verdicts (decode AtClient bytes)
+  trueEvent t (at-client id (made nonce)) = true
+  trueEvent t (at-client id (proof-handed x bytes verdicts)) = true
 
   -- Each verdict of the run is true.
   abbrev pub AllTrue : Type 0
@@ -376,6 +421,8 @@ module _ (R : Run) (lines : List Line) (told : Told R lines) where
   true-event t (at-replica id (request-handed bytes verdicts)) h = true-for t bytes verdicts (decode AtReplica bytes) h
   true-event t (at-replica id (order-handed order)) h = tt
   true-event t (at-client id (reply-handed bytes verdicts)) h = true-for t bytes verdicts (decode AtClient bytes) h
+  true-event t (at-client id (made nonce)) h = tt
+  true-event t (at-client id (proof-handed x bytes verdicts)) h = tt
 
   pub true-verdicts : AllTrue R lines → (t : ℕ) → TrueAt R t (event R t)
   unfolding TrueAt
@@ -406,16 +453,54 @@ module _ (R : Run) (lines : List Line) (told : Told R lines) where
   different-digests cards no-other right all card card′ of-run of-run′ e =
       different cards card card′ right all (is-one cards card (known cards card no-other of-run)) (is-one cards card′ (known cards card′ no-other of-run′)) e
 
-  pub premises-told : (cards : List Known) → FewFaulty R → AllTrue R lines → NoOtherCards R lines cards → rightDigests cards ≡ true → differentDigests cards ≡ true → Premises R
-  premises-told cards few-faulty all-true no-other right all =
-      record { few-faulty = few-faulty; true-verdicts = true-verdicts all-true; different-digests = different-digests cards no-other right all }
+  asked-below : (id : ClientId) (nonce t s : ℕ) (line : Line) → askedBelow lines id nonce t ≡ true → s < t → getElem? lines s ≡ some line → asksBelow id nonce (some line) ≡ true
+  unfolding askedBelow
+  asked-below id nonce zero s line h l at = absurd (omega arith)
+  asked-below id nonce (suc t) s line h l at =
+      let both = and-true-both (asksBelow id nonce (getElem? lines t)) (askedBelow lines id nonce t) h in
+      split-last s t l (λ e. subst (λ (o : Option Line). asksBelow id nonce o ≡ true) (subst (λ (u : ℕ). getElem? lines u ≡ some line) e at) (both .0)) (λ k. asked-below id nonce t s line (both .1) k at)
+
+  -- A question of a correct client has a nonce below 2^64.
+  nonce-fits : (id : ClientId) (n : ℕ) (m : Message) → Asks id n m → Fits m → n < 2 ^ 64
+  unfolding Fits
+  nonce-fits id n m (for-stamps e) fits = subst Fits e fits .1
+  nonce-fits id n m (for-cards e) fits = subst Fits e fits .1
+
+  below : (id : ClientId) (nonce t n : ℕ) → askedBelow lines id nonce t ≡ true → (m : Message) → Asks id n m → (s : ℕ) → s < t → (at : At R s (client id)) → answerAt R s ≡ accepted (send m) → n < nonce
+  below id nonce t n all m a s l at answered =
+      let (line, there, is) = lineOf lines s (at .0) (sym (ap (λ (es : List Event). getElem? es s) (told .events)) ∙ at .1) in
+      let x = registerOf (line .event) in
+      let numbers : code x (accepted (send m)) ≡ code x (line .answer) = sym (ap (code x) answered) ∙ answer-told s line there in
+      let correct = subst (CorrectIn (R .correct-replica) (R .correct-client)) (at .2) (R .at-correct s (at .0) (at .1)) in
+      let fits = nonce-fits id n m a (sent-legal R (client id) correct s m at answered .fits) in
+      let (asks, is-nonce) = question-told x id n m a fits in
+      let by : sameParty (partyOf (line .event)) (client id) ≡ true = ap (λ (e : Event). sameParty (partyOf e) (client id)) is ∙ ap (λ (p : Sender). sameParty p (client id)) (at .2) ∙ same-party-self (client id) in
+      let asks-here : isQuestion (code x (line .answer)) ≡ true = sym (ap isQuestion numbers) ∙ asks in
+      let nonce-here : askedNonce (code x (line .answer)) ≡ n = sym (ap askedNonce numbers) ∙ is-nonce in
+      let test = asked-below id nonce t s line all l there in
+      ltb-true n nonce (rw (by, asks-here, nonce-here) at test)
+
+  pub new-nonces : newNonces lines ≡ true → NewNonces R
+  unfolding newNonces
+  new-nonces all t id nonce e a n (x, m, asks, said) =
+      let (line, there, is) = lineOf lines t (makes id nonce) (sym (ap (λ (es : List Event). getElem? es t) (told .events)) ∙ e) in
+      let test = each-tested (λ s l. newAt lines s (l .event) (l .answer)) t lines line all there in
+      let here : newAt lines t (makes id nonce) (line .answer) ≡ true = subst (λ (ev : Event). newAt lines t ev (line .answer) ≡ true) is test in
+      let y = registerOf (line .event) in
+      ⊎-elim (λ is-refused. absurd (not-refused y (a .0) (line .answer) (sym (ap (code y) (a .1)) ∙ answer-told t line there) is-refused))
+      (λ low. below id nonce t n low m asks (said .time) (said .earlier) (said .by) (said .answered))
+      (or-true (isRefused (line .answer)) (askedBelow lines id nonce t) here)
+
+  pub premises-told : (cards : List Known) → FewFaulty R → AllTrue R lines → newNonces lines ≡ true → NoOtherCards R lines cards → rightDigests cards ≡ true → differentDigests cards ≡ true → Premises R
+  premises-told cards few-faulty all-true new no-other right all =
+      record { few-faulty = few-faulty; true-verdicts = true-verdicts all-true; new-nonces = new-nonces new; different-digests = different-digests cards no-other right all }
 
   -- ---- Between two events
 
   between : (good : List ℕ → Bool) (party : Sender) (begun finished : ℕ) → AllBetween lines good party begun finished → (t : ℕ) → begun < t → t < finished → (at : At R t party)
-      → good (code (registerOf (at .0)) (answerAt R t)) ≡ true
+      → NotMade R t × (good (code (registerOf (at .0)) (answerAt R t)) ≡ true)
   between good party begun finished all t after before at =
-      subst (λ (e : Event). good (code (registerOf e) (answerAt R t)) ≡ true) (line .2) (ap good (answer-told t (line .0) (line .1)) ∙ tested-here)
+      (not-made, subst (λ (e : Event). good (code (registerOf e) (answerAt R t)) ≡ true) (line .2) (ap good (answer-told t (line .0) (line .1)) ∙ both .1))
     where
       line : (line : Line) × (getElem? lines t ≡ some line) × (line .event ≡ at .0)
       line = lineOf lines t (at .0) (sym (ap (λ (es : List Event). getElem? es t) (told .events)) ∙ at .1)
@@ -423,20 +508,34 @@ module _ (R : Run) (lines : List Line) (told : Told R lines) where
       by-party : sameParty (partyOf (line .0 .event)) party ≡ true
       by-party = ap (λ (e : Event). sameParty (partyOf e) party) (line .2) ∙ ap (λ (p : Sender). sameParty p party) (at .2) ∙ same-party-self party
 
-      tested-here : good (code (registerOf (line .0 .event)) (line .0 .answer)) ≡ true
+      tested-here : ((not (isMaking (line .0 .event)) || isRefused (line .0 .answer)) && good (code (registerOf (line .0 .event)) (line .0 .answer))) ≡ true
       tested-here =
           let test = each-tested (goodBetween good party begun finished) t lines (line .0) all (line .1) in
           rw (lt-leb t begun after, lt-leb finished t before, by-party) at test
+
+      both : ((not (isMaking (line .0 .event)) || isRefused (line .0 .answer)) ≡ true) × (good (code (registerOf (line .0 .event)) (line .0 .answer)) ≡ true)
+      both = and-true-both (not (isMaking (line .0 .event)) || isRefused (line .0 .answer)) (good (code (registerOf (line .0 .event)) (line .0 .answer))) tested-here
+
+      not-made : NotMade R t
+      not-made i nonce q a =
+          let y = registerOf (line .0 .event) in
+          ⊎-elim (λ no. let is : line .0 .event ≡ makes i nonce = cc (line .2, at .1) in no-test (sym (ap (λ (e : Event). not (isMaking e)) is) ∙ no))
+          (λ is-refused. not-refused y (a .0) (line .0 .answer) (sym (ap (code y) (a .1)) ∙ answer-told t (line .0) (line .1)) is-refused)
+          (or-true (not (isMaking (line .0 .event))) (isRefused (line .0 .answer)) (both .0))
 
   pub none-between : (id : ClientId) (begun finished : ℕ) → AllBetween lines goesOn (client id) begun finished → (t : ℕ) → begun < t → t < finished → At R t (client id) → GoesOn R t
   unfolding code
   none-between id begun finished all t after before at =
       let x = registerOf (at .0) in
-      let goes-on = between goesOn (client id) begun finished all t after before at in
-      record { not-done = λ timestamp card signers is. no-test (sym (ap goesOn (ap (code x) is)) ∙ goes-on); not-ended = λ is. no-test (sym (ap goesOn (ap (code x) is)) ∙ goes-on) }
+      let (not-made, goes-on) = between goesOn (client id) begun finished all t after before at in
+      record {
+        not-done = λ timestamp card signers is. no-test (sym (ap goesOn (ap (code x) is)) ∙ goes-on);
+        not-ended = λ is. no-test (sym (ap goesOn (ap (code x) is)) ∙ goes-on);
+        not-made = not-made;
+      }
 
   pub only-counted : (id : ClientId) (begun finished : ℕ) → AllBetween lines isCounted (client id) begun finished → (t : ℕ) → begun < t → t < finished → At R t (client id) → answerAt R t ≡ accepted waits
-  only-counted id begun finished all t after before at = is-counted (registerOf (at .0)) (answerAt R t) (between isCounted (client id) begun finished all t after before at)
+  only-counted id begun finished all t after before at = is-counted (registerOf (at .0)) (answerAt R t) (between isCounted (client id) begun finished all t after before at .1)
 
   -- ---- What a line says of the run
 
@@ -499,6 +598,53 @@ module _ (R : Run) (lines : List Line) (told : Told R lines) where
           is-done = done-told finished last timestamp card signers done-at;
           none-between = λ t l l′ at. none-between id begun finished all t l l′ at .not-done;
         }
+
+  -- An operation of a client that is made again before it is done is not finished.
+  module _ (x : RegisterId) (id : ClientId) (begun broken nonce : ℕ) (first : Event) (answer : Answer)
+      (begun-at : getElem? lines begun ≡ some (first ↝ answer)) (by : partyOf first ≡ client id) (after : begun < broken)
+      (broken-at : getElem? lines broken ≡ some (makes id nonce ↝ waits)) (all : AllBetween lines goesOn (client id) begun broken) where
+    made-there : event R broken ≡ some (makes id nonce)
+    made-there = event-told broken (makes id nonce ↝ waits) broken-at
+
+    counted-there : answerAt R broken ≡ accepted waits
+    unfolding code
+    counted-there = let x = registerOf (makes id nonce) in is-counted x (answerAt R broken) (ap isCounted (answer-told broken (makes id nonce ↝ waits) broken-at))
+
+    begun-by : (o : Finished R x) → o .begun ≡ begun → o .id ≡ id
+    begun-by o e = go (o .is-write) (subst (λ (t : ℕ). Begins R x (o .is-write) (o .id) (event R t)) e (o .begins))
+      where
+        there : event R begun ≡ some first
+        there = event-told begun (first ↝ answer) begun-at
+
+        same-id : (e : Event) → event R begun ≡ some e → partyOf e ≡ client (o .id) → o .id ≡ id
+        same-id e q p =
+            let one : e ≡ first = cc there in
+            let party : client (o .id) ≡ client id = sym p ∙ ap partyOf one ∙ by in
+            cc
+
+        go : (w : Bool) → Begins R x w (o .id) (event R begun) → o .id ≡ id
+        go true b = same-id (begins-write (o .id) x (b .0)) (b .1) refl
+        go false b = same-id (begins-read (o .id) x) b refl
+
+    pub broken-off : (o : Finished R x) → o .begun ≡ begun → ⊥
+    broken-off o e = ⊎-elim early late (order (o .finished) broken)
+      where
+        same-id : o .id ≡ id
+        same-id = begun-by o e
+
+        at : At R (o .finished) (client id)
+        at = subst (λ (i : ClientId). At R (o .finished) (client i)) same-id (o .at-client)
+
+        late : broken < o .finished → ⊥
+        late l =
+            o .none-between broken (omega arith) l (makes id nonce, made-there, ap client (sym same-id)) .not-made id nonce made-there (waits, counted-there)
+
+        early : o .finished ≤ broken → ⊥
+        early l =
+            let started = o .after in
+            ⊎-elim
+            (λ is. let z = subst (λ (t : ℕ). answerAt R t ≡ accepted (done (o .timestamp) (o .card) (o .signers))) is (o .is-done) in let y = counted-there in let z : _≡_ {A = ℕ} 0 1 = cc in omega arith)
+            (λ k. none-between id begun broken all (o .finished) (omega arith) k at .not-done (o .timestamp) (o .card) (o .signers) (o .is-done)) (eq-or-lt-of-le l)
 
   -- A prepared proof that passes 9 to 11 with verdicts that are true at the end of the run, for a register.
   pub genuine-told : (x : RegisterId) (proof : PreparedProof) (verdicts : List ℕ) → allBytes (proofBytes proof) ≡ true → readProof 32 (proofBytes proof) ≡ accepted proof

@@ -25,7 +25,7 @@ use Rattle.witness.proofs.Cast.{replica-1, replica-2, replica-3, replic
 use Rattle.witness.proofs.Computing.{messages, steps, digests}
 use Rattle.witness.proofs.FirstWrite.{proof-of, written, under-way, finishing}
 use Rattle.witness.proofs.Replay.{plays, freshStore, played}
-use Rattle.witness.proofs.Story.{Line, _↝_, _↛_, each, wellTold, told, Told, hasBytes, NoOtherCards, AllTrue, trueVerdicts, premises-told, refused-told, finished-told, allBytes, genuine-told}
+use Rattle.witness.proofs.Story.{Line, _↝_, _↛_, each, wellTold, told, Told, hasBytes, NoOtherCards, AllTrue, trueVerdicts, newNonces, premises-told, refused-told, finished-told, allBytes, genuine-told}
 
 -- Two writes of one client, of registers 1 and 2, at one timestamp with different cards; and a genuine prepared proof of each.
 pub record TwoDigests (R : Run) : Type 0 where
@@ -103,13 +103,17 @@ verdicts-true : AllTrue run story
 unfolding run story messages trueVerdicts
 verdicts-true = refl
 
+no-makings : newNonces story ≡ true
+unfolding story newNonces
+no-makings = refl
+
 no-other-cards : NoOtherCards run story cards
 unfolding story messages cards
 no-other-cards = refl
 
 pub premises : Premises run
 unfolding run count within
-premises = premises-told run story as-told cards (lit≤ tt) verdicts-true no-other-cards right-digests different-cards
+premises = premises-told run story as-told cards (lit≤ tt) verdicts-true no-makings no-other-cards right-digests different-cards
 
 pub faulty : run .correct-replica replica-4 ≡ false
 unfolding run within

@@ -16,7 +16,7 @@ use Rattle.protocol.specs.Client.{send, waits, done}
 use Rattle.protocol.specs.Parts.{startCard}
 use Rattle.run.proofs.Demand3.{demand-3}
 use Rattle.run.specs.Claims.{Finished, Claims}
-use Rattle.run.specs.Premises.{TrueAt, CardOfRun}
+use Rattle.run.specs.Premises.{TrueAt, CardOfRun, NewNonces}
 use Rattle.run.specs.Run.{begins-read, to-client, Run, event}
 use Rattle.wire.specs.Message.{Message, READ, CARD}
 use Rattle.wire.specs.Proof.{PreparedProof}
@@ -25,12 +25,13 @@ use Rattle.witness.proofs.Answers.{code}
 use Rattle.witness.proofs.Cast.{replica-1, replica-2, replica-3, register-1, client-1, client-2, 1·1, at-1·1, by-1-2-3, entry, from-replica, stale, one, four, service, service-digest, cards, right-digests, different-cards}
 use Rattle.witness.proofs.Computing.{messages, steps, digests}
 use Rattle.witness.proofs.Replay.{plays, freshStore, played}
-use Rattle.witness.proofs.Story.{Line, _↝_, each, wellTold, told, Told, hasBytes, NoOtherCards, different-digests, finished-told}
+use Rattle.witness.proofs.Story.{Line, _↝_, each, wellTold, told, Told, hasBytes, newNonces, new-nonces, NoOtherCards, different-digests, finished-told}
 
 -- The premise of true verdicts gives way, the others stand, and a claim fails.
 pub record VerdictsNeeded : Type 0 where
   pub run : Run
   pub few-faulty : count (replicaCount (run .f)) (λ id. not (run .correct-replica id)) ≤ run .f
+  pub new-nonces : NewNonces run
   pub different-digests : (card card′ : List ℕ) → CardOfRun run card → CardOfRun run card′ → sha256 card ≡ sha256 card′ → card ≡ card′
   pub claims-fail : Claims run register-1 → ⊥
 
@@ -69,6 +70,10 @@ as-told : Told run story
 unfolding run
 as-told = played run 2 story refl answers-as-told
 
+no-makings : newNonces story ≡ true
+unfolding story newNonces
+no-makings = refl
+
 no-other-cards : NoOtherCards run story cards
 unfolding story messages cards
 no-other-cards = refl
@@ -87,6 +92,7 @@ verdicts-needed =
     record {
       run = run;
       few-faulty = lit≤ tt;
+      new-nonces = new-nonces run story as-told no-makings;
       different-digests = different-digests run story as-told cards no-other-cards right-digests different-cards;
       -- The second read began after the first one finished, and lies before it.
       claims-fail = λ claims. claims .in-order finished-later finished-stale (lit< tt) (inl (lit< tt));
@@ -96,4 +102,4 @@ verdicts-needed =
 pub not-all-true : (needed : VerdictsNeeded) → ((t : ℕ) → TrueAt (needed .run) t (event (needed .run) t)) → ⊥
 not-all-true needed true-verdicts =
     needed .claims-fail
-    (demand-3 (needed .run) (record { few-faulty = needed .few-faulty; true-verdicts = true-verdicts; different-digests = needed .different-digests }) register-1)
+    (demand-3 (needed .run) (record { few-faulty = needed .few-faulty; true-verdicts = true-verdicts; new-nonces = needed .new-nonces; different-digests = needed .different-digests }) register-1)

@@ -25,7 +25,7 @@ use Rattle.witness.proofs.Cast.{replica-1, replica-2, replica-3, replic
 use Rattle.witness.proofs.Computing.{messages, steps, digests}
 use Rattle.witness.proofs.FirstWrite.{shows, write-under-way, write-done}
 use Rattle.witness.proofs.Replay.{plays, freshStore, played}
-use Rattle.witness.proofs.Story.{Line, _↝_, each, wellTold, told, Told, hasBytes, NoOtherCards, AllTrue, trueVerdicts, premises-told, finished-told, viewed-told}
+use Rattle.witness.proofs.Story.{Line, _↝_, each, wellTold, told, Told, hasBytes, NoOtherCards, AllTrue, trueVerdicts, newNonces, premises-told, finished-told, viewed-told}
 
 -- A view begun after a write was done shows that write and its signers, although the CARD that makes its quorum is a faulty replica's and shows 0.0.
 pub record ShowsWrite (R : Run) : Type 0 where
@@ -100,13 +100,17 @@ verdicts-true : AllTrue run story
 unfolding run story messages trueVerdicts
 verdicts-true = refl
 
+no-makings : newNonces story ≡ true
+unfolding story newNonces
+no-makings = refl
+
 no-other-cards : NoOtherCards run story cards
 unfolding story messages cards
 no-other-cards = refl
 
 pub premises : Premises run
 unfolding run count within
-premises = premises-told run story as-told cards (lit≤ tt) verdicts-true no-other-cards right-digests different-cards
+premises = premises-told run story as-told cards (lit≤ tt) verdicts-true no-makings no-other-cards right-digests different-cards
 
 -- ---- The write and the views
 

@@ -34,7 +34,7 @@ use Rattle.witness.proofs.Cast.{replica-1, replica-2, replica-3, regist
 use Rattle.witness.proofs.Computing.{messages, steps, digests}
 use Rattle.witness.proofs.GoodOrder.{order, key, is-key, names, good}
 use Rattle.witness.proofs.Replay.{Stepping, freshStore, playsBy, Rightly, playedBy}
-use Rattle.witness.proofs.Story.{Line, _↝_, _↛_, eventsOf, each, each-tested, lineOf, wellTold, toldUnder, Told, hasBytes, AllTrue, trueVerdicts, NoOtherCards, premises-told, Sends, event-told, answer-told, sends-told, done-told, refused-told}
+use Rattle.witness.proofs.Story.{Line, _↝_, _↛_, eventsOf, each, each-tested, lineOf, wellTold, toldUnder, Told, hasBytes, AllTrue, trueVerdicts, newNonces, NoOtherCards, premises-told, Sends, event-told, answer-told, sends-told, done-told, refused-told}
 
 -- ---- What happens: replicas 1 to 3 and client 1 are correct; clients 4 and 5 are faulty, and so bound to no rule
 
@@ -134,13 +134,17 @@ module _ (key : List ℕ) (is-key : (isPublicKey key ≡ true) × Bytes key) (go
   unfolding run story messages trueVerdicts
   verdicts-true = refl
 
+  no-makings : newNonces story ≡ true
+  unfolding story newNonces
+  no-makings = refl
+
   no-other-cards : NoOtherCards run story cards
   unfolding story messages cards
   no-other-cards = refl
 
   premises : Premises run
   unfolding run count within
-  premises = premises-told run story as-told cards (lit≤ tt) verdicts-true no-other-cards right-digests different-cards
+  premises = premises-told run story as-told cards (lit≤ tt) verdicts-true no-makings no-other-cards right-digests different-cards
 
   read-done : answerAt run 24 ≡ accepted (done at-1·4 service by-1-2-3)
   unfolding story

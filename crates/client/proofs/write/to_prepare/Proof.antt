@@ -26,7 +26,7 @@ returns-2 c =
     let is = the-successor (a .best) (a .client .id) (found .before .before .successor .result) (found .before .before .successor .ensures) next (found .next .given .1) in
     let to = withPhase (Prepareds next empty) (withDigest (digest .card-digest .result) (a .client)) in
     let sent = rw (c .before .with-phase2 .ensures, c .before .before .with-digest .ensures, c .before .before .before .empty .ensures) at (c .sent .ensures) in
-    let message = rw (last .last-written .ensures) at (wrote .write-prepare .ensures) in
+    let message = rw (last .written-for .ensures) at (wrote .write-prepare .ensures) in
     λ before. rw (is, ← digest .card-digest .ensures) (sends (a .out .now) (wrote .write-prepare .last .0) _ (s .pre) (wrote .write-prepare .result) (c .sent .result) to message sent)
 
 pub to-prepare-spec : {M : Type 1} → statement M

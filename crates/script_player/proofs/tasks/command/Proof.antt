@@ -8,7 +8,7 @@ abbrev Inv-loop : tie.InvT-loop
 Inv-loop name n₀ t4 n = Unit {0}
 
 abbrev μ-loop : tie.MeasureT-loop
-μ-loop name n₀ t4 n = 13 - n
+μ-loop name n₀ t4 n = 14 - n
 
 pub command-spec : {M : Type 1} → statement M
 command-spec =
