@@ -257,10 +257,8 @@ function begins(client,    what, i) {
     sends(client)
 }
 
-function takes_order(at) {
-    if (says == "refused") box("wrong", at, "order: " said)
-    else box("disk", at, "order: " withdrawn(order) " is withdrawn")
-}
+# An order, or a written proof that is handed over.
+function takes(what, at) { box(says == "refused" ? "wrong" : "disk", at, what ": " (says == "refused" ? said : taking())) }
 
 # A comment of the user's, without its marks.
 function remark(s) {
@@ -283,7 +281,9 @@ function rows(    n) {
         else if (call == "to-replica") n = replica_row(n)
         else if (call == "to-client") n = client_row(n)
         else if (begins_operation(call)) begins(whom)
-        else if (call == "order") takes_order(whom)
+        else if (call == "order") takes("order", whom)
+        else if (call == "hand") takes("written proof", whom)
+        else if (call == "client" && again) box("disk", whom, "made again")
         else if (call == "keep") box("disk", whom, "image taken")
         else if (call == "restore") box("disk", whom, "back from its image")
         else if (says == "refused") caption("unread", short(line[n]) ": " said)

@@ -1,11 +1,12 @@
 # What a script and its answers mean, for lines.awk and chart.awk. Five files are read first, `part` says which: the tables of
-# refusals and of a script's lines, for their words, the script, the same as the program read it, of which orders are kept, and its
-# answers, each in the line with the number of its call.
+# refusals and of a script's lines, for their words, the script, the same as the program read it, of which orders and written proofs
+# are kept, and its answers, each in the line with the number of its call.
 
 part == "refusals" && in_table("| | in short |") { split($0, cell, " *[|] *"); refusal_words[cell[2]] = cell[3] }
 part == "forms" && in_table("| line of a script |") { note_forms($0) }
 part == "script" { line[FNR] = $0; lines = FNR }
 part == "spelled" && $1 == "order" { order_of[FNR] = $3 }
+part == "spelled" && $1 == "hand" { proof_of[FNR] = $4 }
 part == "answers" { answer[FNR] = $0; answers = FNR }
 
 BEGIN {
@@ -100,8 +101,11 @@ function named(hex) {
     return kind_name[kind(hex)] (shown(hex) == "" ? "" : " " shown(hex)) for_register(register(hex))
 }
 
-# The client that an order withdraws.
-function withdrawn(hex) { return "client " value(hex, 2, 1) }
+# What was taken: the client that an order withdraws, or the timestamp of a written proof and for which register it is shown.
+function taking() {
+    if (call == "order") return "client " value(order, 2, 1) " is withdrawn"
+    return whom " shows " timestamp(proof, 0) " from now on" for_register(asked)
+}
 
 # The party that sent a message, by what it says itself.
 function source(hex) { return (kind(hex) > 4 ? "replica " : "client ") sender(hex) }
@@ -118,8 +122,8 @@ function role(name) { return name == "viewer" ? "client" : name }
 function is_comment(s) { return s == "" || substr(s, 1, 1) == "#" }
 
 # Takes a line apart: call and whom it is about, by role in `whom` and by its own name in `named_party`, the register of a
-# beginning (asked), the card of a write (text), the message that is handed over, an order's bytes; and its answer. Remembers what
-# was sent, and which parties are set up.
+# beginning or a written proof (asked), the card of a write (text), the message that is handed over, the bytes of an order or a
+# written proof; and its answer. Remembers what was sent, and which parties are set up; `again` is whether this one was before.
 function take(n,    word, from) {
     split(line[n], word, " ")
     from = word[1] == "lent" ? 2 : 0
@@ -136,18 +140,22 @@ function take(n,    word, from) {
         about(call == "view" ? "viewer" : "client", word[from + 2])
     else if (call == "order")
         about("replica", word[from + 2])
+    else if (call == "hand")
+        about("client", word[from + 2])
     else if (call == "keep" || call == "restore")
         about(word[from + 2], word[from + 3])
     else if (sets_up(call))
         about(call, word[from + 3])
     order = order_of[n]
+    proof = proof_of[n]
     order_name = call == "order" ? word[from + 3] : ""
-    asked = begins_operation(call) ? word[from + 3] : ""
+    asked = begins_operation(call) || call == "hand" ? word[from + 3] : ""
     text = call == "write" ? word[from + 4] : ""
     said = answer[n]
     split(said, word, " ")
     says = word[1]
     if (says == "new") forget()
+    again = says == "ready" && (named_party in stands)
     if (says == "ready") stands[named_party] = 1
     if (says == "kept") kept[named_party] = 1
     if (says == "sent") {
@@ -197,8 +205,10 @@ function meaningless(s,    word) {
     if (handed ~ /^@[0-9]+$/ && !(number_of(handed) in sent)) return "message " number_of(handed) " was not sent"
     if (number_of(handed) > 200) return "only the first 200 messages have numbers"
     if (call == "order" && word[1] == "lent") return "no output is lent with an order"
+    if (call == "hand" && word[1] == "lent") return "no output is lent with a written proof"
     if (order == "?") return "there is no file " order_name " that can be read"
     if (length(order) > 4096) return "an order has at most 2,048 bytes"
+    if (length(proof) > 4096) return "a written proof has at most 2,048 bytes here"
     return "the form is " (word[1] == "lent" && word[3] in form ? "lent N " form[word[3]] : form[word[1]])
 }
 
