@@ -382,12 +382,6 @@ impl Register {
 
     fn prepare(&mut self, id: u8, request: &Request, out: &mut [u8]) -> Answer {
         let client = request.sender;
-        if request
-            .written
-            .is_some_and(|p| p.timestamp.client() != client)
-        {
-            return Err(12);
-        }
         let shown = request.prepared.map_or(Timestamp::START, |p| p.timestamp);
         let successor = shown.count().checked_add(1).ok_or(13)?;
         let new = request.timestamp;

@@ -31,11 +31,19 @@ enum Phase {
     },
 }
 
+/// What PREPAREs for a register show.
+#[derive(Clone)]
+struct Written {
+    proof: WrittenProof,
+    /// Of the client's own last finished write, and not handed to it.
+    is_own: bool,
+}
+
 #[derive(Clone)]
 pub struct Client {
     asker: Asker,
-    /// Of the client's own last finished write of each register.
-    written: BTreeMap<u8, WrittenProof>,
+    /// By register.
+    written: BTreeMap<u8, Written>,
     phase: Phase,
 }
 
@@ -84,8 +92,31 @@ impl Client {
     }
 
     fn begin(&mut self, register: u8) -> Result<(), Refusal> {
-        let busy = !matches!(self.phase, Phase::Idle);
-        self.asker.begin(register, busy)
+        self.asker.begin(register, self.is_busy())
+    }
+
+    fn is_busy(&self) -> bool {
+        !matches!(self.phase, Phase::Idle)
+    }
+
+    /// Takes a written proof, of any client, to show until a write of its own has given it one (document 02, #106). The last
+    /// one counts, not the latest, and no nonce is used.
+    pub fn take_proof(
+        &mut self,
+        register: u8,
+        proof: &[u8],
+        verdicts: &[u8],
+    ) -> Result<(), Refusal> {
+        let proof = WrittenProof::check(proof, register, verdicts, self.asker.f)?;
+        let known = self.written.get(&register);
+        let has_own = known.is_some_and(|written| written.is_own);
+        refuse_if(17, self.is_busy() || has_own)?;
+        let handed = Written {
+            proof,
+            is_own: false,
+        };
+        self.written.insert(register, handed);
+        Ok(())
     }
 
     pub fn receive(
@@ -185,7 +216,11 @@ impl Client {
                     timestamp: done.timestamp,
                     entries: entries(replies),
                 };
-                self.written.insert(self.asker.register, proof);
+                let own = Written {
+                    proof,
+                    is_own: true,
+                };
+                self.written.insert(self.asker.register, own);
                 Answer::Done(done)
             }
             Phase::Read { replies } => self.finish_read(replies),
@@ -201,11 +236,12 @@ impl Client {
         let Some(timestamp) = latest.timestamp().successor(self.asker.id) else {
             return Answer::Ended;
         };
+        let written = self.written.get(&self.asker.register);
         let request = Message {
             timestamp: Some(timestamp),
             digest: Some(sha256(&card)),
             prepared: latest.proof,
-            written: self.written.get(&self.asker.register).cloned(),
+            written: written.map(|written| written.proof.clone()),
             ..self.request(PREPARE)
         };
         self.phase = Phase::Prepare {

@@ -105,6 +105,43 @@ pub struct WrittenProof {
     pub entries: Vec<Entry>,
 }
 
+impl WrittenProof {
+    /// Test 4, of a proof by itself. There is no 2: its number of entries alone says how long it is.
+    pub fn decode(bytes: &[u8]) -> Result<WrittenProof, Refusal> {
+        let mut reader = Reader(bytes);
+        let proof = reader.written().ok_or(4)?;
+        refuse_if(4, !reader.0.is_empty())?;
+        Ok(proof)
+    }
+
+    pub fn encode(&self) -> Vec<u8> {
+        let mut out = Vec::new();
+        self.put(&mut out);
+        out
+    }
+
+    fn put(&self, out: &mut Vec<u8>) {
+        put_timestamp(out, self.timestamp);
+        put_entries(out, &self.entries);
+    }
+
+    /// Tests 4, 20, 7 and 9 to 11 of a proof that is handed over for a register, with a verdict per entry (document 02, #106).
+    pub fn check(
+        bytes: &[u8],
+        register: u8,
+        verdicts: &[u8],
+        f: u8,
+    ) -> Result<WrittenProof, Refusal> {
+        let proof = WrittenProof::decode(bytes)?;
+        check_register(register)?;
+        check_verdicts(verdicts, proof.entries.len())?;
+        refuse_if(9, !is_quorum(&proof.entries, f))?;
+        refuse_if(10, verdicts.contains(&0))?;
+        refuse_if(11, !proof.timestamp.in_range())?;
+        Ok(proof)
+    }
+}
+
 #[derive(Clone, PartialEq, Debug)]
 pub struct Message {
     pub kind: u8,
@@ -156,6 +193,15 @@ pub fn check_room(room: usize) -> Result<(), Refusal> {
 /// Test 20.
 pub fn check_register(register: u8) -> Result<(), Refusal> {
     refuse_if(20, !REGISTERS.contains(&register))
+}
+
+/// Test 7, for so many signatures.
+fn check_verdicts(verdicts: &[u8], signatures: usize) -> Result<(), Refusal> {
+    let judged = |&verdict: &u8| verdict <= 1;
+    refuse_if(
+        7,
+        verdicts.len() != signatures || !verdicts.iter().all(judged),
+    )
 }
 
 /// The bits that a kind must have and those that it may have.
@@ -318,8 +364,7 @@ impl Message {
             put_entries(&mut out, &proof.entries);
         }
         if let Some(proof) = &self.written {
-            put_timestamp(&mut out, proof.timestamp);
-            put_entries(&mut out, &proof.entries);
+            proof.put(&mut out);
         }
         out.extend(self.addressed);
         out.extend(self.register);
@@ -446,10 +491,7 @@ impl Receiver {
         let views = self == Receiver::Replica && VIEWERS.contains(&message.sender);
         refuse_if(19, views && message.kind != READ)?;
         check_register(message.register())?;
-        refuse_if(
-            7,
-            verdicts.len() != message.signatures() || verdicts.iter().any(|&verdict| verdict > 1),
-        )?;
+        check_verdicts(verdicts, message.signatures())?;
         refuse_if(8, verdicts[0] == 0)?;
         refuse_if(23, withdrawn.contains(&message.sender))?;
         refuse_if(9, message.quorums().any(|entries| !is_quorum(entries, f)))?;

@@ -82,13 +82,13 @@ impl Register {
         }
     }
 
+    /// The written proof may be any client's: test 12 fell away with #106 of document 02.
     fn prepare(&mut self, request: &Message, reply: Message) -> Result<Message, Refusal> {
         let client = request.sender;
         let shown = request
             .written
             .as_ref()
             .map_or(Timestamp::START, |proof| proof.timestamp);
-        refuse_if(12, request.written.is_some() && shown.client != client)?;
         refuse_if(
             13,
             request.prepared_timestamp().successor(client) != request.timestamp,

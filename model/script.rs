@@ -1,6 +1,6 @@
 //! Plays a script by the model: what the proved program has to print, line by line.
 use super::client::Client;
-use super::message::{bits_of, Answer, Done, Message, Refusal, Timestamp};
+use super::message::{bits_of, Answer, Done, Message, Refusal, Timestamp, WrittenProof};
 use super::replica::{Register, Replica};
 use super::viewer::Viewer;
 use std::collections::BTreeMap;
@@ -9,9 +9,11 @@ use std::str::FromStr;
 
 /// A script may name the first messages alone by their number.
 pub const KEPT_MESSAGES: usize = 200;
-/// The longest key and the longest order that a line may have.
+/// The longest key, order and written proof that a line may have, and the most verdicts on such a proof.
 pub const LONGEST_KEY: usize = 64;
 pub const LONGEST_ORDER: usize = 2048;
+pub const LONGEST_PROOF: usize = 2048;
+pub const MOST_VERDICTS: usize = 400;
 /// The output that a call is lent if its line does not say.
 pub const FULL_OUTPUT: usize = 1600;
 
@@ -103,6 +105,30 @@ fn number<T: FromStr>(word: &str) -> Option<T> {
 /// One verdict 1 per signature; a single one for a message that cannot be laid out.
 pub fn all_genuine(message: &[u8]) -> Vec<u8> {
     vec![1; Message::decode(message).map_or(1, |message| message.signatures())]
+}
+
+/// One verdict 1 per entry of a written proof; none for bytes that cannot be laid out.
+pub fn genuine_entries(proof: &[u8]) -> Vec<u8> {
+    vec![1; WrittenProof::decode(proof).map_or(0, |proof| proof.entries.len())]
+}
+
+/// A written proof and its verdicts: `+` is one verdict 1 per entry.
+fn handing(proof: &str, verdicts: &str) -> Option<(Vec<u8>, Vec<u8>)> {
+    let proof = unhex_up_to(LONGEST_PROOF, proof)?;
+    let verdicts = if verdicts == "+" {
+        genuine_entries(&proof)
+    } else {
+        unhex_up_to(MOST_VERDICTS, verdicts)?
+    };
+    Some((proof, verdicts))
+}
+
+/// What is printed for a call that has nothing to send.
+fn taken(answer: Result<(), Refusal>) -> Output {
+    match answer {
+        Ok(()) => Output::Taken,
+        Err(refusal) => Output::Refused(refusal),
+    }
 }
 
 /// The call of a line and the length of the output that it is lent: `lent N CALL` says it.
@@ -206,10 +232,13 @@ impl Player {
             ["restore", "viewer", id] => self.viewers.restore(id),
             ["order", id, order] => {
                 let order = unhex_up_to(LONGEST_ORDER, order)?;
-                Some(match self.replicas.get(id)?.take_order(&order) {
-                    Ok(()) => Output::Taken,
-                    Err(refusal) => Output::Refused(refusal),
-                })
+                Some(taken(self.replicas.get(id)?.take_order(&order)))
+            }
+            ["hand", id, register, proof, verdicts] => {
+                let register = number(register)?;
+                let (proof, verdicts) = handing(proof, verdicts)?;
+                let client = self.clients.get(id)?;
+                Some(taken(client.take_proof(register, &proof, &verdicts)))
             }
             _ => None,
         }
@@ -242,7 +271,7 @@ impl Player {
         Some(self.output(answer))
     }
 
-    fn delivery(&mut self, message: &str, verdicts: &str) -> Option<(Vec<u8>, Vec<u8>)> {
+    fn delivery(&self, message: &str, verdicts: &str) -> Option<(Vec<u8>, Vec<u8>)> {
         let message = self.message(message)?;
         let verdicts = if verdicts == "+" {
             all_genuine(&message)
@@ -252,7 +281,7 @@ impl Player {
         Some((message, verdicts))
     }
 
-    fn message(&mut self, word: &str) -> Option<Vec<u8>> {
+    fn message(&self, word: &str) -> Option<Vec<u8>> {
         let Some(digits) = word.strip_prefix('@') else {
             return unhex(word);
         };

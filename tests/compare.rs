@@ -186,19 +186,19 @@ fn compare(program: &str, seed: u64, calls: usize) -> io::Result<bool> {
             return Ok(false);
         }
     }
-    Ok(occurred_enough(&tally, seed))
+    Ok(occurred_as_wanted(&tally, seed))
 }
 
-fn occurred_enough(tally: &Tally, seed: u64) -> bool {
+fn occurred_as_wanted(tally: &Tally, seed: u64) -> bool {
     tally.print();
-    let shortfalls = tally.shortfalls();
-    for shortfall in &shortfalls {
-        println!("too seldom: {shortfall}");
+    let faults = tally.faults();
+    for fault in &faults {
+        println!("{fault}");
     }
-    if shortfalls.is_empty() {
+    if faults.is_empty() {
         println!("{} calls compared, seed {seed}: all equal", tally.calls);
     }
-    shortfalls.is_empty()
+    faults.is_empty()
 }
 
 /// Compares on the scripts in files. `Ok(false)` where one differs.

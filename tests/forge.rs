@@ -1,4 +1,4 @@
-//! Cards, sound messages, and messages with defects: what damage and faulty parties hand over.
+//! Cards, sound messages, and messages and written proofs with defects: what damage and faulty parties hand over.
 use crate::model::card::{FIELDS, STARTING_CARD};
 use crate::model::message::*;
 use crate::model::random::Random;
@@ -12,6 +12,13 @@ const MOST_ENTRIES: usize = 24;
 /// What a party is handed.
 pub struct Delivery {
     pub message: Vec<u8>,
+    pub verdicts: Vec<u8>,
+}
+
+/// A written proof that a client is handed for a register.
+pub struct Handing {
+    pub register: u8,
+    pub proof: Vec<u8>,
     pub verdicts: Vec<u8>,
 }
 
@@ -144,6 +151,14 @@ pub fn trimmed(full: Message) -> Message {
     }
 }
 
+/// Some writer's, early or late.
+fn some_timestamp(random: &mut Random) -> Timestamp {
+    Timestamp {
+        count: random.pick(&[1, 2, 255, u32::MAX - 1]),
+        client: random.pick(&[1, 2, 63, 64]),
+    }
+}
+
 /// A message that breaks none of 2 to 14, but for its sender's number and its register.
 pub fn sound(random: &mut Random, kind: u8, sender: u8, register: u8, f: u8) -> Message {
     let shows = kind == WRITE || random.percent(60);
@@ -152,10 +167,8 @@ pub fn sound(random: &mut Random, kind: u8, sender: u8, register: u8, f: u8) -> 
     } else {
         STARTING_CARD.to_vec()
     };
-    let shown = Timestamp {
-        count: random.pick(&[1, 2, 255, u32::MAX - 1]),
-        client: random.pick(&[1, 2, 63, 64]),
-    };
+    let shown = some_timestamp(random);
+    let written = some_timestamp(random);
     let proof = prepared_proof(random, shown, sha256(&card), f);
     let client = if kind == PREPARE {
         sender
@@ -163,14 +176,13 @@ pub fn sound(random: &mut Random, kind: u8, sender: u8, register: u8, f: u8) -> 
         shown.client
     };
     let count = if shows { shown.count + 1 } else { 1 };
-    let own = Timestamp { count: 1, client };
     trimmed(Message {
         nonce: Some(random.number()),
         timestamp: Some(Timestamp { count, client }),
         digest: Some(random.bytes()),
         card: Some(card),
         prepared: Some(proof).filter(|_| shows),
-        written: Some(written_proof(random, own, f)).filter(|_| random.percent(50)),
+        written: Some(written_proof(random, written, f)).filter(|_| random.percent(50)),
         addressed: Some(random.pick(&[1, 64, 65, 96])),
         signature: random.bytes(),
         ..Message::new(kind, sender, register)
@@ -180,8 +192,8 @@ pub fn sound(random: &mut Random, kind: u8, sender: u8, register: u8, f: u8) -> 
 /// Puts a defect into a field, or answers false where the message has nothing of that sort.
 type Spoiler = fn(&mut Random, &mut Message, u8) -> bool;
 
-/// Those that need a proof or a card stand twice, as many messages have none.
-const SPOILERS: [Spoiler; 22] = [
+/// Those that need a proof or a card stand more than once, as many messages have none.
+const SPOILERS: [Spoiler; 21] = [
     spoil_kind,
     drop_field,
     add_field,
@@ -191,10 +203,9 @@ const SPOILERS: [Spoiler; 22] = [
     spoil_entries,
     lengthen_proofs,
     lengthen_proofs,
+    lengthen_proofs,
     spoil_timestamp,
     spoil_timestamp,
-    change_written_client,
-    change_written_client,
     change_timestamp,
     raise_to_last_count,
     spoil_card,
@@ -202,6 +213,17 @@ const SPOILERS: [Spoiler; 22] = [
     change_digest,
     change_nonce,
     change_addressed,
+    spoil_register,
+    change_register,
+];
+
+/// Of a written proof by itself.
+const PROOF_SPOILERS: [Spoiler; 7] = [
+    spoil_entries,
+    lengthen_proofs,
+    spoil_timestamp,
+    spoil_timestamp,
+    spoil_register,
     spoil_register,
     change_register,
 ];
@@ -310,14 +332,19 @@ fn lengthen_proofs(random: &mut Random, message: &mut Message, _: u8) -> bool {
             random.pick(&[11, 11, part]).min(left)
         };
         left -= number;
-        *entries = (1..=number as u8)
-            .map(|replica| Entry {
-                replica,
-                signature: random.bytes(),
-            })
-            .collect();
+        *entries = rising(random, number as u8);
     }
     true
+}
+
+/// Entries of replicas 1 to `number`, whether or not there are so many.
+pub fn rising(random: &mut Random, number: u8) -> Vec<Entry> {
+    (1..=number)
+        .map(|replica| Entry {
+            replica,
+            signature: random.bytes(),
+        })
+        .collect()
 }
 
 fn spoil_timestamp(random: &mut Random, message: &mut Message, _: u8) -> bool {
@@ -344,14 +371,6 @@ fn spoil_timestamp(random: &mut Random, message: &mut Message, _: u8) -> bool {
         4 => all[at].client = 96,
         _ => all[at].client = 255,
     }
-    true
-}
-
-fn change_written_client(random: &mut Random, message: &mut Message, _: u8) -> bool {
-    let Some(proof) = &mut message.written else {
-        return false;
-    };
-    proof.timestamp.client = random.pick(&[1, 2, 63, 64]);
     true
 }
 
@@ -481,17 +500,32 @@ pub fn whole(message: &Message) -> Delivery {
     }
 }
 
-/// The message with one to three defects, so that the order of the tests shows.
-pub fn spoiled(random: &mut Random, mut message: Message, f: u8) -> Delivery {
+/// A message's written proof by itself, which comes without the message's own verdict.
+fn written_alone(message: &Message) -> Delivery {
+    let proof = message.written.as_ref().expect("a written proof");
+    Delivery {
+        message: proof.encode(),
+        verdicts: vec![1; proof.entries.len()],
+    }
+}
+
+/// What is handed over of the message, with one to three defects, so that the order of the tests shows.
+fn with_defects(
+    random: &mut Random,
+    message: &mut Message,
+    f: u8,
+    spoilers: &[Spoiler],
+    handed: fn(&Message) -> Delivery,
+) -> Delivery {
     let mut of_sort = [0; 3];
     for _ in 0..1 + random.weighted(&[60, 30, 10]) {
         of_sort[random.weighted(&[66, 21, 13])] += 1;
     }
     let [fields, verdicts, bytes] = of_sort;
     for _ in 0..fields {
-        while !random.pick(&SPOILERS)(random, &mut message, f) {}
+        while !random.pick(spoilers)(random, message, f) {}
     }
-    let mut delivery = whole(&message);
+    let mut delivery = handed(message);
     for _ in 0..verdicts {
         spoil_verdicts(random, &mut delivery.verdicts);
     }
@@ -500,6 +534,25 @@ pub fn spoiled(random: &mut Random, mut message: Message, f: u8) -> Delivery {
     }
     delivery.message.truncate(LONGEST_SCRIPTED);
     delivery
+}
+
+/// The message with defects.
+pub fn spoiled(random: &mut Random, mut message: Message, f: u8) -> Delivery {
+    with_defects(random, &mut message, f, &SPOILERS, whole)
+}
+
+/// The written proof with defects, of which another register may be one.
+pub fn spoiled_handing(random: &mut Random, register: u8, proof: WrittenProof, f: u8) -> Handing {
+    let mut shown = Message {
+        written: Some(proof),
+        ..Message::new(PREPARE, 1, register)
+    };
+    let delivery = with_defects(random, &mut shown, f, &PROOF_SPOILERS, written_alone);
+    Handing {
+        register: shown.register(),
+        proof: delivery.message,
+        verdicts: delivery.verdicts,
+    }
 }
 
 /// Bytes that were never a message, some with a bit map that passes test 3.

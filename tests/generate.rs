@@ -1,4 +1,6 @@
 //! Scripts of random runs. The model plays each line as it is made, so that the next one can build on its answer.
+mod handings;
+
 use crate::forge::*;
 use crate::model::card::STARTING_CARD;
 use crate::model::message::*;
@@ -8,10 +10,14 @@ use crate::model::script::{all_genuine, hex, Output, Player, KEPT_MESSAGES};
 use crate::model::sha256::sha256;
 use crate::office::*;
 use crate::tally::{
-    AGAIN, BAD_KEY, ELSEWHERE, FOREIGN, FORGED, NO_PROOF, ORDER, OWN_PROOF, RIVAL, SCREEN, TWIN,
-    UNPROVED,
+    AGAIN, BAD_KEY, ELSEWHERE, FOREIGN, FORGED, HANDED, NO_PROOF, ORDER, OWN_PROOF, RIVAL, SCREEN,
+    TWIN, UNPROVED,
 };
+use handings::{every_handing, outlasting, Written};
 use std::collections::{BTreeMap, BTreeSet};
+
+/// One action in so many makes a client again: with more of them few operations would finish.
+const MADE_AGAIN_IN: usize = 500;
 
 /// Below the 1,048,576 bytes that the proved program reads, with room for the longest line.
 const SCRIPT_BYTES: usize = 990_000;
@@ -70,6 +76,17 @@ impl Script {
     fn note(&mut self, column: &'static str, row: &'static str) {
         *self.noted.entry((column, row)).or_default() += 1;
     }
+
+    /// Those of the rows that occurred.
+    fn note_those<const N: usize>(
+        &mut self,
+        column: &'static str,
+        rows: [(&'static str, bool); N],
+    ) {
+        for (row, _) in rows.into_iter().filter(|(_, occurred)| *occurred) {
+            self.note(column, row);
+        }
+    }
 }
 
 #[derive(Clone, Copy)]
@@ -115,6 +132,7 @@ struct Mail {
 struct Style {
     begin: usize,
     deliver: usize,
+    hand_to_busy: usize,
     forge_reply: usize,
     forge_request: usize,
     garbage: usize,
@@ -129,6 +147,7 @@ struct Style {
 const LEGAL: Style = Style {
     begin: 8,
     deliver: 92,
+    hand_to_busy: 1,
     forge_reply: 0,
     forge_request: 0,
     garbage: 0,
@@ -180,6 +199,8 @@ struct ClientView {
     is_write: bool,
     /// The registers of its finished writes.
     wrote: BTreeSet<u8>,
+    /// The timestamps of the written proofs that it was handed and shows, by register.
+    handed: BTreeMap<u8, Timestamp>,
     /// The kind of reply to the message sent last, and what replies to its operation have to name.
     awaited: u8,
     nonce: u64,
@@ -200,6 +221,7 @@ impl ClientView {
             register: 1,
             is_write: false,
             wrote: BTreeSet::new(),
+            handed: BTreeMap::new(),
             awaited: CARD,
             nonce: 1,
             timestamp: Timestamp {
@@ -211,6 +233,11 @@ impl ClientView {
             counted: Vec::new(),
             had_proof: false,
         }
+    }
+
+    /// After nonce 2^64 - 1 it begins nothing.
+    fn is_used_up(&self) -> bool {
+        !self.busy && self.nonce == u64::MAX
     }
 
     fn note_taken(&mut self, reply: Message) {
@@ -258,9 +285,14 @@ struct Run<'a> {
     /// The smallest count forged at present.
     lowest_count: u32,
     mail: Vec<Mail>,
-    /// Proofs that clients showed, with their registers, and the cards of the prepared ones.
+    /// Prepared proofs that clients showed, with their registers and cards.
     proofs: Vec<(u8, PreparedProof, Vec<u8>)>,
-    written: Vec<(u8, WrittenProof)>,
+    /// Written proofs that clients showed, or that were gathered.
+    written: Vec<Written>,
+    /// The signatures of all WRITTENs, by register and timestamp, then by replica.
+    said_written: BTreeMap<(u8, Timestamp), BTreeMap<u8, Signature>>,
+    /// PREPAREs that show a handed proof, without their signatures.
+    handed_prepares: BTreeSet<Vec<u8>>,
     /// Orders without defects, which go to several replicas.
     orders: Vec<Vec<u8>>,
     kept_replicas: BTreeSet<u8>,
@@ -378,6 +410,8 @@ pub fn fixed(random: &mut Random, office: &Office) -> Vec<Script> {
         every_order(random, office),
         every_part(random, office),
         every_register(random),
+        every_handing(random),
+        outlasting(random),
     ];
     scripts.extend(REGISTERS.map(every_reply));
     scripts
@@ -402,20 +436,25 @@ fn hand_first_card(script: &mut Script, id: u8, register: u8) {
     script.add(format!("{call} {id} {} +", hex(&reply.encode())));
 }
 
+/// What a message's signature covers.
+fn covered(message: &[u8]) -> &[u8] {
+    &message[..message.len() - 64]
+}
+
 /// The signing box: bytes that hang on all that is signed, which names the sender.
 fn sign(message: &mut Message) {
     let bytes = message.encode();
     let mix = |seed: u64, &byte: &u8| (seed ^ u64::from(byte)).wrapping_mul(0x100_0000_01b3);
-    let seed = bytes[..bytes.len() - 64].iter().fold(0, mix);
+    let seed = covered(&bytes).iter().fold(0, mix);
     message.signature = Random::new(seed).bytes();
 }
 
-/// The verdict on the entries of a proof that was shown for these registers: their signatures are genuine for no other. A proof
-/// that no client has shown is taken for genuine.
-fn entry_verdict(message: &Message, shown_for: impl Iterator<Item = u8>) -> u8 {
+/// The verdict on the entries of a proof that was shown or gathered for these registers: their signatures are genuine for no
+/// other. Another proof is taken for genuine.
+fn entry_verdict(register: Option<u8>, shown_for: impl Iterator<Item = u8>) -> u8 {
     let mut shown_for = shown_for.peekable();
     let is_known = shown_for.peek().is_some();
-    u8::from(!is_known || shown_for.any(|register| Some(register) == message.register))
+    u8::from(!is_known || shown_for.any(|known| Some(known) == register))
 }
 
 impl<'a> Run<'a> {
@@ -445,7 +484,7 @@ impl<'a> Run<'a> {
             f,
             key: random.below(KEYS),
             style,
-            extremes: random.percent(30),
+            extremes: random.percent(45),
             clients,
             senders,
             cards,
@@ -454,6 +493,8 @@ impl<'a> Run<'a> {
             mail: Vec::new(),
             proofs: Vec::new(),
             written: Vec::new(),
+            said_written: BTreeMap::new(),
+            handed_prepares: BTreeSet::new(),
             orders: Vec::new(),
             kept_replicas: BTreeSet::new(),
             kept_clients: BTreeMap::new(),
@@ -472,6 +513,9 @@ impl<'a> Run<'a> {
         }
         for at in 0..self.clients.len() {
             self.set_up_client(self.clients[at].id);
+        }
+        if self.random.percent(8) {
+            self.replace_laptop();
         }
         for _ in 0..100 + 80 * usize::from(self.f) {
             if self.script.is_full() {
@@ -518,10 +562,14 @@ impl<'a> Run<'a> {
         if self.random.below(self.office.one_in) == 0 {
             return self.hand_order();
         }
+        if self.random.below(MADE_AGAIN_IN) == 0 {
+            return self.make_some_again();
+        }
         let style = &self.style;
         let weights = [
             style.begin,
             style.deliver,
+            style.hand_to_busy,
             style.forge_reply,
             style.forge_request,
             style.garbage,
@@ -532,16 +580,17 @@ impl<'a> Run<'a> {
         match self.random.weighted(&weights) {
             0 => self.begin(),
             1 => self.deliver(),
-            2 => self.forge_reply(),
-            3 => self.forge_request(),
-            4 => self.hand_garbage(),
-            5 => self.keep_or_restore(),
-            6 => self.set_up(),
+            2 => self.hand_proof_to_busy(),
+            3 => self.forge_reply(),
+            4 => self.forge_request(),
+            5 => self.hand_garbage(),
+            6 => self.keep_or_restore(),
+            7 => self.set_up(),
             _ => self.stray_line(),
         }
     }
 
-    /// A client begins, most often an idle one.
+    /// A client begins, most often an idle one. Some writers are handed a written proof before that.
     fn begin(&mut self) {
         let idle = self.clients_that_are(false);
         let with_defects = self.style.defects > 0;
@@ -553,10 +602,18 @@ impl<'a> Run<'a> {
             true => return self.deliver(),
         };
         let id = self.clients[at].id;
+        // one that is used up is soon set up afresh
+        let is_used_up = self.clients[at].is_used_up();
+        let percent = if is_used_up { 60 } else { 20 };
+        if !is_viewer(id) && self.random.percent(percent) {
+            self.hand_proof(at);
+        }
         let wrote: Vec<u8> = self.clients[at].wrote.iter().copied().collect();
+        let handed: Vec<u8> = self.clients[at].handed.keys().copied().collect();
         let register = match self.random.below(20) {
             0 | 1 if with_defects => bad_register(self.random),
-            2..=12 if wrote.len() > 1 => self.random.pick(&wrote),
+            2..=13 if wrote.len() > 1 => self.random.pick(&wrote),
+            2..=15 if !handed.is_empty() => self.random.pick(&handed),
             _ => good_register(self.random),
         };
         let begun = match is_viewer(id) {
@@ -631,8 +688,17 @@ impl<'a> Run<'a> {
         }
         let most = 8 * usize::from(replicas(self.f));
         self.mail.drain(..self.mail.len().saturating_sub(most));
-        if let Party::Client(id) = from {
-            self.note_sent(id, message);
+        match from {
+            Party::Client(id) => self.note_sent(id, message),
+            Party::Replica(_) => self.note_reply(message),
+        }
+    }
+
+    fn note_reply(&mut self, reply: Message) {
+        if let (WRITTEN, Some(timestamp)) = (reply.kind, reply.timestamp) {
+            let said = (reply.register(), timestamp);
+            let signatures = self.said_written.entry(said).or_default();
+            signatures.insert(reply.sender, reply.signature);
         }
     }
 
@@ -722,6 +788,7 @@ impl<'a> Run<'a> {
         if let Some(client) = self.client(id) {
             if client.is_write {
                 client.wrote.insert(register);
+                client.handed.remove(&register);
             }
             let finished = Finished {
                 is_view: is_viewer(id),
@@ -746,8 +813,11 @@ impl<'a> Run<'a> {
         if let (Some(proof), Some(card)) = (&sent.prepared, &sent.card) {
             self.proofs.push((register, proof.clone(), card.clone()));
         }
-        let written = sent.written.clone();
-        self.written.extend(written.map(|proof| (register, proof)));
+        let written = sent
+            .written
+            .clone()
+            .map(|proof| Written { register, proof });
+        self.written.extend(written);
         if sent.kind == PREPARE {
             self.note_prepare(id, &sent);
         }
@@ -763,16 +833,24 @@ impl<'a> Run<'a> {
         }
     }
 
-    /// A client that has written other registers shows the written proof of this one, or none.
+    /// A client that was handed a written proof of this register shows that; one that has written other registers shows its own
+    /// of this one, or none.
     fn note_prepare(&mut self, id: u8, sent: &Message) {
         let register = sent.register();
-        let wrote_others = self
-            .client(id)
-            .is_some_and(|client| client.wrote.iter().any(|&other| other != register));
-        if wrote_others {
-            let shows_proof = sent.written.is_some();
-            let row = if shows_proof { OWN_PROOF } else { NO_PROOF };
-            self.script.note(Party::Client(id).call(), row);
+        let Some(client) = self.client(id) else {
+            return;
+        };
+        let wrote_others = client.wrote.iter().any(|&other| other != register);
+        let row = match (client.handed.contains_key(&register), &sent.written) {
+            (true, _) => HANDED,
+            (false, Some(_)) if wrote_others => OWN_PROOF,
+            (false, None) if wrote_others => NO_PROOF,
+            _ => return,
+        };
+        self.script.note(Party::Client(id).call(), row);
+        if row == HANDED {
+            let bytes = sent.encode();
+            self.handed_prepares.insert(covered(&bytes).to_vec());
         }
     }
 
@@ -780,20 +858,31 @@ impl<'a> Run<'a> {
     fn hand(&mut self, party: Party, delivery: Delivery, number: Option<usize>) -> Output {
         let Delivery { message, verdicts } = &delivery;
         let lent = self.lent(14);
-        let genuine = *verdicts == all_genuine(message) && self.random.percent(70);
-        let verdicts = if genuine {
-            "+".to_string()
-        } else {
-            hex(verdicts)
-        };
+        let verdicts = self.verdicts_word(verdicts, all_genuine(message));
         let word = number.map_or(hex(message), |number| format!("@{number}"));
         let (Party::Replica(id) | Party::Client(id)) = party;
         let line = format!("{lent}{} {id} {word} {verdicts}", party.call());
+        let rows = match party {
+            Party::Replica(id) => self.proof_rows(id, message),
+            Party::Client(_) => None,
+        };
         let answer = self.play_line(party, line, message);
         if let Party::Replica(id) = party {
             self.note_shut_out(id, &delivery, &answer);
         }
+        if let (Output::Sent(..), Some(rows)) = (&answer, rows) {
+            self.script.note_those(party.call(), rows);
+        }
         answer
+    }
+
+    /// Verdicts as a line has them; `genuine` is what `+` stands for.
+    fn verdicts_word(&mut self, verdicts: &[u8], genuine: Vec<u8>) -> String {
+        if verdicts == genuine && self.random.percent(70) {
+            "+".to_string()
+        } else {
+            hex(verdicts)
+        }
     }
 
     fn withdrawn_at(&self, replica: u8) -> Vec<u8> {
@@ -844,22 +933,27 @@ impl<'a> Run<'a> {
         }
     }
 
-    /// With the verdicts of the signing box, which knows the proofs that clients have shown.
+    /// With the verdicts of the signing box, which knows the proofs that were shown or gathered.
     fn judged(&self, message: &Message) -> Delivery {
+        let register = message.register;
         let prepared = message.prepared.iter().flat_map(|proof| {
             let shown = self.proofs.iter().filter(|(_, shown, _)| shown == proof);
-            let verdict = entry_verdict(message, shown.map(|shown| shown.0));
+            let verdict = entry_verdict(register, shown.map(|shown| shown.0));
             vec![verdict; proof.entries.len()]
         });
-        let written = message.written.iter().flat_map(|proof| {
-            let shown = self.written.iter().filter(|(_, shown)| shown == proof);
-            let verdict = entry_verdict(message, shown.map(|shown| shown.0));
-            vec![verdict; proof.entries.len()]
-        });
+        let written = message.written.iter();
+        let written = written.flat_map(|proof| self.written_verdicts(register, proof));
         Delivery {
             message: message.encode(),
             verdicts: [1].into_iter().chain(prepared).chain(written).collect(),
         }
+    }
+
+    /// The same of a written proof that is shown or handed over for a register.
+    fn written_verdicts(&self, register: Option<u8>, proof: &WrittenProof) -> Vec<u8> {
+        let known = self.written.iter().filter(|known| known.proof == *proof);
+        let verdict = entry_verdict(register, known.map(|known| known.register));
+        vec![verdict; proof.entries.len()]
     }
 
     /// Delivers a message, most often a young one; some are lost, some stay to be repeated.
@@ -1063,29 +1157,17 @@ impl<'a> Run<'a> {
         }));
         request.digest = Some(self.random.pick(&self.digests));
         if self.random.percent(45) {
-            request.written = Some(self.some_written_proof(sender));
+            request.written = Some(self.some_written_proof());
         }
     }
 
-    /// Mostly with the sender's own timestamp; some are other clients'.
-    fn some_written_proof(&mut self, sender: u8) -> WrittenProof {
+    /// Of any client.
+    fn some_written_proof(&mut self) -> WrittenProof {
         if !self.written.is_empty() && self.random.percent(10) {
-            return self.random.pick(&self.written).1;
+            return self.random.pick(&self.written).proof;
         }
         let timestamp = self.some_timestamp();
-        let client = if self.random.percent(94) {
-            sender
-        } else {
-            timestamp.client
-        };
-        written_proof(
-            self.random,
-            Timestamp {
-                client,
-                ..timestamp
-            },
-            self.f,
-        )
+        written_proof(self.random, timestamp, self.f)
     }
 
     fn hand_garbage(&mut self) {
@@ -1231,6 +1313,16 @@ impl<'a> Run<'a> {
             "order 1 - -",
             "order 1 +",
             "lent 1600 order 1 -",
+            "hand 40 1 - -",
+            "hand 65 1 - -",
+            "hand 1 1 -",
+            "hand 1 1 - - -",
+            "hand 1 1 @1 +",
+            "hand 1 x - -",
+            "hand 1 256 - -",
+            "hand 1 1 0 -",
+            "hand 1 1 - 0",
+            "lent 1600 hand 1 1 - -",
             "keep viewer 1",
             "restore client 65",
             "restore viewer 97",

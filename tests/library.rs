@@ -332,11 +332,11 @@ fn main() -> ExitCode {
             return ExitCode::FAILURE;
         }
     };
-    let shortfalls = CALLS.map(|call| tally.shortfalls_of(call)).concat();
-    for shortfall in &shortfalls {
-        println!("too seldom: {shortfall}");
+    let faults = CALLS.map(|call| tally.faults_of(call)).concat();
+    for fault in &faults {
+        println!("{fault}");
     }
-    if !shortfalls.is_empty() {
+    if !faults.is_empty() {
         return ExitCode::FAILURE;
     }
     println!(

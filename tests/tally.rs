@@ -4,6 +4,7 @@ use crate::model::message::{Done, Message, Timestamp, CARD, KIND_NAMES, LONGEST_
 use crate::model::script::{lent, unhex, Output};
 use std::cmp::Ordering;
 use std::collections::{BTreeMap, BTreeSet};
+use std::ops::RangeInclusive;
 
 /// Rows beside the answers: outputs on both sides of test 1; answered messages of the largest length; messages that are too
 /// long (2) or almost (9) by the entries of one proof or of two.
@@ -17,8 +18,9 @@ const HELD: [&str; 3] = ["held less", "held same", "held more"];
 const DONE: &str = "done";
 const TAKEN: &str = "taken";
 
-/// What a script calls an order.
+/// What a script calls an order, and handing a client a written proof.
 pub const ORDER: &str = "order";
+pub const HAND: &str = "hand";
 
 /// Operations that are done: with other signers than the replicas that were counted, or that showed the card; with CARDs of the
 /// timestamp that others signed than the first one; with a signer above 8; at 0.0, after a proof.
@@ -27,13 +29,30 @@ const SIGNERS: [&str; 4] = ["unheard", "tie", "above 8", "back at 0.0"];
 pub const RIVAL: &str = "rival";
 /// WRITEs of a timestamp that the replica holds with another card in another register.
 pub const TWIN: &str = "twin";
-/// Messages refused with 10 that show a proof of another register.
+/// Messages, and written proofs that are handed over, refused with 10 for a proof of another register.
 pub const FOREIGN: &str = "foreign";
 /// Replies refused with 18 for their register alone.
 pub const ELSEWHERE: &str = "elsewhere";
-/// PREPAREs of clients that have finished writes of other registers: with a written proof, which is of this one, or none.
+/// PREPAREs of clients that have finished writes of other registers: with their own written proof of this one, or with none.
 pub const OWN_PROOF: &str = "own proof";
 pub const NO_PROOF: &str = "no proof";
+/// PREPAREs that show a written proof handed to their client, as sent and as taken by a replica.
+pub const HANDED: &str = "handed";
+/// PREPAREs taken with another client's written proof; those of them that would be refused with 15 without it; and those of these
+/// whose client was handed it.
+pub const ANOTHERS: &str = "another's";
+pub const UNBLOCKED: &str = "unblocked";
+pub const FREED: &str = "freed";
+/// Busy clients that are made again: with a nonce above those used, with another, or refused for nonce 0.
+pub const MADE_AGAIN: [&str; 3] = ["nonce above", "nonce used", "16, nonce 0"];
+/// Written proofs refused with 17 because the client is busy, or for its own one alone; refused before 17, of such a client.
+pub const BUSY: &str = "17, busy";
+pub const HAS_OWN: &str = "17, own";
+pub const BEFORE_17: &str = "before 17";
+/// Taken in place of one with an earlier timestamp, or with a later one; by a client whose nonces are used up.
+pub const NEWER: &str = "newer";
+pub const OLDER: &str = "older";
+pub const USED_UP: &str = "used up";
 /// Set-ups refused with 16 for the key alone.
 pub const BAD_KEY: &str = "16, key";
 /// Orders taken against a client that is withdrawn already, or against a viewing client.
@@ -71,8 +90,8 @@ struct Column {
     refusals: &'static [u8],
 }
 
-/// All that can occur, by documents 01 and 02.
-const COLUMNS: [Column; 10] = [
+/// All that can occur, by documents 01 and 02: a refusal that a column does not have, as 12, must not.
+const COLUMNS: [Column; 11] = [
     Column {
         name: "replica",
         is_call: false,
@@ -82,7 +101,14 @@ const COLUMNS: [Column; 10] = [
     Column {
         name: "client",
         is_call: false,
-        rows: &["ready", "kept", "restored"],
+        rows: &[
+            "ready",
+            "kept",
+            "restored",
+            MADE_AGAIN[0],
+            MADE_AGAIN[1],
+            MADE_AGAIN[2],
+        ],
         refusals: &[16],
     },
     Column {
@@ -123,6 +149,24 @@ const COLUMNS: [Column; 10] = [
         refusals: &[21, 22],
     },
     Column {
+        name: HAND,
+        is_call: true,
+        rows: &[
+            TAKEN,
+            NEWER,
+            OLDER,
+            USED_UP,
+            BUSY,
+            HAS_OWN,
+            BEFORE_17,
+            FOREIGN,
+            REGISTER[0],
+            REGISTER[1],
+            REGISTER[2],
+        ],
+        refusals: &[4, 7, 9, 10, 11, 17, 20],
+    },
+    Column {
         name: "to-replica",
         is_call: true,
         rows: &[
@@ -147,13 +191,15 @@ const COLUMNS: [Column; 10] = [
             SHUT_OUT[4],
             FORGED,
             UNPROVED,
+            HANDED,
+            ANOTHERS,
+            UNBLOCKED,
+            FREED,
             REGISTER[0],
             REGISTER[1],
             REGISTER[2],
         ],
-        refusals: &[
-            1, 2, 3, 4, 5, 6, 7, 8, 9, 10, 11, 12, 13, 14, 15, 19, 20, 23,
-        ],
+        refusals: &[1, 2, 3, 4, 5, 6, 7, 8, 9, 10, 11, 13, 14, 15, 19, 20, 23],
     },
     Column {
         name: "to-client",
@@ -176,6 +222,7 @@ const COLUMNS: [Column; 10] = [
             ELSEWHERE,
             OWN_PROOF,
             NO_PROOF,
+            HANDED,
             REGISTER[0],
             REGISTER[1],
             REGISTER[2],
@@ -214,6 +261,8 @@ const ONE_IN: usize = 5_000;
 const DONE_IN: usize = 500;
 /// The bytes of a proof's entry.
 const ENTRY: usize = 65;
+/// The numbers of all tests.
+const REFUSALS: RangeInclusive<u8> = 1..=23;
 
 fn refusal_row(refusal: u8) -> String {
     format!("refused {refusal}")
@@ -225,12 +274,15 @@ fn rows() -> Vec<String> {
         |names: &[&str]| -> Vec<String> { names.iter().map(|name| name.to_string()).collect() };
     [
         names(&["ready", "kept", "restored"]),
+        names(&MADE_AGAIN),
         names(&KIND_NAMES),
         names(&["counted", DONE]),
         names(&HELD),
         names(&SIGNERS),
         names(&["ended", TAKEN, AGAIN, SCREEN]),
-        (1..=23).map(refusal_row).collect(),
+        names(&[NEWER, OLDER, USED_UP]),
+        REFUSALS.map(refusal_row).collect(),
+        names(&[BUSY, HAS_OWN, BEFORE_17]),
         names(&[BAD_KEY, FORGED, UNPROVED]),
         names(&SHUT_OUT),
         names(&LENT),
@@ -238,14 +290,15 @@ fn rows() -> Vec<String> {
         names(&LONG),
         names(&BOTH_LONG),
         names(&[RIVAL, TWIN, FOREIGN, ELSEWHERE, OWN_PROOF, NO_PROOF]),
+        names(&[HANDED, ANOTHERS, UNBLOCKED, FREED]),
         names(&REGISTER),
     ]
     .concat()
 }
 
-/// The message that a call hands over in hex.
-fn handed(call: &str) -> Option<Vec<u8>> {
-    unhex(call.split(' ').nth(2)?)
+/// The message that a call delivers in hex.
+fn delivered(call: &str) -> Option<Vec<u8>> {
+    unhex(call.strip_prefix("to-")?.split(' ').nth(2)?)
 }
 
 /// The register that a call is for: of a beginning, or of a message in hex that has passed 2 to 4.
@@ -398,7 +451,7 @@ impl Tally {
         if call.len() < least {
             return;
         }
-        let Some(bytes) = handed(call) else {
+        let Some(bytes) = delivered(call) else {
             return;
         };
         let at = match output {
@@ -427,7 +480,7 @@ impl Tally {
     }
 
     fn note_shut_out(&mut self, column: &Column, call: &str, output: &Output) {
-        let (Output::Refused(23), Some(message)) = (output, handed(call)) else {
+        let (Output::Refused(23), Some(message)) = (output, delivered(call)) else {
             return;
         };
         let kind = usize::from(message[2]);
@@ -461,34 +514,43 @@ impl Tally {
         println!("{} calls, {} accepted", self.calls, self.accepted);
     }
 
-    /// What occurred too seldom for the comparison to mean much.
-    pub fn shortfalls(&self) -> Vec<String> {
+    /// What occurred too seldom for the comparison to mean much, and refusals that cannot occur.
+    pub fn faults(&self) -> Vec<String> {
         let names = COLUMNS.iter().map(|column| column.name);
-        let mut short: Vec<String> = names.flat_map(|name| self.shortfalls_of(name)).collect();
+        let mut faults: Vec<String> = names.flat_map(|name| self.faults_of(name)).collect();
         if 3 * self.accepted < self.calls {
-            short.push(format!(
-                "{} of {} calls accepted, wanted a third",
+            faults.push(format!(
+                "too seldom: {} of {} calls accepted, wanted a third",
                 self.accepted, self.calls
             ));
         }
-        short
+        faults
     }
 
     /// The same of a single column.
-    pub fn shortfalls_of(&self, name: &str) -> Vec<String> {
+    pub fn faults_of(&self, name: &str) -> Vec<String> {
         let column = Column::named(name).expect("a column's name");
-        let mut short = Vec::new();
+        let mut faults = self.impossible(column);
         for row in rows() {
             let times = self.times(column, &row);
             let one_in = if row == DONE { DONE_IN } else { ONE_IN };
             let least = self.calls / one_in;
             if column.has(&row) && times < least {
-                short.push(format!(
-                    "{}, {row}: {times} times, wanted at least {least}",
+                faults.push(format!(
+                    "too seldom: {}, {row}: {times} times, wanted at least {least}",
                     column.name
                 ));
             }
         }
-        short
+        faults
+    }
+
+    fn impossible(&self, column: &Column) -> Vec<String> {
+        let others = REFUSALS.filter(|refusal| !column.refusals.contains(refusal));
+        others
+            .map(refusal_row)
+            .filter(|row| self.times(column, row) > 0)
+            .map(|row| format!("impossible: {}, {row}", column.name))
+            .collect()
     }
 }

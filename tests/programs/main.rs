@@ -6,6 +6,7 @@ mod cards;
 #[allow(dead_code)] // the other comparisons use more of it
 #[path = "../forge.rs"]
 mod forge;
+mod handings;
 mod judgements;
 mod messages;
 #[allow(dead_code)] // the other comparisons use more of it
@@ -32,7 +33,7 @@ struct Comparison {
     floors: &'static [(&'static str, usize)],
 }
 
-const COMPARISONS: [Comparison; 5] = [
+const COMPARISONS: [Comparison; 6] = [
     Comparison {
         name: "cards",
         run: cards::compare,
@@ -47,6 +48,11 @@ const COMPARISONS: [Comparison; 5] = [
         name: "messages",
         run: judgements::compare,
         floors: &judgements::FLOORS,
+    },
+    Comparison {
+        name: "messages",
+        run: handings::compare,
+        floors: &handings::FLOORS,
     },
     Comparison {
         name: "player",

@@ -35,7 +35,7 @@ pub const FLOORS: [(&str, usize); 23] = [
 ];
 
 /// Few timestamps, so that many are equal, and numbers at which another byte decides.
-fn timestamp(random: &mut Random) -> Timestamp {
+pub fn timestamp(random: &mut Random) -> Timestamp {
     let any = random.number() as u32;
     Timestamp {
         count: random.pick(&[0, 1, 1, 2, 255, 256, 65_535, 65_536, u32::MAX, any]),
@@ -297,7 +297,7 @@ fn signature(party: &str, message: &Message) -> String {
 }
 
 /// The signatures of the entries: each is that of its replica's PREPARED or WRITTEN for the register of this message.
-fn entry_signatures(message: &Message) -> Vec<String> {
+pub fn entry_signatures(message: &Message) -> Vec<String> {
     let register = message.register();
     let prepared = message.prepared.iter().flat_map(|proof| {
         proof.entries.iter().map(|entry| Message {
