@@ -82,7 +82,7 @@ module _ (w : Writing) where
   abbrev pub preparing-at : ReplicaId → Line
   preparing-at r = to-replica r (asked prepare) prepare-verdicts ↝ send (prepared r)
 
-  -- Its bytes and verdicts, for a replica that does not.
+  -- Its bytes, for a replica that does not.
   abbrev pub prepare-bytes : List ℕ
   prepare-bytes = asked prepare
 
