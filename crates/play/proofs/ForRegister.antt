@@ -130,7 +130,7 @@ module _ (log : Log) (client : Client) (old : List ℕ) (good : GoodClient clien
       taken turn e =
           let (m, admitted, by) = client-takes client bytes verdicts turn e in
           let own = client .register in
-          let facts = client-facts client verdicts (signature bytes) m turn (good .fits) (good .phase-fits) (decoded-fits AtClient bytes own m (admitted .decodes) small)
+          let facts = client-facts client (signature bytes) verdicts m turn (good .fits) (good .phase-fits) (decoded-fits AtClient bytes own m (admitted .decodes) small)
           (decoded-signature AtClient bytes own m (admitted .decodes) small) (admitted .ranged) (admitted .passed) by in
           record {
             good = record { fits = facts .fits; phase-fits = facts .phase-fits };

@@ -2,9 +2,10 @@
 use mathlib.Core.Path.{_≡_}
 use mathlib.Core.Bool.{Bool, true, false, cond}
 use mathlib.Core.List.{List}
-use mathlib.Core.Option.{Option, some}
+use mathlib.Core.Option.{Option, none, some}
 use Prim.Native.Nat.{ℕ, _+_, _^_, _<_}
 use lib.Dec.{ltb}
+use lib.ListN.{set}
 use Rattle.base.specs.Party.{isWriter, isReplica, isRegister, registerPlace}
 use Rattle.base.specs.ReplicaSet.{empty, has, with, isQuorum}
 use Rattle.base.specs.Timestamp.{number, successor}
@@ -12,10 +13,11 @@ use Rattle.base.specs.declared.party.RegisterId.{RegisterId}
 use Rattle.base.specs.declared.party.ReplicaId.{ReplicaId}
 use Rattle.base.specs.declared.replica_set.ReplicaSet.{ReplicaSet}
 use Rattle.base.specs.declared.timestamp.Timestamp.{Timestamp}
+use Rattle.wire.specs.Card.{isCard}
 use Rattle.wire.specs.Message.{Message, PREPARE, WRITE, STAMP, PREPARED, WRITTEN, CARD}
-use Rattle.wire.specs.Proof.{PreparedProof, WrittenProof, signerSet}
+use Rattle.wire.specs.Proof.{Entry, PreparedProof, WrittenProof, signerSet}
 use Rattle.wire.specs.Sha256.{sha256}
-use Rattle.protocol.specs.Client.{Answer, send, waits, done, ended, Turn, currentCard, writtenAt, lastWritten, bestOf, showedBy, AfterCards, afterCard}
+use Rattle.protocol.specs.Client.{Answer, send, waits, done, ended, Turn, currentCard, bestProof, bestShown, writtenAt, lastWritten, built, withSignature, keeping, bestOf, showedBy, AfterCards, afterCard}
 use Rattle.protocol.specs.Viewer.{afterView}
 use Rattle.protocol.specs.Parts.{cardStands}
 use Rattle.protocol.specs.declared.client.Client.{Client}
@@ -51,6 +53,7 @@ pub record Begun (before : Client) (register : RegisterId) (question : Message) 
   pub written-kept : turn .next .written ≡ before .written
   pub nonce : turn .next .«last_nonce» ≡ before .«last_nonce» + 1
   pub phase-is : turn .next .phase ≡ phase
+  pub is-card : isCard card ≡ true
   pub card-is : currentCard (turn .next) ≡ card
   pub no-signers : turn .next .signers ≡ empty
   pub fits : ClientFits (turn .next)
@@ -70,72 +73,100 @@ pub record SameCard (before after : Client) : Type 0 where
 abbrev pub NewFrom : Client → ReplicaId → ReplicaSet → Type 0
 NewFrom before sender counted = (isReplica (before .f) sender ≡ true) × (has counted sender ≡ false)
 
--- The card of the better of the best reply so far and this one.
+-- One more replica is counted, and then they are a quorum, or not yet.
+abbrev pub OneMore : Client → ReplicaId → ReplicaSet → Bool → Type 0
+OneMore before sender counted full = (isReplica (before .f) sender ≡ true) × (has counted sender ≡ false) × (isQuorum (before .f) (with counted sender) ≡ full)
+
+-- The better of the best reply so far and this one: its card,
 abbrev pub betterCard : Timestamp → Option PreparedProof → List ℕ → Client → List ℕ
 betterCard best proof card before = cond (ltb (number best) (preparedTimestamp proof)) card (currentCard before)
 
--- The signers of its proof.
+-- the signers of its proof,
 abbrev pub betterSigners : Timestamp → Option PreparedProof → Client → ReplicaSet
 betterSigners best proof before = cond (ltb (number best) (preparedTimestamp proof)) (preparedSigners proof) (before .signers)
 
-pub data ClientCase (before : Client) (message : Message) (turn : Turn) : Type 0 where
+-- and that proof.
+abbrev pub betterProof : Timestamp → Option PreparedProof → Client → Option PreparedProof
+betterProof best proof before = cond (ltb (number best) (preparedTimestamp proof)) proof (bestShown before best)
+
+pub record BetterKept (best : Timestamp) (proof : Option PreparedProof) (before after : Client) : Type 0 where
+  pub signers-are : after .signers ≡ betterSigners best proof before
+  pub proof-is : bestShown after (bestOf best proof) ≡ betterProof best proof before
+
+-- The signatures that came, with one more, and the entries that are built of them.
+abbrev pub signaturesWith : Client → ReplicaId → List ℕ → List ℕ
+signaturesWith before sender own = withSignature (before .signatures) sender own
+
+abbrev pub entriesWith : Client → ReplicaId → ReplicaSet → List ℕ → List Entry
+entriesWith before sender counted own = built before (with counted sender) (signaturesWith before sender own)
+
+-- A client takes a message with this own signature.
+pub data ClientCase (before : Client) (own : List ℕ) (message : Message) (turn : Turn) : Type 0 where
   stamp-counted : (sender : ReplicaId) (nonce : ℕ) (proof : Option PreparedProof) (best : Timestamp) (counted : ReplicaSet)
-      → message ≡ STAMP sender nonce proof (before .id) → before .phase ≡ Stamps nonce best counted → NewFrom before sender counted
-      → currentCard (turn .next) ≡ currentCard before → turn .next .signers ≡ betterSigners best proof before
-      → Leaves turn waits (Stamps nonce (bestOf best proof) (with counted sender)) → ClientCase before message turn
+      → message ≡ STAMP sender nonce proof (before .id) → before .phase ≡ Stamps nonce best counted → OneMore before sender counted false
+      → currentCard (turn .next) ≡ currentCard before → BetterKept best proof before (turn .next)
+      → Leaves turn waits (Stamps nonce (bestOf best proof) (with counted sender)) → ClientCase before own message turn
   stamps-enough : (sender : ReplicaId) (nonce : ℕ) (proof : Option PreparedProof) (best : Timestamp) (counted : ReplicaSet) (next : Timestamp)
       (shown : Option PreparedProof) (last : Option WrittenProof)
-      → message ≡ STAMP sender nonce proof (before .id) → before .phase ≡ Stamps nonce best counted → NewFrom before sender counted
-      → isQuorum (before .f) (with counted sender) ≡ true → successor (bestOf best proof) (before .id) ≡ some next
+      → message ≡ STAMP sender nonce proof (before .id) → before .phase ≡ Stamps nonce best counted → OneMore before sender counted true
+      → successor (bestOf best proof) (before .id) ≡ some next
       → currentCard (turn .next) ≡ currentCard before → turn .next .digest ≡ sha256 (currentCard before) → turn .next .signers ≡ empty
-      → preparedTimestamp shown ≡ number (bestOf best proof) → last ≡ lastWritten before
-      → Leaves turn (send (PREPARE (before .id) (number next) (sha256 (currentCard before)) shown last)) (Prepareds next empty) → ClientCase before message turn
+      → shown ≡ betterProof best proof before → preparedTimestamp shown ≡ number (bestOf best proof) → last ≡ lastWritten before
+      → Leaves turn (send (PREPARE (before .id) (number next) (sha256 (currentCard before)) shown last)) (Prepareds next empty) → ClientCase before own message turn
   stamps-ended : (sender : ReplicaId) (nonce : ℕ) (proof : Option PreparedProof) (best : Timestamp) (counted : ReplicaSet)
       → message ≡ STAMP sender nonce proof (before .id) → before .phase ≡ Stamps nonce best counted
-      → Leaves turn ended Idle → ClientCase before message turn
+      → successor (bestOf best proof) (before .id) ≡ none → Leaves turn ended Idle → ClientCase before own message turn
   prepared-counted : (sender : ReplicaId) (timestamp : Timestamp) (counted : ReplicaSet)
-      → message ≡ PREPARED sender (number timestamp) (before .digest) → before .phase ≡ Prepareds timestamp counted → NewFrom before sender counted
-      → isQuorum (before .f) (with counted sender) ≡ false → SameCard before (turn .next)
-      → Leaves turn waits (Prepareds timestamp (with counted sender)) → ClientCase before message turn
+      → message ≡ PREPARED sender (number timestamp) (before .digest) → before .phase ≡ Prepareds timestamp counted → OneMore before sender counted false
+      → SameCard before (turn .next) → turn .next .signatures ≡ signaturesWith before sender own
+      → Leaves turn waits (Prepareds timestamp (with counted sender)) → ClientCase before own message turn
   prepareds-enough : (sender : ReplicaId) (timestamp : Timestamp) (counted : ReplicaSet) (proof : PreparedProof)
-      → message ≡ PREPARED sender (number timestamp) (before .digest) → before .phase ≡ Prepareds timestamp counted → NewFrom before sender counted
-      → isQuorum (before .f) (with counted sender) ≡ true → currentCard (turn .next) ≡ currentCard before
+      → message ≡ PREPARED sender (number timestamp) (before .digest) → before .phase ≡ Prepareds timestamp counted → OneMore before sender counted true
+      → currentCard (turn .next) ≡ currentCard before
       → turn .next .signers ≡ signerSet (proof .entries) → (isQuorum (before .f) counted ≡ false → Built (before .f) (with counted sender) (proof .entries))
-      → proof .timestamp ≡ number timestamp → proof .digest ≡ before .digest
-      → Leaves turn (send (WRITE (before .id) (currentCard before) proof)) (Writtens timestamp empty) → ClientCase before message turn
+      → proof ≡ record { timestamp = number timestamp; digest = before .digest; entries = entriesWith before sender counted own }
+      → Leaves turn (send (WRITE (before .id) (currentCard before) proof)) (Writtens timestamp empty) → ClientCase before own message turn
   written-counted : (sender : ReplicaId) (timestamp : Timestamp) (counted : ReplicaSet)
-      → message ≡ WRITTEN sender (number timestamp) → before .phase ≡ Writtens timestamp counted → NewFrom before sender counted
-      → SameCard before (turn .next) → Leaves turn waits (Writtens timestamp (with counted sender)) → ClientCase before message turn
+      → message ≡ WRITTEN sender (number timestamp) → before .phase ≡ Writtens timestamp counted → OneMore before sender counted false
+      → SameCard before (turn .next) → turn .next .signatures ≡ signaturesWith before sender own
+      → Leaves turn waits (Writtens timestamp (with counted sender)) → ClientCase before own message turn
   writtens-enough : (sender : ReplicaId) (timestamp : Timestamp) (counted : ReplicaSet)
-      → message ≡ WRITTEN sender (number timestamp) → before .phase ≡ Writtens timestamp counted → NewFrom before sender counted
-      → isQuorum (before .f) (with counted sender) ≡ true
-      → Leaves turn (done timestamp (currentCard before) (before .signers)) Idle → ClientCase before message turn
+      → message ≡ WRITTEN sender (number timestamp) → before .phase ≡ Writtens timestamp counted → OneMore before sender counted true
+      → (isQuorum (before .f) counted ≡ false → Built (before .f) (with counted sender) (entriesWith before sender counted own))
+      → turn .next .written ≡ set (before .written) (registerPlace (before .register)) (keeping true timestamp (entriesWith before sender counted own))
+      → Leaves turn (done timestamp (currentCard before) (before .signers)) Idle → ClientCase before own message turn
   card-counted : (sender : ReplicaId) (nonce : ℕ) (card : List ℕ) (proof : Option PreparedProof) (best : Timestamp) (counted showed : ReplicaSet)
-      → message ≡ CARD sender nonce card proof (before .id) → before .phase ≡ Cards nonce best counted showed → NewFrom before sender counted
-      → cardStands card proof ≡ true → currentCard (turn .next) ≡ betterCard best proof card before → turn .next .signers ≡ betterSigners best proof before
-      → Leaves turn waits (Cards nonce (bestOf best proof) (with counted sender) (showedBy best proof sender showed)) → ClientCase before message turn
+      → message ≡ CARD sender nonce card proof (before .id) → before .phase ≡ Cards nonce best counted showed → OneMore before sender counted false
+      → cardStands card proof ≡ true → currentCard (turn .next) ≡ betterCard best proof card before → BetterKept best proof before (turn .next)
+      → Leaves turn waits (Cards nonce (bestOf best proof) (with counted sender) (showedBy best proof sender showed)) → ClientCase before own message turn
   cards-agree : (sender : ReplicaId) (nonce : ℕ) (card : List ℕ) (proof : Option PreparedProof) (best : Timestamp) (counted showed : ReplicaSet)
-      → message ≡ CARD sender nonce card proof (before .id) → before .phase ≡ Cards nonce best counted showed → NewFrom before sender counted
-      → cardStands card proof ≡ true → isQuorum (before .f) (with counted sender) ≡ true → isQuorum (before .f) (showedBy best proof sender showed) ≡ true
-      → Leaves turn (done (bestOf best proof) (betterCard best proof card before) (betterSigners best proof before)) Idle → ClientCase before message turn
+      → message ≡ CARD sender nonce card proof (before .id) → before .phase ≡ Cards nonce best counted showed → OneMore before sender counted true
+      → cardStands card proof ≡ true → isQuorum (before .f) (showedBy best proof sender showed) ≡ true
+      → Leaves turn (done (bestOf best proof) (betterCard best proof card before) (betterSigners best proof before)) Idle → ClientCase before own message turn
   -- A viewing client alone.
   cards-viewed : (sender : ReplicaId) (nonce : ℕ) (card : List ℕ) (proof : Option PreparedProof) (best : Timestamp) (counted showed : ReplicaSet)
-      → message ≡ CARD sender nonce card proof (before .id) → before .phase ≡ Cards nonce best counted showed → NewFrom before sender counted
-      → cardStands card proof ≡ true → isQuorum (before .f) (with counted sender) ≡ true → isWriter (before .id) ≡ false
-      → Leaves turn (done (bestOf best proof) (betterCard best proof card before) (betterSigners best proof before)) Idle → ClientCase before message turn
-  cards-differ : (sender : ReplicaId) (nonce : ℕ) (card : List ℕ) (proof : Option PreparedProof) (best : Timestamp) (counted showed : ReplicaSet) (shown : PreparedProof)
-      → message ≡ CARD sender nonce card proof (before .id) → before .phase ≡ Cards nonce best counted showed → NewFrom before sender counted
-      → cardStands card proof ≡ true → isQuorum (before .f) (with counted sender) ≡ true
-      → currentCard (turn .next) ≡ betterCard best proof card before → turn .next .signers ≡ betterSigners best proof before
-      → Leaves turn (send (WRITE (before .id) (betterCard best proof card before) shown)) (WriteBack (bestOf best proof) (showedBy best proof sender showed))
-      → ClientCase before message turn
+      → message ≡ CARD sender nonce card proof (before .id) → before .phase ≡ Cards nonce best counted showed → OneMore before sender counted true
+      → cardStands card proof ≡ true → isWriter (before .id) ≡ false
+      → Leaves turn (done (bestOf best proof) (betterCard best proof card before) (betterSigners best proof before)) Idle → ClientCase before own message turn
+  cards-differ : (sender : ReplicaId) (nonce : ℕ) (card : List ℕ) (proof : Option PreparedProof) (best : Timestamp) (counted showed : ReplicaSet)
+      → message ≡ CARD sender nonce card proof (before .id) → before .phase ≡ Cards nonce best counted showed → OneMore before sender counted true
+      → cardStands card proof ≡ true → isQuorum (before .f) (showedBy best proof sender showed) ≡ false
+      → currentCard (turn .next) ≡ betterCard best proof card before → BetterKept best proof before (turn .next)
+      → Leaves turn (send (WRITE (before .id) (betterCard best proof card before) (bestProof (turn .next) (bestOf best proof)))) (WriteBack (bestOf best proof) (showedBy best proof sender showed))
+      → ClientCase before own message turn
   back-counted : (sender : ReplicaId) (timestamp : Timestamp) (counted : ReplicaSet)
-      → message ≡ WRITTEN sender (number timestamp) → before .phase ≡ WriteBack timestamp counted → NewFrom before sender counted
-      → SameCard before (turn .next) → Leaves turn waits (WriteBack timestamp (with counted sender)) → ClientCase before message turn
+      → message ≡ WRITTEN sender (number timestamp) → before .phase ≡ WriteBack timestamp counted → OneMore before sender counted false
+      → SameCard before (turn .next) → Leaves turn waits (WriteBack timestamp (with counted sender)) → ClientCase before own message turn
   back-enough : (sender : ReplicaId) (timestamp : Timestamp) (counted : ReplicaSet)
-      → message ≡ WRITTEN sender (number timestamp) → before .phase ≡ WriteBack timestamp counted → NewFrom before sender counted
-      → isQuorum (before .f) (with counted sender) ≡ true
-      → Leaves turn (done timestamp (currentCard before) (before .signers)) Idle → ClientCase before message turn
+      → message ≡ WRITTEN sender (number timestamp) → before .phase ≡ WriteBack timestamp counted → OneMore before sender counted true
+      → Leaves turn (done timestamp (currentCard before) (before .signers)) Idle → ClientCase before own message turn
+
+-- Whether an answer ends an operation.
+abbrev pub isOver : Answer → Bool
+isOver (send message) = false
+isOver waits = false
+isOver (done timestamp card signers) = true
+isOver ended = true
 
 -- A message that a client sends is legal; what else it answers has no bytes.
 abbrev pub LegalAnswer : Answer → Type 0
@@ -158,16 +189,17 @@ pub data Follows (before : Client) : AfterCards → Type 0 where
   as-read : Follows before afterCard
   as-view : isWriter (before .id) ≡ false → Follows before afterView
 
-pub record ClientFacts (before : Client) (verdicts : List ℕ) (message : Message) (turn : Turn) : Type 0 where
+pub record ClientFacts (before : Client) (own verdicts : List ℕ) (message : Message) (turn : Turn) : Type 0 where
   pub same-f : turn .next .f ≡ before .f
   pub same-id : turn .next .id ≡ before .id
   pub same-register : turn .next .register ≡ before .register
   -- A written proof changes only with a write's done, and then it is the register's own.
   pub others-written : OthersWritten before (turn .next)
   pub written-kept : isWriting (before .phase) ≡ false → turn .next .written ≡ before .written
+  pub written-stays : isOver (turn .answer) ≡ false → turn .next .written ≡ before .written
   pub same-nonce : turn .next .«last_nonce» ≡ before .«last_nonce»
   pub fits : ClientFits (turn .next)
   pub phase-fits : PhaseFits (turn .next .phase)
   pub legal : LegalAnswer (turn .answer)
   pub passed : Passed (before .f) message verdicts
-  pub case : ClientCase before message turn
+  pub case : ClientCase before own message turn

@@ -2,12 +2,11 @@
 use mathlib.Core.Path.{_≡_, refl}
 use mathlib.Core.Bool.{true, false}
 use mathlib.Core.List.{List}
-use Prim.Native.Nat.{ℕ, _+_, _^_, _≤_, _<_}
+use Prim.Native.Nat.{ℕ, _+_, _^_, _<_}
 use native.Mathlib.Omega.{arith}
 use borrow.Author.Tests.{ltb-true}
 use lib.Dec.{ltb}
-use lib.ListN.{length}
-use Rattle.base.specs.BigEndian.{Bytes}
+use Rattle.base.specs.BigEndian.{Bytes, fromBytes}
 use Rattle.base.specs.Outcome.{accepted}
 use Rattle.base.specs.Party.{isWriter, isRegister}
 use Rattle.base.specs.ReplicaSet.{empty}
@@ -16,6 +15,7 @@ use Rattle.base.specs.declared.party.RegisterId.{RegisterId}
 use Rattle.base.proofs.Apart.{apart}
 use Rattle.base.proofs.Booleans.{and-true-both}
 use Rattle.wire.specs.Acceptance.{senderOf, inItsRange}
+use Rattle.wire.specs.Card.{isCard, readCard, goodCardMap, readFields, table}
 use Rattle.wire.specs.Message.{Message, READ-STAMP, PREPARE, WRITE, READ, STAMP, PREPARED, WRITTEN, CARD, Fits, size, IsSignature}
 use Rattle.protocol.specs.Client.{send, Turn, isIdle, mayBegin, beginning, beginWrite, beginRead, onReply}
 use Rattle.protocol.specs.Parts.{startCard}
@@ -40,10 +40,15 @@ idle-phase (Writtens timestamp counted) e = apart (cc)
 idle-phase (Cards nonce best counted showed) e = apart (cc)
 idle-phase (WriteBack timestamp counted) e = apart (cc)
 
+-- The starting card keeps its table.
+start-is-card : isCard startCard ≡ true
+unfolding readCard goodCardMap fromBytes readFields table
+start-is-card = refl
+
 begun : (before : Client) (register : RegisterId) (question : Message) (phase : Phase) (card : List ℕ) → ClientFits before → isRegister register ≡ true → mayBegin before ≡ true
-    → Bytes card → length card ≤ 17 → (before .«last_nonce» + 1 < 2 ^ 64 → LegalMessage question)
+    → Bytes card → isCard card ≡ true → (before .«last_nonce» + 1 < 2 ^ 64 → LegalMessage question)
     → Begun before register question phase card (record { answer = send question; next = beginning register (before .«last_nonce» + 1) phase card before })
-begun before register question phase card fits registered may bytes short legal =
+begun before register question phase card fits registered may bytes is-card legal =
     let both = and-true-both (isIdle (before .phase)) (ltb (before .«last_nonce» + 1) (2 ^ 64)) may in
     let small = ltb-true (before .«last_nonce» + 1) (2 ^ 64) (both .1) in
     record {
@@ -57,7 +62,8 @@ begun before register question phase card fits registered may bytes short legal 
       written-kept = refl;
       nonce = refl;
       phase-is = refl;
-      card-is = card-kept card short;
+      is-card = is-card;
+      card-is = card-kept card (card-short card is-card);
       no-signers = refl;
       fits = beginning-fits register (before .«last_nonce» + 1) phase card before small bytes fits;
       legal = legal small;
@@ -71,7 +77,7 @@ begins-write before register card turn fits bytes e = outcome .holds turn e
     outcome =
         unfold beginWrite Fits size in
         by-guard 20 (λ registered. by-guard 14 (λ is-card. by-guard 17 (λ may. by-value
-        (begun before register _ _ card fits registered may bytes (card-short card is-card)
+        (begun before register _ _ card fits registered may bytes is-card
         (λ small any byte. record { register-fits = byte; fits = (fits .id-fits, small); short = omega arith })))))
 
 pub begins-read : (before : Client) (register : RegisterId) (turn : Turn) → ClientFits before → beginRead before register ≡ accepted turn
@@ -82,36 +88,36 @@ begins-read before register turn fits e = outcome .holds turn e
     outcome =
         unfold beginRead Fits size in
         by-guard 20 (λ registered. by-guard 17 (λ may. by-value
-        (begun before register _ _ startCard fits registered may (bytes-zeros 2) (omega arith)
+        (begun before register _ _ startCard fits registered may (bytes-zeros 2) start-is-card
         (λ small any byte. record { register-fits = byte; fits = (fits .id-fits, small); short = omega arith }))))
 
-module _ (before : Client) (verdicts signature : List ℕ) (fits : ClientFits before) (phase-fits : PhaseFits (before .phase)) (signature-fits : IsSignature signature) where
-  facts : (message : Message) → Fits message → inItsRange (before .f) (senderOf message) ≡ true → Passed (before .f) message verdicts → Accepts (ClientFacts before verdicts message) (onReply before signature message)
+module _ (before : Client) (own verdicts : List ℕ) (fits : ClientFits before) (phase-fits : PhaseFits (before .phase)) (own-fits : IsSignature own) where
+  facts : (message : Message) → Fits message → inItsRange (before .f) (senderOf message) ≡ true → Passed (before .f) message verdicts → Accepts (ClientFacts before own verdicts message) (onReply before own message)
   unfolding onReply Fits
-  facts (STAMP sender nonce proof addressed) message-fits ranged passed = stamp-facts before verdicts fits sender ranged nonce proof addressed passed (message-fits .2) (before .phase) refl phase-fits
+  facts (STAMP sender nonce proof addressed) message-fits ranged passed = stamp-facts before own verdicts fits sender ranged nonce proof addressed passed (message-fits .2) (before .phase) refl phase-fits
   facts (PREPARED sender timestamp digest) message-fits ranged passed =
-      prepared-facts before verdicts fits sender ranged signature signature-fits timestamp digest passed (before .phase) refl phase-fits
-  facts (WRITTEN sender timestamp) message-fits ranged passed = written-facts before verdicts fits sender ranged signature signature-fits timestamp passed (before .phase) refl phase-fits
+      prepared-facts before own verdicts fits sender ranged own-fits timestamp digest passed (before .phase) refl phase-fits
+  facts (WRITTEN sender timestamp) message-fits ranged passed = written-facts before own verdicts fits sender ranged own-fits timestamp passed (before .phase) refl phase-fits
   facts (CARD sender nonce card proof addressed) message-fits ranged passed =
       by-guard 14 (λ stands.
-      card-facts before verdicts fits sender ranged as-read nonce card proof addressed passed (message-fits .2 .1) (message-fits .3) stands (before .phase) refl phase-fits)
+      card-facts before own verdicts fits sender ranged as-read nonce card proof addressed passed (message-fits .2 .1) (message-fits .3) stands (before .phase) refl phase-fits)
   facts (READ-STAMP sender nonce) message-fits ranged passed = by-refusal
   facts (PREPARE sender timestamp digest proof last) message-fits ranged passed = by-refusal
   facts (WRITE sender card proof) message-fits ranged passed = by-refusal
   facts (READ sender nonce) message-fits ranged passed = by-refusal
 
-pub client-facts : (before : Client) (verdicts signature : List ℕ) (message : Message) (turn : Turn) → ClientFits before → PhaseFits (before .phase)
-    → Rattle.wire.specs.Message.Fits message → IsSignature signature → inItsRange (before .f) (senderOf message) ≡ true → Passed (before .f) message verdicts
-    → onReply before signature message ≡ accepted turn → ClientFacts before verdicts message turn
-client-facts before verdicts signature message turn fits phase-fits message-fits signature-fits ranged passed e = facts before verdicts signature fits phase-fits signature-fits message message-fits ranged passed .holds turn e
+pub client-facts : (before : Client) (own verdicts : List ℕ) (message : Message) (turn : Turn) → ClientFits before → PhaseFits (before .phase)
+    → Rattle.wire.specs.Message.Fits message → IsSignature own → inItsRange (before .f) (senderOf message) ≡ true → Passed (before .f) message verdicts
+    → onReply before own message ≡ accepted turn → ClientFacts before own verdicts message turn
+client-facts before own verdicts message turn fits phase-fits message-fits own-fits ranged passed e = facts before own verdicts fits phase-fits own-fits message message-fits ranged passed .holds turn e
 
 -- The same of a viewing client.
-module _ (before : Client) (verdicts : List ℕ) (fits : ClientFits before) (phase-fits : PhaseFits (before .phase)) (no-writer : isWriter (before .id) ≡ false) where
-  view-facts : (message : Message) → Fits message → inItsRange (before .f) (senderOf message) ≡ true → Passed (before .f) message verdicts → Accepts (ClientFacts before verdicts message) (onViewerReply before message)
+module _ (before : Client) (own verdicts : List ℕ) (fits : ClientFits before) (phase-fits : PhaseFits (before .phase)) (no-writer : isWriter (before .id) ≡ false) where
+  view-facts : (message : Message) → Fits message → inItsRange (before .f) (senderOf message) ≡ true → Passed (before .f) message verdicts → Accepts (ClientFacts before own verdicts message) (onViewerReply before message)
   unfolding onViewerReply Fits
   view-facts (CARD sender nonce card proof addressed) message-fits ranged passed =
       by-guard 14 (λ stands.
-      card-facts before verdicts fits sender ranged (as-view no-writer) nonce card proof addressed passed (message-fits .2 .1) (message-fits .3) stands (before .phase) refl phase-fits)
+      card-facts before own verdicts fits sender ranged (as-view no-writer) nonce card proof addressed passed (message-fits .2 .1) (message-fits .3) stands (before .phase) refl phase-fits)
   view-facts (STAMP sender nonce proof addressed) message-fits ranged passed = by-refusal
   view-facts (PREPARED sender timestamp digest) message-fits ranged passed = by-refusal
   view-facts (WRITTEN sender timestamp) message-fits ranged passed = by-refusal
@@ -120,7 +126,7 @@ module _ (before : Client) (verdicts : List ℕ) (fits : ClientFits before) (pha
   view-facts (WRITE sender card proof) message-fits ranged passed = by-refusal
   view-facts (READ sender nonce) message-fits ranged passed = by-refusal
 
-pub viewer-facts : (before : Client) (verdicts : List ℕ) (message : Message) (turn : Turn) → ClientFits before → PhaseFits (before .phase) → isWriter (before .id) ≡ false
+pub viewer-facts : (before : Client) (own verdicts : List ℕ) (message : Message) (turn : Turn) → ClientFits before → PhaseFits (before .phase) → isWriter (before .id) ≡ false
     → Rattle.wire.specs.Message.Fits message → inItsRange (before .f) (senderOf message) ≡ true → Passed (before .f) message verdicts
-    → onViewerReply before message ≡ accepted turn → ClientFacts before verdicts message turn
-viewer-facts before verdicts message turn fits phase-fits no-writer message-fits ranged passed e = view-facts before verdicts fits phase-fits no-writer message message-fits ranged passed .holds turn e
+    → onViewerReply before message ≡ accepted turn → ClientFacts before own verdicts message turn
+viewer-facts before own verdicts message turn fits phase-fits no-writer message-fits ranged passed e = view-facts before own verdicts fits phase-fits no-writer message message-fits ranged passed .holds turn e

@@ -5,25 +5,28 @@ use mathlib.Core.List.{List}
 use mathlib.Core.Option.{Option, none, some}
 use Prim.Native.Nat.{ℕ, _^_, _≤_, _<_}
 use native.Mathlib.Omega.{arith}
-use borrow.Author.Tests.{le-ltb, eqb-true, eqb-false}
+use borrow.Author.Tests.{le-ltb, eqb-true, eqb-false, ne-eqb}
 use lib.Dec.{eqb, ltb}
 use lib.ListN.{length, length-set}
 use lib.Seq.{getD-set-same, getD-set-other}
 use Rattle.base.specs.BigEndian.{Bytes}
 use Rattle.base.specs.Party.{registerPlace}
-use Rattle.base.specs.Timestamp.{number}
+use Rattle.base.specs.Timestamp.{number, ofNumber}
 use Rattle.base.specs.declared.party.RegisterId.{RegisterId}
 use Rattle.base.specs.declared.replica_set.ReplicaSet.{ReplicaSet}
 use Rattle.base.specs.declared.timestamp.Timestamp.{Timestamp}
 use Rattle.base.proofs.Registers.{place-below}
+use Rattle.base.proofs.Timestamps.{number-ofNumber}
+use Rattle.wire.specs.Checks.{shapedIfThere, issuedIfThere}
 use Rattle.wire.specs.Message.{IsDigest, EachFits, ProofFits, IfThere}
 use Rattle.wire.specs.Proof.{Entry, PreparedProof}
-use Rattle.protocol.specs.Client.{currentCard, noWritten, writtenAt, lastWritten, beginning, keeping, withPhase, withProof, withCard, withDigest, withSignatures, withSigners, withWrittenFor, keepBetter, keepBetterCard}
+use Rattle.wire.proofs.Tests7To11.{shaped-few, issued-positive}
+use Rattle.protocol.specs.Client.{currentCard, bestShown, noWritten, writtenAt, lastWritten, beginning, keeping, withPhase, withProof, withCard, withDigest, withSignatures, withSigners, withWrittenFor, keepBetter, keepBetterCard}
 use Rattle.protocol.specs.declared.client.Client.{Client}
 use Rattle.protocol.specs.declared.client.Phase.{Phase}
 use Rattle.protocol.specs.declared.client.Written.{Written}
-use Rattle.protocol.proofs.ArrayLaws.{zeros-fit, filled-fits, card-kept, entries-filled}
-use Rattle.protocol.proofs.ClientCases.{betterCard, betterSigners}
+use Rattle.protocol.proofs.ArrayLaws.{zeros-fit, filled-fits, card-kept, entries-filled, entries-kept}
+use Rattle.protocol.proofs.ClientCases.{betterCard, BetterKept}
 use Rattle.protocol.proofs.Fit.{Array, TimestampFits, WrittenKeptFits, ClientFits}
 
 -- The record still fits, of the same client in the same operation, with the same written proofs.
@@ -81,6 +84,24 @@ module _ (register : RegisterId) (last : Written) (client : Client) where
 pub keeping-fits : (own : Bool) (timestamp : Timestamp) (entries : List Entry) → TimestampFits timestamp → EachFits entries → WrittenKeptFits (keeping own timestamp entries)
 keeping-fits own timestamp entries t h = record { timestamp-fits = t; entries-fit = entries-filled entries h }
 
+-- A proof that fits its bytes, has room in the record, and is not 0.0's.
+pub record Good (proof : PreparedProof) : Type 0 where
+  pub fits : ProofFits proof
+  pub few : length (proof .entries) ≤ 11
+  pub positive : 1 ≤ proof .timestamp
+
+-- It is shown as it came.
+proof-shown : (proof : PreparedProof) → Good proof → (client : Client) → bestShown (withProof proof client) (ofNumber (proof .timestamp)) ≡ some proof
+proof-shown proof good client =
+    let whole = number-ofNumber (proof .timestamp) in
+    let kept = entries-kept (proof .entries) (good .fits .2 .1) (good .few) in
+    rw (whole, ne-eqb (proof .timestamp) 0 (omega (arith, good .positive)), kept) refl
+
+-- A proof that passed 9 and 11 is good.
+pub passed-good : (f : ℕ) (proof : Option PreparedProof) → IfThere ProofFits proof → shapedIfThere f proof ≡ true → issuedIfThere proof ≡ true → IfThere Good proof
+passed-good f none fits shape is = tt
+passed-good f (some proof) fits shape is = record { fits = fits; few = shaped-few f (proof .entries) shape; positive = issued-positive (proof .timestamp) is }
+
 module _ (before : Client) where
   pub itself-kept : ClientFits before → Kept before before
   itself-kept fits = record { same-f = refl; same-id = refl; same-register = refl; same-nonce = refl; same-written = refl; fits = fits }
@@ -132,11 +153,11 @@ module _ (before : Client) where
     pub signers-changed : (signers : ReplicaSet) → Kept before (withSigners signers client)
     signers-changed signers = changed (withSigners signers client) refl refl refl refl refl card-fits digest-fits entries-fit signatures-fit
 
-  -- The record after a reply: the better proof's signers, this card, and the last written proof as it was.
+  -- The record after a reply: the better proof with its signers, this card, and the last written proof as it was.
   pub record Best (best : Timestamp) (proof : Option PreparedProof) (card : List ℕ) (after : Client) : Type 0 where
     pub kept : Kept before after
     pub card-is : currentCard after ≡ card
-    pub signers-are : after .signers ≡ betterSigners best proof before
+    pub better : BetterKept best proof before after
     pub last-is : lastWritten after ≡ lastWritten before
 
   module _ (best : Timestamp) (fits : ClientFits before) where
@@ -144,22 +165,34 @@ module _ (before : Client) where
     never-better : ltb (number best) 0 ≡ false
     never-better = le-ltb (number best) 0 (omega arith)
 
+    -- Nothing is better, and the record stays.
+    none-better : BetterKept best none before before
+    none-better = record { signers-are = rw never-better; proof-is = rw never-better }
+
+    not-better : (proof : PreparedProof) → ltb (number best) (proof .timestamp) ≡ false → BetterKept best (some proof) before before
+    not-better proof e = record { signers-are = rw e; proof-is = rw e }
+
     -- A better reply's proof is kept, the card stays.
-    pub better-kept : (proof : Option PreparedProof) → IfThere ProofFits proof → Best best proof (currentCard before) (keepBetter best proof before)
-    better-kept none h = rw never-better (record { kept = itself-kept fits; card-is = refl; signers-are = rw never-better; last-is = refl })
+    pub better-kept : (proof : Option PreparedProof) → IfThere Good proof → Best best proof (currentCard before) (keepBetter best proof before)
+    better-kept none h = rw never-better (record { kept = itself-kept fits; card-is = refl; better = none-better; last-is = refl })
     better-kept (some proof) h = go (ltb (number best) (proof .timestamp)) refl
       where
         go : (b : Bool) → ltb (number best) (proof .timestamp) ≡ b → Best best (some proof) (currentCard before) (cond b (withProof proof before) before)
-        go true e = record { kept = proof-kept before (itself-kept fits) proof h; card-is = refl; signers-are = rw e; last-is = refl }
-        go false e = record { kept = itself-kept fits; card-is = refl; signers-are = rw e; last-is = refl }
+        go true e = record { kept = proof-kept before (itself-kept fits) proof (h .fits); card-is = refl; better = record { signers-are = rw e; proof-is = rw e (proof-shown proof h before) }; last-is = refl }
+        go false e = record { kept = itself-kept fits; card-is = refl; better = not-better proof e; last-is = refl }
 
     -- A better reply's proof and card are kept.
-    pub better-card-kept : (card : List ℕ) (proof : Option PreparedProof) → length card ≤ 17 → Bytes card → IfThere ProofFits proof
+    pub better-card-kept : (card : List ℕ) (proof : Option PreparedProof) → length card ≤ 17 → Bytes card → IfThere Good proof
         → Best best proof (betterCard best proof card before) (keepBetterCard best card proof before)
-    better-card-kept card none short bytes h = rw never-better (record { kept = itself-kept fits; card-is = refl; signers-are = rw never-better; last-is = refl })
+    better-card-kept card none short bytes h = rw never-better (record { kept = itself-kept fits; card-is = refl; better = none-better; last-is = refl })
     better-card-kept card (some proof) short bytes h = go (ltb (number best) (proof .timestamp)) refl
       where
         go : (b : Bool) → ltb (number best) (proof .timestamp) ≡ b
             → Best best (some proof) (cond b card (currentCard before)) (cond b (withCard card (withProof proof before)) before)
-        go true e = record { kept = card-changed (withProof proof before) (proof-kept before (itself-kept fits) proof h) card bytes; card-is = card-kept card short; signers-are = rw e; last-is = refl }
-        go false e = record { kept = itself-kept fits; card-is = refl; signers-are = rw e; last-is = refl }
+        go true e = record {
+          kept = card-changed (withProof proof before) (proof-kept before (itself-kept fits) proof (h .fits)) card bytes;
+          card-is = card-kept card short;
+          better = record { signers-are = rw e; proof-is = rw e (proof-shown proof h before) };
+          last-is = refl;
+        }
+        go false e = record { kept = itself-kept fits; card-is = refl; better = not-better proof e; last-is = refl }

@@ -25,9 +25,9 @@ use Rattle.base.proofs.Same.{same-equal}
 use Rattle.wire.specs.Message.{Message, PREPARE, WRITE, STAMP, PREPARED, WRITTEN, CARD, IsSignature, ProofFits, IfThere, Fits, size, proofSize}
 use Rattle.wire.specs.Proof.{PreparedProof, signerSet}
 use Rattle.wire.specs.Sha256.{sha256}
-use Rattle.protocol.specs.Client.{done, Turn, currentCard, bestProof, noWritten, writtenAt, writtenRecord, writtenKept, lastWritten, built, withSignature, withSignatures, withSigners, withPhase, withDigest, keeping, withWrittenFor, enough, isNew, bestOf, showedBy, toPrepare, afterStamp, onStamp, afterPrepared, onPrepared, afterWritten, afterWriteBack, onWritten, AfterCards, afterCard, countCard, onCard}
+use Rattle.protocol.specs.Client.{done, Turn, currentCard, bestProof, bestShown, noWritten, writtenAt, writtenRecord, writtenKept, lastWritten, built, withSignatures, withSigners, withPhase, withDigest, keeping, withWrittenFor, enough, isNew, bestOf, showedBy, toPrepare, afterStamp, onStamp, afterPrepared, onPrepared, afterWritten, afterWriteBack, onWritten, AfterCards, afterCard, countCard, onCard}
 use Rattle.protocol.specs.Viewer.{afterView}
-use Rattle.protocol.specs.Parts.{startCard, ifIssued, cardStands}
+use Rattle.protocol.specs.Parts.{startCard, cardStands}
 use Rattle.protocol.specs.declared.client.Client.{Client}
 use Rattle.protocol.specs.declared.client.Phase.{Phase}
 use Rattle.protocol.specs.declared.client.Phase.the-variants.{Idle, Stamps, Prepareds, Writtens, Cards, WriteBack}
@@ -37,8 +37,8 @@ use Rattle.protocol.proofs.ArrayLaws.{bytes-none, zeros-fit, card-in-by
 use Rattle.protocol.proofs.Built.{built as built-shape}
 use Rattle.wire.proofs.card.Digests.{standing-under-short}
 use Rattle.protocol.proofs.ClientArrays.{signature-put, built-fit, built-few, number-fits, best-fits, successor-fits}
-use Rattle.protocol.proofs.ClientCases.{Leaves, SameCard, NewFrom, betterCard, ClientCase, stamp-counted, stamps-enough, stamps-ended, prepared-counted, prepareds-enough, written-counted, writtens-enough, card-counted, cards-agree, cards-viewed, cards-differ, back-counted, back-enough, LegalAnswer, PhaseFits, Follows, as-read, as-view, ClientFacts}
-use Rattle.protocol.proofs.ClientKept.{Kept, elsewhere-written, written-fits, keeping-fits, itself-kept, phase-kept, digest-changed, signatures-changed, signers-changed, Best, better-kept, better-card-kept}
+use Rattle.protocol.proofs.ClientCases.{Leaves, SameCard, NewFrom, betterCard, BetterKept, signaturesWith, ClientCase, stamp-counted, stamps-enough, stamps-ended, prepared-counted, prepareds-enough, written-counted, writtens-enough, card-counted, cards-agree, cards-viewed, cards-differ, back-counted, back-enough, LegalAnswer, PhaseFits, Follows, as-read, as-view, ClientFacts}
+use Rattle.protocol.proofs.ClientKept.{Kept, passed-good, elsewhere-written, written-fits, keeping-fits, itself-kept, phase-kept, digest-changed, signatures-changed, signers-changed, Best, better-kept, better-card-kept}
 use Rattle.protocol.proofs.Fit.{Array, TimestampFits, WrittenKeptFits, ClientFits, LegalMessage}
 use Rattle.wire.proofs.Tests7To11.{Passed}
 use Rattle.wire.proofs.DigestBytes.{digest-fits}
@@ -69,7 +69,7 @@ module _ (client : Client) (fits : ClientFits client) where
     proof-fits = (number-fits best best-fit, fits .digest-fits, entries-in-fit (client .entries) (client .«entry_count») (fits .entries-fit))
 
     prepare-legal : (next : Timestamp) → TimestampFits next
-        → LegalMessage (PREPARE (client .id) (number next) (sha256 (currentCard client)) (ifIssued (number best) (bestProof client best)) (lastWritten client))
+        → LegalMessage (PREPARE (client .id) (number next) (sha256 (currentCard client)) (bestShown client best) (lastWritten client))
     unfolding Fits size
     prepare-legal next next-fit register small =
         record {
@@ -109,8 +109,8 @@ unchanged = record { card-kept = refl; digest-kept = refl; signers-kept = refl }
 
 -- ---- Replies
 
-module _ (before : Client) (verdicts : List ℕ) (message : Message) (passed : Passed (before .f) message verdicts) (fits : ClientFits before) where
-  took : (turn : Turn) → Kept before (turn .next) → PhaseFits (turn .next .phase) → LegalAnswer (turn .answer) → ClientCase before message turn → ClientFacts before verdicts message turn
+module _ (before : Client) (own verdicts : List ℕ) (message : Message) (passed : Passed (before .f) message verdicts) (fits : ClientFits before) where
+  took : (turn : Turn) → Kept before (turn .next) → PhaseFits (turn .next .phase) → LegalAnswer (turn .answer) → ClientCase before own message turn → ClientFacts before own verdicts message turn
   took turn kept phase-fits legal case =
       record {
         same-f = kept .same-f;
@@ -118,6 +118,7 @@ module _ (before : Client) (verdicts : List ℕ) (message : Message) (passed : P
         same-register = kept .same-register;
         others-written = λ at other. ap (λ (written : List Written). getD written at noWritten) (kept .same-written);
         written-kept = λ quiet. kept .same-written;
+        written-stays = λ goes-on. kept .same-written;
         same-nonce = kept .same-nonce;
         fits = kept .fits;
         phase-fits = phase-fits;
@@ -126,17 +127,21 @@ module _ (before : Client) (verdicts : List ℕ) (message : Message) (passed : P
         case = case;
       }
 
-  quorum-before : (client : Client) → Kept before client → (set : ReplicaSet) → isQuorum (client .f) set ≡ true → isQuorum (before .f) set ≡ true
-  quorum-before client kept set h = subst (λ (f : ℕ). isQuorum f set ≡ true) (kept .same-f) h
+  quorum-before : (client : Client) → Kept before client → (set : ReplicaSet) {full : Bool} → isQuorum (client .f) set ≡ full → isQuorum (before .f) set ≡ full
+  quorum-before client kept set {full} h = subst (λ (f : ℕ). isQuorum f set ≡ full) (kept .same-f) h
+
+  -- In another phase.
+  better-in : {best : Timestamp} {proof : Option PreparedProof} {client : Client} {phase : Phase} → BetterKept best proof before client → BetterKept best proof before (withPhase phase client)
+  better-in better = record { signers-are = better .signers-are; proof-is = better .proof-is }
 
   -- STAMPs
   module _ (sender : ReplicaId) (nonce : ℕ) (proof : Option PreparedProof) (best : Timestamp) (counted : ReplicaSet) (best-fit : TimestampFits (bestOf best proof))
       (is-message : message ≡ STAMP sender nonce proof (before .id)) (at : before .phase ≡ Stamps nonce best counted) (new : NewFrom before sender counted)
       (client : Client) (after : Best before best proof (currentCard before) client) where
     to-prepare : isQuorum (before .f) (with counted sender) ≡ true → (next : Option Timestamp) → successor (bestOf best proof) (client .id) ≡ next
-        → Accepts (ClientFacts before verdicts message) (toPrepare client (bestOf best proof) next)
+        → Accepts (ClientFacts before own verdicts message) (toPrepare client (bestOf best proof) next)
     to-prepare quorum none e =
-        by-value (took _ (phase-kept before client (after .kept) Idle) tt tt (stamps-ended sender nonce proof best counted is-message at leaves))
+        by-value (took _ (phase-kept before client (after .kept) Idle) tt tt (stamps-ended sender nonce proof best counted is-message at (rw (← after .kept .same-id) e) leaves))
     to-prepare quorum (some next) e =
         let next-fit = successor-fits (bestOf best proof) next (client .id) best-fit (after .kept .fits .id-fits) e in
         let digest = sha256 (currentCard client) in
@@ -144,26 +149,29 @@ module _ (before : Client) (verdicts : List ℕ) (message : Message) (passed : P
         (phase-kept before (withDigest digest client) (digest-changed before client (after .kept) digest (digest-fits (currentCard client))) (Prepareds next empty))
         next-fit
         (prepare-legal client (after .kept .fits) (bestOf best proof) best-fit next next-fit)
-        (stamps-enough sender nonce proof best counted next (ifIssued (number (bestOf best proof)) (bestProof client (bestOf best proof))) (lastWritten client)
-        is-message at new quorum (rw (← after .kept .same-id) e) (after .card-is) (ap sha256 (after .card-is)) refl
+        (stamps-enough sender nonce proof best counted next (bestShown client (bestOf best proof)) (lastWritten client)
+        is-message at (new .0, new .1, quorum) (rw (← after .kept .same-id) e) (after .card-is) (ap sha256 (after .card-is)) refl (after .better .proof-is)
         (issued-timestamp (number (bestOf best proof)) (bestProof client (bestOf best proof)) refl) (after .last-is)
         (record { answer-is = cc; phase-is = refl })))
 
-    after-stamp : Accepts (ClientFacts before verdicts message) (afterStamp nonce (bestOf best proof) (with counted sender) client)
+    after-stamp : Accepts (ClientFacts before own verdicts message) (afterStamp nonce (bestOf best proof) (with counted sender) client)
     unfolding afterStamp
     after-stamp =
         by-cases (enough client (with counted sender)) (λ quorum. to-prepare (quorum-before client (after .kept) (with counted sender) quorum) (successor (bestOf best proof) (client .id)) refl)
         (λ few. by-value (took _ (phase-kept before client (after .kept) (Stamps nonce (bestOf best proof) (with counted sender))) best-fit tt
-        (stamp-counted sender nonce proof best counted is-message at new (after .card-is) (after .signers-are) leaves)))
+        (stamp-counted sender nonce proof best counted is-message at (new .0, new .1, quorum-before client (after .kept) (with counted sender) few) (after .card-is) (better-in (after .better)) leaves)))
 
   -- PREPAREDs, the sender's signature among the signatures
   module _ (sender : ReplicaId) (timestamp : Timestamp) (counted : ReplicaSet) (timestamp-fits : TimestampFits timestamp) (new : NewFrom before sender counted)
-      (signatures : List ℕ) (signatures-fit : Array 1_024 signatures) where
+      (signatures-fit : Array 1_024 (signaturesWith before sender own)) where
+    abbrev signatures : List ℕ
+    signatures = signaturesWith before sender own
+
     signed-kept : Kept before (withSignatures signatures before)
     signed-kept = signatures-changed before before (itself-kept before fits) signatures signatures-fit
 
     after-prepared : message ≡ PREPARED sender (number timestamp) (before .digest) → before .phase ≡ Prepareds timestamp counted
-        → Accepts (ClientFacts before verdicts message) (afterPrepared timestamp (with counted sender) (withSignatures signatures before))
+        → Accepts (ClientFacts before own verdicts message) (afterPrepared timestamp (with counted sender) (withSignatures signatures before))
     unfolding afterPrepared
     after-prepared is-message at =
         let replicas = with counted sender in
@@ -177,47 +185,48 @@ module _ (before : Client) (verdicts : List ℕ) (message : Message) (passed : P
         (signers-changed before cleared (signatures-changed before before (itself-kept before fits) (replicate 1_024 0) (zeros-fit 1_024)) (signerSet (proof .entries))) (Writtens timestamp empty))
         timestamp-fits
         (write-legal before fits proof (number-fits timestamp timestamp-fits, fits .digest-fits, (omega arith, entries-fit)) few)
-        (prepareds-enough sender timestamp counted proof is-message at new quorum refl refl (λ less. built-shape (before .f) counted sender signatures (new .0) (new .1) less quorum) refl refl leaves)))
+        (prepareds-enough sender timestamp counted proof is-message at (new .0, new .1, quorum) refl refl (λ less. built-shape (before .f) counted sender signatures (new .0) (new .1) less quorum) refl leaves)))
         (λ less. by-value (took _ (phase-kept before (withSignatures signatures before) signed-kept (Prepareds timestamp replicas)) timestamp-fits tt
-        (prepared-counted sender timestamp counted is-message at new less unchanged leaves)))
+        (prepared-counted sender timestamp counted is-message at (new .0, new .1, less) unchanged refl leaves)))
 
     -- WRITTENs that end a write, likewise
     after-written : message ≡ WRITTEN sender (number timestamp) → before .phase ≡ Writtens timestamp counted
-        → Accepts (ClientFacts before verdicts message) (afterWritten timestamp (with counted sender) (withSignatures signatures before))
+        → Accepts (ClientFacts before own verdicts message) (afterWritten timestamp (with counted sender) (withSignatures signatures before))
     unfolding afterWritten
     after-written is-message at =
         let replicas = with counted sender in
         let entries-fit = built-fit (replicaCount (before .f)) replicas signatures (omega arith) signatures-fit in
         by-cases (enough before replicas)
         (λ quorum.
-        let own = keeping true timestamp (built before replicas signatures) in
-        let ended = withWrittenFor (before .register) own (withSignatures signatures before) in
+        let last = keeping true timestamp (built before replicas signatures) in
+        let ended = withWrittenFor (before .register) last (withSignatures signatures before) in
         by-value (record {
           same-f = refl;
           same-id = refl;
           same-register = refl;
-          others-written = elsewhere-written (before .register) own (withSignatures signatures before);
+          others-written = elsewhere-written (before .register) last (withSignatures signatures before);
           written-kept = λ quiet. apart (cc);
+          written-stays = λ goes-on. apart (cc);
           same-nonce = refl;
-          fits = phase-kept ended ended (itself-kept ended (written-fits (before .register) own (withSignatures signatures before) (keeping-fits true timestamp (built before replicas signatures) timestamp-fits entries-fit) (signed-kept .fits))) Idle .fits;
+          fits = phase-kept ended ended (itself-kept ended (written-fits (before .register) last (withSignatures signatures before) (keeping-fits true timestamp (built before replicas signatures) timestamp-fits entries-fit) (signed-kept .fits))) Idle .fits;
           phase-fits = tt;
           legal = tt;
           passed = passed;
-          case = writtens-enough sender timestamp counted is-message at new quorum leaves;
+          case = writtens-enough sender timestamp counted is-message at (new .0, new .1, quorum) (λ less. built-shape (before .f) counted sender signatures (new .0) (new .1) less quorum) refl leaves;
         }))
         (λ less. by-value (took _ (phase-kept before (withSignatures signatures before) signed-kept (Writtens timestamp replicas)) timestamp-fits tt
-        (written-counted sender timestamp counted is-message at new unchanged leaves)))
+        (written-counted sender timestamp counted is-message at (new .0, new .1, less) unchanged refl leaves)))
 
   -- WRITTENs that end a write-back
   after-write-back : (sender : ReplicaId) (timestamp : Timestamp) (counted : ReplicaSet) → TimestampFits timestamp → NewFrom before sender counted
-      → message ≡ WRITTEN sender (number timestamp) → before .phase ≡ WriteBack timestamp counted → Accepts (ClientFacts before verdicts message) (afterWriteBack timestamp (with counted sender) before)
+      → message ≡ WRITTEN sender (number timestamp) → before .phase ≡ WriteBack timestamp counted → Accepts (ClientFacts before own verdicts message) (afterWriteBack timestamp (with counted sender) before)
   unfolding afterWriteBack
   after-write-back sender timestamp counted timestamp-fits new is-message at =
       by-cases (enough before (with counted sender))
       (λ quorum. by-value (took _ (phase-kept before before (itself-kept before fits) Idle) tt tt
-      (back-enough sender timestamp counted is-message at new quorum leaves)))
+      (back-enough sender timestamp counted is-message at (new .0, new .1, quorum) leaves)))
       (λ less. by-value (took _ (phase-kept before before (itself-kept before fits) (WriteBack timestamp (with counted sender))) timestamp-fits tt
-      (back-counted sender timestamp counted is-message at new unchanged leaves)))
+      (back-counted sender timestamp counted is-message at (new .0, new .1, less) unchanged leaves)))
 
   -- CARDs
   module _ (sender : ReplicaId) (nonce : ℕ) (card : List ℕ) (proof : Option PreparedProof) (best : Timestamp) (counted showed : ReplicaSet) (best-fit : TimestampFits (bestOf best proof))
@@ -229,32 +238,32 @@ module _ (before : Client) (verdicts : List ℕ) (message : Message) (passed : P
     abbrev showing : ReplicaSet
     showing = showedBy best proof sender showed
 
-    after-cards : {next : AfterCards} → Follows before next → isQuorum (before .f) (with counted sender) ≡ true → Accepts (ClientFacts before verdicts message) (next latest showing client)
+    after-cards : {next : AfterCards} → Follows before next → isQuorum (before .f) (with counted sender) ≡ true → Accepts (ClientFacts before own verdicts message) (next latest showing client)
     unfolding afterCard afterView
     after-cards as-read quorum =
         by-cases _
         (λ agree. by-value (took _ (phase-kept before client (after .kept) _) tt tt
-        (cards-agree sender nonce card proof best counted showed is-message at new stands quorum (quorum-before client (after .kept) showing agree)
-        (record { answer-is = ap₂ (done latest) (after .card-is) (after .signers-are); phase-is = refl }))))
+        (cards-agree sender nonce card proof best counted showed is-message at (new .0, new .1, quorum) stands (quorum-before client (after .kept) showing agree)
+        (record { answer-is = ap₂ (done latest) (after .card-is) (after .better .signers-are); phase-is = refl }))))
         (λ differ. by-value (took _ (phase-kept before client (after .kept) _) best-fit
         (write-legal client (after .kept .fits) (bestProof client latest) (proof-fits client (after .kept .fits) latest best-fit) (entries-in-length (client .entries) (client .«entry_count»)))
-        (cards-differ sender nonce card proof best counted showed (bestProof client latest) is-message at new stands quorum (after .card-is) (after .signers-are)
+        (cards-differ sender nonce card proof best counted showed is-message at (new .0, new .1, quorum) stands (quorum-before client (after .kept) showing differ) (after .card-is) (better-in (after .better))
         (record { answer-is = cc; phase-is = refl }))))
     after-cards (as-view no-writer) quorum =
         by-value (took _ (phase-kept before client (after .kept) _) tt tt
-        (cards-viewed sender nonce card proof best counted showed is-message at new stands quorum no-writer
-        (record { answer-is = ap₂ (done latest) (after .card-is) (after .signers-are); phase-is = refl })))
+        (cards-viewed sender nonce card proof best counted showed is-message at (new .0, new .1, quorum) stands no-writer
+        (record { answer-is = ap₂ (done latest) (after .card-is) (after .better .signers-are); phase-is = refl })))
 
-    count-card : {next : AfterCards} → Follows before next → Accepts (ClientFacts before verdicts message) (countCard next nonce latest (with counted sender) showing client)
+    count-card : {next : AfterCards} → Follows before next → Accepts (ClientFacts before own verdicts message) (countCard next nonce latest (with counted sender) showing client)
     unfolding countCard
     count-card follows =
         by-cases _ (λ quorum. after-cards follows (quorum-before client (after .kept) (with counted sender) quorum))
         (λ less. by-value (took _ (phase-kept before client (after .kept) _) best-fit tt
-        (card-counted sender nonce card proof best counted showed is-message at new stands (after .card-is) (after .signers-are) leaves)))
+        (card-counted sender nonce card proof best counted showed is-message at (new .0, new .1, quorum-before client (after .kept) (with counted sender) less) stands (after .card-is) (better-in (after .better)) leaves)))
 
 -- ---- Phases: the others await another kind
 
-module _ (before : Client) (verdicts : List ℕ) (fits : ClientFits before) (sender : ReplicaId) (in-range : isReplica (before .f) sender ≡ true) where
+module _ (before : Client) (own verdicts : List ℕ) (fits : ClientFits before) (sender : ReplicaId) (in-range : isReplica (before .f) sender ≡ true) where
   -- A reply to this nonce, to this client, of a replica not yet counted.
   answers-nonce : (nonce asked : ℕ) (addressed : ClientId) (counted : ReplicaSet) → (eqb nonce asked && (eqb (addressed .0) (before .id .0) && isNew counted sender)) ≡ true
       → (nonce ≡ asked) × (addressed ≡ before .id) × NewFrom before sender counted
@@ -265,12 +274,13 @@ module _ (before : Client) (verdicts : List ℕ) (fits : ClientFits before) (sen
 
   pub stamp-facts : (nonce : ℕ) (proof : Option PreparedProof) (addressed : ClientId) → Passed (before .f) (STAMP sender nonce proof addressed) verdicts → IfThere ProofFits proof
       → (phase : Phase) → before .phase ≡ phase → PhaseFits phase
-      → Accepts (ClientFacts before verdicts (STAMP sender nonce proof addressed)) (onStamp before sender nonce proof addressed phase)
+      → Accepts (ClientFacts before own verdicts (STAMP sender nonce proof addressed)) (onStamp before sender nonce proof addressed phase)
   unfolding onStamp
   stamp-facts nonce proof addressed passed proof-fit (Stamps asked best counted) at best-fit =
       by-guard 18 (λ e.
       let (same-nonce, same-client, new) = answers-nonce nonce asked addressed counted e in
-      after-stamp before verdicts (STAMP sender nonce proof addressed) passed fits sender asked proof best counted (best-fits best proof best-fit proof-fit) (cc) at new _ (better-kept before best fits proof proof-fit))
+      after-stamp before own verdicts (STAMP sender nonce proof addressed) passed fits sender asked proof best counted (best-fits best proof best-fit proof-fit) (cc) at new _
+      (better-kept before best fits proof (passed-good (before .f) proof proof-fit (passed .prepared-shaped) (passed .prepared-issued))))
   stamp-facts nonce proof addressed passed proof-fit Idle at h = by-refusal
   stamp-facts nonce proof addressed passed proof-fit (Prepareds timestamp counted) at h = by-refusal
   stamp-facts nonce proof addressed passed proof-fit (Writtens timestamp counted) at h = by-refusal
@@ -279,25 +289,26 @@ module _ (before : Client) (verdicts : List ℕ) (fits : ClientFits before) (sen
 
   pub card-facts : {next : AfterCards} → Follows before next → (nonce : ℕ) (card : List ℕ) (proof : Option PreparedProof) (addressed : ClientId) → Passed (before .f) (CARD sender nonce card proof addressed) verdicts
       → Bytes card → IfThere ProofFits proof → cardStands card proof ≡ true → (phase : Phase) → before .phase ≡ phase → PhaseFits phase
-      → Accepts (ClientFacts before verdicts (CARD sender nonce card proof addressed)) (onCard next before sender nonce card proof addressed phase)
+      → Accepts (ClientFacts before own verdicts (CARD sender nonce card proof addressed)) (onCard next before sender nonce card proof addressed phase)
   unfolding onCard
   card-facts follows nonce card proof addressed passed bytes proof-fit stands (Cards asked best counted showed) at best-fit =
       by-guard 18 (λ e.
       let (same-nonce, same-client, new) = answers-nonce nonce asked addressed counted e in
-      count-card before verdicts (CARD sender nonce card proof addressed) passed fits sender asked card proof best counted showed
-      (best-fits best proof best-fit proof-fit) (cc) at new stands _ (better-card-kept before best fits card proof (standing-short card proof stands) bytes proof-fit) follows)
+      count-card before own verdicts (CARD sender nonce card proof addressed) passed fits sender asked card proof best counted showed
+      (best-fits best proof best-fit proof-fit) (cc) at new stands _
+      (better-card-kept before best fits card proof (standing-short card proof stands) bytes (passed-good (before .f) proof proof-fit (passed .prepared-shaped) (passed .prepared-issued))) follows)
   card-facts follows nonce card proof addressed passed bytes proof-fit stands Idle at h = by-refusal
   card-facts follows nonce card proof addressed passed bytes proof-fit stands (Stamps asked best counted) at h = by-refusal
   card-facts follows nonce card proof addressed passed bytes proof-fit stands (Prepareds timestamp counted) at h = by-refusal
   card-facts follows nonce card proof addressed passed bytes proof-fit stands (Writtens timestamp counted) at h = by-refusal
   card-facts follows nonce card proof addressed passed bytes proof-fit stands (WriteBack timestamp counted) at h = by-refusal
 
-  module _ (signature : List ℕ) (signature-fits : IsSignature signature) where
-    signatures-fit : Array 1_024 (withSignature (before .signatures) sender signature)
-    signatures-fit = let range = replica-range (before .f) sender in-range in signature-put (before .signatures) signature sender (range .0) (range .1) (fits .signatures-fit) signature-fits
+  module _ (own-fits : IsSignature own) where
+    signatures-fit : Array 1_024 (signaturesWith before sender own)
+    signatures-fit = let range = replica-range (before .f) sender in-range in signature-put (before .signatures) own sender (range .0) (range .1) (fits .signatures-fit) own-fits
 
     pub prepared-facts : (timestamp : ℕ) (digest : List ℕ) → Passed (before .f) (PREPARED sender timestamp digest) verdicts → (phase : Phase) → before .phase ≡ phase → PhaseFits phase
-        → Accepts (ClientFacts before verdicts (PREPARED sender timestamp digest)) (onPrepared before sender timestamp digest signature phase)
+        → Accepts (ClientFacts before own verdicts (PREPARED sender timestamp digest)) (onPrepared before sender timestamp digest own phase)
     unfolding onPrepared
     prepared-facts timestamp digest passed (Prepareds asked counted) at asked-fits =
         by-guard 18 (λ e.
@@ -305,8 +316,7 @@ module _ (before : Client) (verdicts : List ℕ) (fits : ClientFits before) (sen
         let rest = and-true-both (same digest (before .digest)) (isNew counted sender) (first .1) in
         let same-timestamp = eqb-true timestamp (number asked) (first .0) in
         let same-digest = same-equal digest (before .digest) (rest .0) in
-        after-prepared before verdicts (PREPARED sender timestamp digest) passed fits sender asked counted asked-fits (in-range, not-true (has counted sender) (rest .1))
-        (withSignature (before .signatures) sender signature) signatures-fit (cc) at)
+        after-prepared before own verdicts (PREPARED sender timestamp digest) passed fits sender asked counted asked-fits (in-range, not-true (has counted sender) (rest .1)) signatures-fit (cc) at)
     prepared-facts timestamp digest passed Idle at h = by-refusal
     prepared-facts timestamp digest passed (Stamps nonce best counted) at h = by-refusal
     prepared-facts timestamp digest passed (Writtens asked counted) at h = by-refusal
@@ -320,16 +330,16 @@ module _ (before : Client) (verdicts : List ℕ) (fits : ClientFits before) (sen
         (eqb-true timestamp (number asked) (both .0), (in-range, not-true (has counted sender) (both .1)))
 
     pub written-facts : (timestamp : ℕ) → Passed (before .f) (WRITTEN sender timestamp) verdicts → (phase : Phase) → before .phase ≡ phase → PhaseFits phase
-        → Accepts (ClientFacts before verdicts (WRITTEN sender timestamp)) (onWritten before sender timestamp signature phase)
+        → Accepts (ClientFacts before own verdicts (WRITTEN sender timestamp)) (onWritten before sender timestamp own phase)
     unfolding onWritten
     written-facts timestamp passed (Writtens asked counted) at asked-fits =
         by-guard 18 (λ e.
         let (same-timestamp, new) = answers-timestamp timestamp asked counted e in
-        after-written before verdicts (WRITTEN sender timestamp) passed fits sender asked counted asked-fits new (withSignature (before .signatures) sender signature) signatures-fit (cc) at)
+        after-written before own verdicts (WRITTEN sender timestamp) passed fits sender asked counted asked-fits new signatures-fit (cc) at)
     written-facts timestamp passed (WriteBack asked counted) at asked-fits =
         by-guard 18 (λ e.
         let (same-timestamp, new) = answers-timestamp timestamp asked counted e in
-        after-write-back before verdicts (WRITTEN sender timestamp) passed fits sender asked counted asked-fits new (cc) at)
+        after-write-back before own verdicts (WRITTEN sender timestamp) passed fits sender asked counted asked-fits new (cc) at)
     written-facts timestamp passed Idle at h = by-refusal
     written-facts timestamp passed (Stamps nonce best counted) at h = by-refusal
     written-facts timestamp passed (Prepareds asked counted) at h = by-refusal

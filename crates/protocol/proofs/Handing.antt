@@ -3,15 +3,12 @@ use mathlib.Core.Path.{_≡_, refl, ap, _∙_}
 use mathlib.Core.Bool.{true, false, not}
 use mathlib.Core.List.{List, []}
 use mathlib.Core.Option.{some}
-use Prim.Native.Nat.{ℕ, _/_, _%_, _≤_}
+use Prim.Native.Nat.{ℕ, _≤_}
 use native.Mathlib.Omega.{arith}
-use borrow.Author.Tests.{eqb-true, leb-true, not-true}
-use lib.Dec.{eqb, leb}
+use borrow.Author.Tests.{leb-true, not-true}
 use lib.ListN.{length}
 use Rattle.base.specs.BigEndian.{Bytes}
-use Rattle.base.specs.Party.{quorumSize, replicaCount, isWriter, registerPlace}
-use Rattle.base.specs.Range.{within}
-use Rattle.base.specs.Rising.{rising}
+use Rattle.base.specs.Party.{isWriter, registerPlace}
 use Rattle.base.specs.Timestamp.{ofNumber}
 use Rattle.base.specs.declared.party.ClientId.{ClientId}
 use Rattle.base.specs.declared.party.RegisterId.{RegisterId}
@@ -19,9 +16,10 @@ use Rattle.base.proofs.Booleans.{and-true-both}
 use Rattle.base.proofs.Timestamps.{number-ofNumber}
 use Rattle.wire.specs.Checks.{shaped, issued}
 use Rattle.wire.specs.Message.{ProofFits}
-use Rattle.wire.specs.Proof.{WrittenProof, signers}
+use Rattle.wire.specs.Proof.{WrittenProof}
 use Rattle.wire.proofs.AdmittedProof.{AdmittedProof, proof-passed}
 use Rattle.wire.proofs.ProofBytes.{proof-accepted, proof-rewritten}
+use Rattle.wire.proofs.Tests7To11.{shaped-few, issued-positive}
 use Rattle.protocol.specs.Client.{writtenAt, writtenKept, freshClient, keeping, isIdle}
 use Rattle.protocol.specs.Handing.{making, withHanded, mayTake, takeProof, ProofTaken, TakesProof}
 use Rattle.protocol.specs.declared.client.Client.{Client}
@@ -42,17 +40,10 @@ module _ (before : Client) (register : RegisterId) (proof : WrittenProof) where
   abbrev new : Written
   new = keeping false (ofNumber (proof .timestamp)) (proof .entries)
 
-  -- At most the 11 entries of the largest quorum.
-  few : (f : ℕ) → shaped f (proof .entries) ≡ true → length (proof .entries) ≤ 11
-  unfolding shaped
-  few f shape =
-      let many = eqb-true (length (proof .entries)) (quorumSize f) (and-true-both (eqb (length (proof .entries)) (quorumSize f)) (rising 0 (replicaCount f) (signers (proof .entries))) shape .0) in
-      omega arith
-
   is-shown : (f : ℕ) → shaped f (proof .entries) ≡ true → issued (proof .timestamp) ≡ true → ProofFits proof → [] ≡ proof .digest → writtenKept new ≡ some proof
   is-shown f shape is fits none =
-      let low = leb-true 1 (proof .timestamp / 256) (and-true-both (leb 1 (proof .timestamp / 256)) (within 1 64 (proof .timestamp % 256)) is .0) in
-      keeping-shown false (ofNumber (proof .timestamp)) (proof .entries) (omega arith) (fits .2 .1) (few f shape)
+      let low = issued-positive (proof .timestamp) is in
+      keeping-shown false (ofNumber (proof .timestamp)) (proof .entries) (omega arith) (fits .2 .1) (shaped-few f (proof .entries) shape)
       ∙ rw (number-ofNumber (proof .timestamp), none)
 
   taken : (bytes verdicts : List ℕ) → length (before .written) ≡ 16 → ProofFits proof → AdmittedProof (before .f) register bytes verdicts proof → mayTake register before ≡ true

@@ -43,7 +43,7 @@ remaining (Writtens timestamp counted) = 0
 remaining (Cards nonce best counted showed) = 1
 remaining (WriteBack timestamp counted) = 0
 
-abbrev sends : Answer → ℕ
+abbrev pub sends : Answer → ℕ
 sends (send message) = 1
 sends waits = 0
 sends (done timestamp card signers) = 0
@@ -270,8 +270,8 @@ module _ (f : ℕ) (id : ClientId) (writer : isWriter id ≡ true) where
 
 -- ---- A view: nothing after its READ
 
-record Quiet (turn : Turn) : Type 0 where
-  sends-none : sends (turn .answer) ≡ 0
+pub record Quiet (turn : Turn) : Type 0 where
+  pub sends-none : sends (turn .answer) ≡ 0
 
 view-quiet : (client : Client) (sender : ReplicaId) (nonce : ℕ) (card : List ℕ) (proof : Option PreparedProof) (addressed : ClientId) (phase : Phase)
     → Accepts Quiet (onCard afterView client sender nonce card proof addressed phase)
@@ -284,7 +284,7 @@ view-quiet client sender nonce card proof addressed (Cards asked best counted sh
     by-guard 18 (λ is. by-cases (enough (keepBetterCard best card proof client) (with counted sender)) (λ full. by-value (record { sends-none = refl })) (λ less. by-value (record { sends-none = refl })))
 view-quiet client sender nonce card proof addressed (WriteBack timestamp counted) = by-refusal
 
-reply-quiet : (client : Client) (message : Message) → Accepts Quiet (onViewerReply client message)
+pub reply-quiet : (client : Client) (message : Message) → Accepts Quiet (onViewerReply client message)
 unfolding onViewerReply
 reply-quiet client (CARD sender nonce card proof addressed) = by-guard 14 (λ stands. view-quiet client sender nonce card proof addressed (client .phase))
 reply-quiet client (STAMP sender nonce proof addressed) = by-refusal

@@ -8,11 +8,10 @@ use Prim.Native.Nat.{ℕ, _+_, _-_, _*_, _/_, _%_, _^_, _≤_, _<_}
 use native.Mathlib.Omega.{arith}
 use borrow.Author.Tests.{ltb-true, ltb-false, leb-true, eqb-true, eqb-false, ne-eqb}
 use lib.Dec.{eqb, leb, ltb}
-use lib.ListN.{length, getD, set, length-set}
+use lib.ListN.{getD, set, length-set}
 use lib.Seq.{getD-set-same, getD-set-other}
 use Rattle.base.specs.Outcome.{accepted, guard}
-use Rattle.base.specs.Party.{isWriter, replicaCount, quorumSize}
-use Rattle.base.specs.Rising.{rising}
+use Rattle.base.specs.Party.{isWriter}
 use Rattle.base.specs.Same.{same}
 use Rattle.base.specs.Timestamp.{number, ofNumber, successor}
 use Rattle.base.specs.declared.party.ClientId.{ClientId}
@@ -22,19 +21,21 @@ use Rattle.base.proofs.Apart.{apart}
 use Rattle.base.proofs.Booleans.{and-true-both}
 use Rattle.base.proofs.Range.{bounds}
 use Rattle.base.proofs.Same.{same-equal}
+use Rattle.base.proofs.Timestamps.{number-ofNumber}
 use Rattle.wire.specs.Message.{Message, kindOf, READ-STAMP, PREPARE, WRITE, READ, STAMP, PREPARED, WRITTEN, CARD, IfThere, IsDigest, ProofFits, CardFits, Fits, proofSize, size}
 use Rattle.wire.specs.Acceptance.{senderOf, maySend}
-use Rattle.wire.specs.Checks.{writtenOf, shaped}
+use Rattle.wire.specs.Checks.{writtenOf}
 use Rattle.wire.specs.Proof.{PreparedProof, WrittenProof, signers}
-use Rattle.protocol.specs.Parts.{entriesKept}
+use Rattle.protocol.specs.Parts.{entriesKept, cardStands}
 use Rattle.protocol.specs.RegisterReplica.{Reply, heldTimestamp, heldProof, heldCard, slotCount, slotDigest, slotTimestamp, raised, withWritten, withSlot, holding, withSlots, withHeld, slotIs, slotTakes, isTimestamp, afterPrepare, afterWrite, onReadStamp, onPrepare, onWrite, onRead, onRequest}
 use Rattle.protocol.specs.declared.replica.Held.{Held}
 use Rattle.protocol.specs.declared.replica.RegisterReplica.{RegisterReplica}
 use Rattle.protocol.specs.declared.replica.Slots.{Slots}
-use Rattle.protocol.proofs.ArrayLaws.{replaced-length, replaced-bytes, replaced-here, replaced-before, replaced-behind, filled-fits, card-in-bytes, card-in-short, entries-in-length, entries-in-fit, entries-kept, entries-filled, issued-there, issued-timestamp, issued-size}
+use Rattle.protocol.proofs.ArrayLaws.{replaced-length, replaced-bytes, replaced-here, replaced-before, replaced-behind, filled-fits, card-kept, card-in-bytes, card-in-short, entries-in-length, entries-in-fit, entries-kept, entries-filled, issued-there, issued-timestamp, issued-size}
 use Rattle.protocol.proofs.Accepts.{Accepts, by-test, by-value, by-refusal, by-guard, by-next}
 use Rattle.protocol.proofs.Fit.{SlotsFit, HeldFits, RegisterReplicaFits, LegalMessage}
-use Rattle.wire.proofs.Tests7To11.{Passed}
+use Rattle.wire.proofs.Tests7To11.{Passed, shaped-few, issued-positive}
+use Rattle.wire.proofs.card.Digests.{standing-under-short}
 use Rattle.wire.specs.Parts.{preparedTimestamp, preparedSigners, timestampIfThere}
 
 -- The client of a timestamp's number.
@@ -54,6 +55,23 @@ SlotChange before after message client =
     × ((digest : List ℕ) × (proof : Option PreparedProof) × (last : Option WrittenProof) × (message ≡ PREPARE client (slotTimestamp after client) digest proof last)
     × (isTimestamp (slotTimestamp after client) (successor (ofNumber (preparedTimestamp proof)) client) ≡ true)))
 
+-- The reply to a request, by the record before it.
+abbrev pub ReplyTo : RegisterReplica → Message → Message → Type 0
+ReplyTo before (READ-STAMP client nonce) reply = reply ≡ STAMP (before .id) nonce (heldProof (before .register .held)) client
+ReplyTo before (PREPARE client timestamp digest proof last) reply = reply ≡ PREPARED (before .id) timestamp digest
+ReplyTo before (WRITE client card proof) reply = reply ≡ WRITTEN (before .id) (proof .timestamp)
+ReplyTo before (READ client nonce) reply = reply ≡ CARD (before .id) nonce (heldCard (before .register .held)) (heldProof (before .register .held)) client
+ReplyTo before (STAMP sender nonce proof client) reply = ⊥
+ReplyTo before (PREPARED sender timestamp digest) reply = ⊥
+ReplyTo before (WRITTEN sender timestamp) reply = ⊥
+ReplyTo before (CARD sender nonce card proof client) reply = ⊥
+
+-- What is held stays, or is the card and the proof of a WRITE that passed 14.
+pub data HeldChange (before after : Held) (message : Message) : Type 0 where
+  stays : after ≡ before → HeldChange before after message
+  stores : (client : ClientId) (card : List ℕ) (proof : PreparedProof) → message ≡ WRITE client card proof → cardStands card (some proof) ≡ true
+      → heldProof after ≡ some proof → heldCard after ≡ card → HeldChange before after message
+
 -- The signers that are kept are those of the proof that is held.
 abbrev pub SignersHeld : Held → Type 0
 SignersHeld held = held .signers ≡ preparedSigners (heldProof held)
@@ -65,6 +83,8 @@ pub record RegisterFacts (before : RegisterReplica) (verdicts : List ℕ) (messa
   pub fits : RegisterReplicaFits (reply .next)
   pub legal : LegalMessage (reply .message)
   pub passed : Passed (before .f) message verdicts
+  pub reply-is : ReplyTo before message (reply .message)
+  pub held-change : HeldChange (before .register .held) (reply .next .register .held) message
   pub held-rises : heldTimestamp (before .register .held) ≤ heldTimestamp (reply .next .register .held)
   pub signers-held : SignersHeld (before .register .held) → SignersHeld (reply .next .register .held)
   pub slots-rise : (client : ClientId) → 1 ≤ client .0 → client .0 ≤ 64 → SlotRises (before .register .slots) (reply .next .register .slots) client
@@ -78,7 +98,6 @@ pub record RegisterFacts (before : RegisterReplica) (verdicts : List ℕ) (messa
       → (id ≡ before .id) × (proof ≡ heldProof (before .register .held)) × (message ≡ READ-STAMP client nonce)
   pub card-sent : (id : ReplicaId) (nonce : ℕ) (card : List ℕ) (proof : Option PreparedProof) (client : ClientId) → reply .message ≡ CARD id nonce card proof client
       → (id ≡ before .id) × (proof ≡ heldProof (before .register .held)) × (message ≡ READ client nonce)
-  -- for #107 and #108
   pub written-rises : number (before .register .slots .written) ≤ number (reply .next .register .slots .written)
   pub written-shown : (number (reply .next .register .slots .written) ≡ number (before .register .slots .written))
       ⊎ ((last : WrittenProof) × (writtenOf message ≡ some last) × (number (reply .next .register .slots .written) ≡ last .timestamp))
@@ -147,6 +166,8 @@ stamp-facts before verdicts client nonce fits message-fits passed =
       fits = fits;
       legal = stamp-legal before fits nonce client (message-fits .1) (message-fits .0);
       passed = passed;
+      reply-is = refl;
+      held-change = stays refl;
       held-rises = omega arith;
       signers-held = λ was. was;
       slots-rise = λ c low high. inl (refl, refl);
@@ -171,6 +192,8 @@ card-facts before verdicts client nonce fits message-fits passed =
       fits = fits;
       legal = card-legal before fits nonce client (message-fits .1) (message-fits .0);
       passed = passed;
+      reply-is = refl;
+      held-change = stays refl;
       held-rises = omega arith;
       signers-held = λ was. was;
       slots-rise = λ c low high. inl (refl, refl);
@@ -187,17 +210,20 @@ card-facts before verdicts client nonce fits message-fits passed =
 -- ---- WRITE
 
 -- What is held after a WRITE: at least its timestamp, nothing earlier than before, and its own signers if it is stored.
-record Stored (before : Held) (timestamp : ℕ) (after : Held) : Type 0 where
+record Stored (before : Held) (message : Message) (timestamp : ℕ) (after : Held) : Type 0 where
   holds : timestamp ≤ heldTimestamp after
   rises : heldTimestamp before ≤ heldTimestamp after
+  change : HeldChange before after message
   signers-held : SignersHeld before → SignersHeld after
   fits : HeldFits after
 
 module _ (before : RegisterReplica) (verdicts : List ℕ) (client : ClientId) (card : List ℕ) (proof : PreparedProof) (fits : RegisterReplicaFits before)
-    (message-fits : Fits (WRITE client card proof)) (passed : Passed (before .f) (WRITE client card proof) verdicts) where
+    (message-fits : Fits (WRITE client card proof)) (passed : Passed (before .f) (WRITE client card proof) verdicts) (stands : cardStands card (some proof) ≡ true) where
+  abbrev AfterWrite : Held → Type 0
+  AfterWrite after = Stored (before .register .held) (WRITE client card proof) (proof .timestamp) after
+
   -- WRITTEN, with what is held afterwards; the slots are as they were.
-  wrote : (after : Held) → Stored (before .register .held) (proof .timestamp) after
-      → RegisterFacts before verdicts (WRITE client card proof) (record { message = WRITTEN (before .id) (proof .timestamp); next = withHeld before after })
+  wrote : (after : Held) → AfterWrite after → RegisterFacts before verdicts (WRITE client card proof) (record { message = WRITTEN (before .id) (proof .timestamp); next = withHeld before after })
   unfolding Fits
   wrote after stored =
       record {
@@ -207,6 +233,8 @@ module _ (before : RegisterReplica) (verdicts : List ℕ) (client : ClientId) (c
         fits = record { id-fits = fits .id-fits; slots-fit = fits .slots-fit; held-fits = stored .fits };
         legal = written-legal (before .id) (proof .timestamp) (fits .id-fits) (message-fits .2 .0);
         passed = passed;
+        reply-is = refl;
+        held-change = stored .change;
         held-rises = stored .rises;
         signers-held = stored .signers-held;
         slots-rise = λ c low high. inl (refl, refl);
@@ -230,27 +258,35 @@ module _ (before : RegisterReplica) (verdicts : List ℕ) (client : ClientId) (c
         entries-fit = entries-filled (proof .entries) (message-fits .2 .2 .1);
       }
 
-  -- 9 leaves it q entries, which have room.
-  holding-signers : 1 ≤ proof .timestamp → SignersHeld (holding card proof)
-  unfolding Fits shaped
-  holding-signers issued =
-      let shape = and-true-both (eqb (length (proof .entries)) (quorumSize (before .f))) (rising 0 (replicaCount (before .f)) (signers (proof .entries))) (passed .prepared-shaped) in
-      let few = eqb-true (length (proof .entries)) (quorumSize (before .f)) (shape .0) in
-      rw (ne-eqb (number (ofNumber (proof .timestamp))) 0 (omega arith), entries-kept (proof .entries) (message-fits .2 .2 .1) (omega arith)) refl
+  -- 9 leaves it q entries, which have room, and 11 a timestamp: it is shown as it came.
+  holding-shown : heldProof (holding card proof) ≡ some proof
+  unfolding Fits
+  holding-shown =
+      let few = shaped-few (before .f) (proof .entries) (passed .prepared-shaped) in
+      let positive = issued-positive (proof .timestamp) (passed .prepared-issued) in
+      rw (number-ofNumber (proof .timestamp), ne-eqb (proof .timestamp) 0 (omega arith), entries-kept (proof .entries) (message-fits .2 .2 .1) few) refl
 
-  stored : Stored (before .register .held) (proof .timestamp) (afterWrite card proof (before .register .held))
+  stored : AfterWrite (afterWrite card proof (before .register .held))
   unfolding afterWrite
   stored =
-      by-test (Stored (before .register .held) (proof .timestamp))
+      by-test AfterWrite
       (λ larger.
       let l = ltb-true (heldTimestamp (before .register .held)) (proof .timestamp) larger in
-      record { holds = omega arith; rises = omega arith; signers-held = λ was. holding-signers (omega arith); fits = holding-fits })
+      record {
+        holds = omega arith;
+        rises = omega arith;
+        change = stores client card proof refl stands holding-shown (card-kept card (standing-under-short card (proof .digest) stands));
+        signers-held = λ was. sym (ap preparedSigners holding-shown);
+        fits = holding-fits;
+      })
       (λ other.
       let l = ltb-false (heldTimestamp (before .register .held)) (proof .timestamp) other in
-      record { holds = l; rises = omega arith; signers-held = λ was. was; fits = fits .held-fits })
+      record { holds = l; rises = omega arith; change = stays refl; signers-held = λ was. was; fits = fits .held-fits })
 
-  write-facts : Accepts (RegisterFacts before verdicts (WRITE client card proof)) (onWrite before card proof)
-  write-facts = by-guard 14 (λ stands. by-value (wrote (afterWrite card proof (before .register .held)) stored))
+write-facts : (before : RegisterReplica) (verdicts : List ℕ) (client : ClientId) (card : List ℕ) (proof : PreparedProof) → RegisterReplicaFits before → Fits (WRITE client card proof)
+    → Passed (before .f) (WRITE client card proof) verdicts → Accepts (RegisterFacts before verdicts (WRITE client card proof)) (onWrite before card proof)
+write-facts before verdicts client card proof fits message-fits passed =
+    by-guard 14 (λ stands. by-value (wrote before verdicts client card proof fits message-fits passed stands _ (stored before verdicts client card proof fits message-fits passed stands)))
 
 -- ---- PREPARE
 
@@ -389,6 +425,8 @@ module _ (before : RegisterReplica) (verdicts : List ℕ) (client : ClientId) (t
         fits = record { id-fits = fits .id-fits; slots-fit = after-fits; held-fits = fits .held-fits };
         legal = prepared-legal (before .id) timestamp digest (fits .id-fits) (message-fits .1) (message-fits .2);
         passed = passed;
+        reply-is = refl;
+        held-change = stays refl;
         held-rises = omega arith;
         signers-held = λ was. was;
         slots-rise = rise;

@@ -45,6 +45,10 @@ currentCard client = cardKept (client .card) (client .«card_length»)
 abbrev pub bestProof : Client → Timestamp → PreparedProof
 bestProof client best = record { timestamp = number best; digest = client .digest; entries = entriesKept (client .entries) (client .«entry_count») }
 
+-- It is shown, unless it is 0.0's.
+abbrev pub bestShown : Client → Timestamp → Option PreparedProof
+bestShown client best = ifIssued (number best) (bestProof client best)
+
 -- What stands past the end of the sixteen written proofs, where nothing is read: numbers are 0 and arrays have no elements, as in the
 -- code's view.
 abbrev pub noWritten : Written
@@ -279,7 +283,7 @@ abbrev pub toPrepare : Client → Timestamp → Option Timestamp → Outcome Tur
 toPrepare client best none = turn ended (withPhase Idle client)
 toPrepare client best (some next) =
     let digest = sha256 (currentCard client) in
-    turn (send (PREPARE (client .id) (number next) digest (ifIssued (number best) (bestProof client best)) (lastWritten client)))
+    turn (send (PREPARE (client .id) (number next) digest (bestShown client best) (lastWritten client)))
     (withPhase (Prepareds next empty) (withDigest digest client))
 
 unfoldable pub afterStamp : ℕ → Timestamp → ReplicaSet → Client → Outcome Turn

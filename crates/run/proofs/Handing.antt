@@ -31,7 +31,7 @@ use Rattle.run.proofs.Stages.{preparedFor, isPrepare, Stage, stamping, 
 use Rattle.run.proofs.Turns.{Heard, heard-register, ClientTurn, rested, wrote, asked, heard, made-again, took, client-turn, good-client}
 
 -- A client without a timestamp gathers no WRITTENs of a write.
-not-writing : (phase : Phase) → preparedFor phase ≡ none → isWriting phase ≡ false
+pub not-writing : (phase : Phase) → preparedFor phase ≡ none → isWriting phase ≡ false
 not-writing Idle e = refl
 not-writing (Stamps nonce best counted) e = refl
 not-writing (Prepareds timestamp counted) e = refl
@@ -71,11 +71,11 @@ module _ (R : Run) (id : ClientId) (c : R .correct-client id ≡ true) (x : Regi
 
           by : Stage (now t) (h .turn) → preparedFor (h .turn .next .phase) ≡ none
           by (stamping was no-timestamp none-next same answer) = none-next
-          by (prepares timestamp shown last was no-timestamp is for answer shows) =
+          by (prepares timestamp shown last was no-timestamp is for same-card answer shows) =
               absurd (quiet .no-prepare (at-heard h) (ap registerPlace (heard-register R id t h (at-heard h)) ∙ e) timestamp (sha256 (currentCard (now t))) shown last
               (h .step .answer-is ∙ ap accepted answer ∙ ap (λ (i : ClientId). accepted (send (PREPARE i timestamp (sha256 (currentCard (now t))) shown last))) (good-client R id c t .id-is)))
-          by (keeps timestamp was is no-stamps no-prepare goes) = apart (cc (kept .no-timestamp e))
-          by (finishes timestamp card signers was none-next is answer) = none-next
+          by (keeps timestamp was is no-stamps same-card no-prepare goes) = apart (cc (kept .no-timestamp e))
+          by (finishes timestamp card signers entries was none-next is written answer) = none-next
           by (others was none-next is no-prepare) = none-next
 
       -- One for another register.
@@ -107,7 +107,7 @@ module _ (R : Run) (id : ClientId) (c : R .correct-client id ≡ true) (x : Regi
       go (heard h) = by (eqb (registerPlace (now t .register)) place) refl
         where
           by : (b : Bool) → eqb (registerPlace (now t .register)) place ≡ b → Kept last (suc t)
-          by true e = here h (eqb-true (registerPlace (now t .register)) place e) (stage (now t) (h .turn) (h .message) (h .facts .case))
+          by true e = here h (eqb-true (registerPlace (now t .register)) place e) (stage (now t) (h .turn) _ (h .message) (h .facts .case))
           by false e = elsewhere h (eqb-false (registerPlace (now t .register)) place e)
 
   -- After the handing.
@@ -161,18 +161,18 @@ module _ (R : Run) (id : ClientId) (c : R .correct-client id ≡ true) (x : Regi
         go (asked y turn q b k) = no-other (turn .answer) (k .answer-is) (ap isPrepare (b .sends))
         go (made-again nonce q positive k) = no-other waits (k .answer-is) refl
         go (took y bytes′ verdicts′ next q it k) = no-other waits (k .answer-is) refl
-        go (heard h) = by (stage (now t) (h .turn) (h .message) (h .facts .case))
+        go (heard h) = by (stage (now t) (h .turn) _ (h .message) (h .facts .case))
           where
             for-it : now t .register ≡ x
             for-it = sym (heard-register R id t h at) ∙ is
 
             by : Stage (now t) (h .turn) → last ≡ some proof
             by (stamping was no-timestamp none-next same answer) = no-other (h .turn .answer) (h .step .answer-is) (ap isPrepare answer)
-            by (prepares timestamp shown′ last′ was no-timestamp is-next for answer kept-one) =
+            by (prepares timestamp shown′ last′ was no-timestamp is-next for same-card answer kept-one) =
                 let same : last ≡ last′ = cc (h .step .answer-is) in
                 same ∙ kept-one ∙ ap (λ (y : RegisterId). writtenKept (writtenAt (registerPlace y) (now t))) for-it ∙ ap writtenKept (kept .is-kept) ∙ handed .shown
-            by (keeps timestamp was is-next no-stamps no-prepare goes) = no-other (h .turn .answer) (h .step .answer-is) no-prepare
-            by (finishes timestamp card signers was none-next is-next answer) = no-other (h .turn .answer) (h .step .answer-is) (ap isPrepare answer)
+            by (keeps timestamp was is-next no-stamps same-card no-prepare goes) = no-other (h .turn .answer) (h .step .answer-is) no-prepare
+            by (finishes timestamp card signers entries was none-next is-next written answer) = no-other (h .turn .answer) (h .step .answer-is) (ap isPrepare answer)
             by (others was none-next is-next no-prepare) = no-other (h .turn .answer) (h .step .answer-is) no-prepare
 
 -- For every run.

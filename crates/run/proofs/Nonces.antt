@@ -36,20 +36,20 @@ isQuestion (done timestamp card signers) = false
 isQuestion ended = false
 
 -- A client that takes a message asks nothing.
-quiet : (before : Client) (message : Message) (turn : Turn) → ClientCase before message turn → isQuestion (turn .answer) ≡ false
-quiet before message turn (stamp-counted s n p b k e₁ e₂ e₃ e₄ e₅ left) = ap isQuestion (left .answer-is)
-quiet before message turn (stamps-enough s n p b k next shown last e₁ e₂ e₃ e₄ e₅ e₆ e₇ e₈ e₉ e₁₀ left) = ap isQuestion (left .answer-is)
-quiet before message turn (stamps-ended s n p b k e₁ e₂ left) = ap isQuestion (left .answer-is)
-quiet before message turn (prepared-counted s t k e₁ e₂ e₃ e₄ e₅ left) = ap isQuestion (left .answer-is)
-quiet before message turn (prepareds-enough s t k p e₁ e₂ e₃ e₄ e₅ e₆ e₇ e₈ e₉ left) = ap isQuestion (left .answer-is)
-quiet before message turn (written-counted s t k e₁ e₂ e₃ e₄ left) = ap isQuestion (left .answer-is)
-quiet before message turn (writtens-enough s t k e₁ e₂ e₃ e₄ left) = ap isQuestion (left .answer-is)
-quiet before message turn (card-counted s n c p b k g e₁ e₂ e₃ e₄ e₅ e₆ left) = ap isQuestion (left .answer-is)
-quiet before message turn (cards-agree s n c p b k g e₁ e₂ e₃ e₄ e₅ e₆ left) = ap isQuestion (left .answer-is)
-quiet before message turn (cards-viewed s n c p b k g e₁ e₂ e₃ e₄ e₅ e₆ left) = ap isQuestion (left .answer-is)
-quiet before message turn (cards-differ s n c p b k g shown e₁ e₂ e₃ e₄ e₅ e₆ e₇ left) = ap isQuestion (left .answer-is)
-quiet before message turn (back-counted s t k e₁ e₂ e₃ e₄ left) = ap isQuestion (left .answer-is)
-quiet before message turn (back-enough s t k e₁ e₂ e₃ e₄ left) = ap isQuestion (left .answer-is)
+quiet : (before : Client) (own : List ℕ) (message : Message) (turn : Turn) → ClientCase before own message turn → isQuestion (turn .answer) ≡ false
+quiet before own message turn (stamp-counted s n p b k e₁ e₂ e₃ e₄ e₅ left) = ap isQuestion (left .answer-is)
+quiet before own message turn (stamps-enough s n p b k next shown last e₁ e₂ e₃ e₄ e₅ e₆ e₇ e₈ e₉ e₁₀ left) = ap isQuestion (left .answer-is)
+quiet before own message turn (stamps-ended s n p b k e₁ e₂ e₃ left) = ap isQuestion (left .answer-is)
+quiet before own message turn (prepared-counted s t k e₁ e₂ e₃ e₄ e₅ left) = ap isQuestion (left .answer-is)
+quiet before own message turn (prepareds-enough s t k p e₁ e₂ e₃ e₄ e₅ e₆ e₇ left) = ap isQuestion (left .answer-is)
+quiet before own message turn (written-counted s t k e₁ e₂ e₃ e₄ e₅ left) = ap isQuestion (left .answer-is)
+quiet before own message turn (writtens-enough s t k e₁ e₂ e₃ e₄ e₅ left) = ap isQuestion (left .answer-is)
+quiet before own message turn (card-counted s n c p b k g e₁ e₂ e₃ e₄ e₅ e₆ left) = ap isQuestion (left .answer-is)
+quiet before own message turn (cards-agree s n c p b k g e₁ e₂ e₃ e₄ e₅ left) = ap isQuestion (left .answer-is)
+quiet before own message turn (cards-viewed s n c p b k g e₁ e₂ e₃ e₄ e₅ left) = ap isQuestion (left .answer-is)
+quiet before own message turn (cards-differ s n c p b k g e₁ e₂ e₃ e₄ e₅ e₆ e₇ left) = ap isQuestion (left .answer-is)
+quiet before own message turn (back-counted s t k e₁ e₂ e₃ e₄ left) = ap isQuestion (left .answer-is)
+quiet before own message turn (back-enough s t k e₁ e₂ e₃ left) = ap isQuestion (left .answer-is)
 
 asks-question : (id : ClientId) (n : ℕ) (m : Message) → Asks id n m → isQuestion (send m) ≡ true
 asks-question id n m (for-stamps e) = ap (λ (x : Message). isQuestion (send x)) e
@@ -98,7 +98,7 @@ module _ (R : Run) (id : ClientId) (c : R .correct-client id ≡ true) (P : Prem
             up = λ n used low. omega arith;
             asks = λ n m a at e.
                 let is : h .turn .answer ≡ send m = cc (h .step .answer-is) in
-                let no-question = quiet (clientAt R id t) (h .message) (h .turn) (h .facts .case) in
+                let no-question = quiet (clientAt R id t) _ (h .message) (h .turn) (h .facts .case) in
                 let question = ap isQuestion is ∙ asks-question id n m a in
                 apart (cc);
           }

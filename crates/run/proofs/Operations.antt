@@ -4,14 +4,13 @@ use mathlib.Core.Logic.{_⊎_, inl, inr, ⊎-elim}
 use mathlib.Core.Bool.{Bool, true, false, cond}
 use mathlib.Core.List.{List}
 use mathlib.Core.Option.{Option, none, some}
-use Prim.Native.Nat.{ℕ, suc, _/_, _%_, _≤_, _<_}
+use Prim.Native.Nat.{ℕ, suc, _%_, _≤_, _<_}
 use native.Mathlib.Omega.{arith}
 use borrow.Author.Tests.{eqb-true, leb-true, lt-leb}
-use lib.Dec.{eqb, leb, ltb}
+use lib.Dec.{eqb, ltb}
 use Rattle.base.specs.Counting.{count, replica as numbered}
 use Rattle.base.specs.Outcome.{accepted}
 use Rattle.base.specs.Party.{replicaCount, quorumSize, isWriter}
-use Rattle.base.specs.Range.{within}
 use Rattle.base.specs.ReplicaSet.{empty, has, with, isQuorum}
 use Rattle.base.specs.Same.{same}
 use Rattle.base.specs.Timestamp.{number, ofNumber, successor}
@@ -27,7 +26,7 @@ use Rattle.base.proofs.ReplicaSet.{has-with, has-empty}
 use Rattle.base.proofs.Same.{same-equal}
 use Rattle.base.proofs.Timestamps.{successor-number}
 use Rattle.wire.specs.Card.{isCard}
-use Rattle.wire.specs.Checks.{issued}
+use Rattle.wire.specs.Layout.{signature}
 use Rattle.wire.specs.Message.{Message, READ-STAMP, READ, STAMP, PREPARED, WRITTEN, CARD}
 use Rattle.wire.specs.Proof.{PreparedProof, signerSet}
 use Rattle.wire.specs.Sha256.{sha256}
@@ -39,7 +38,7 @@ use Rattle.protocol.specs.declared.client.Phase.the-variants.{Idle, Stamps, Pre
 use Rattle.protocol.proofs.Built.{Built}
 use Rattle.protocol.proofs.ClientArrays.{best-least}
 use Rattle.protocol.proofs.Fit.{TimestampFits}
-use Rattle.wire.proofs.Tests7To11.{Passed}
+use Rattle.wire.proofs.Tests7To11.{Passed, issued-positive}
 use Rattle.protocol.proofs.ClientCases.{Leaves, betterCard, betterSigners, PhaseFits, ClientCase, stamp-counted, stamps-enough, stamps-ended, prepared-counted, prepareds-enough, written-counted, writtens-enough, card-counted, cards-agree, cards-viewed, cards-differ, back-counted, back-enough}
 use Rattle.run.specs.Claims.{NotDone}
 use Rattle.run.specs.Premises.{CardOfRun, Premises, Asks, for-stamps, for-cards}
@@ -55,7 +54,7 @@ use Rattle.wire.specs.Parts.{preparedTimestamp, preparedSigners}
 
 -- ---- The best of the replies
 
-best-fits : (best : Timestamp) (proof : Option PreparedProof) → best .client .0 < 256 → bestOf best proof .client .0 < 256
+pub best-fits : (best : Timestamp) (proof : Option PreparedProof) → best .client .0 < 256 → bestOf best proof .client .0 < 256
 best-fits best proof h = go (ltb (number best) (preparedTimestamp proof))
   where
     go : (b : Bool) → cond b (ofNumber (preparedTimestamp proof)) best .client .0 < 256
@@ -76,7 +75,7 @@ pub none-in : {A : Type 0} (id : ReplicaId) → has empty id ≡ true → A
 none-in id h = let no-one = has-empty id in apart (cc)
 
 -- So it is no quorum.
-empty-few : (f : ℕ) → isQuorum f empty ≡ false
+pub empty-few : (f : ℕ) → isQuorum f empty ≡ false
 empty-few f =
     let none = count-agree (replicaCount f) (has empty) (λ (i : ReplicaId). false) (λ i low high. has-empty (numbered i)) ∙ count-none (replicaCount f) in
     lt-leb (quorumSize f) (count (replicaCount f) (has empty)) (omega arith)
@@ -127,7 +126,7 @@ module _ (R : Run) (x : RegisterId) where
   abbrev pub Holds : ReplicaSet → ℕ → ℕ → Type 0
   Holds set s t = Each set (λ id. s ≤ held R x id t)
 
-  holds-later : (set : ReplicaSet) (s t : ℕ) → Holds set s t → Holds set s (suc t)
+  pub holds-later : (set : ReplicaSet) (s t : ℕ) → Holds set s t → Holds set s (suc t)
   holds-later set s t h id k c = let then = h id k c in let rose = held-rises R x id c t (suc t) (omega arith) in omega arith
 
   -- The timestamp of a write: above all that was settled at t₀, and the client's own.
@@ -325,7 +324,7 @@ module _ (R : Run) (x : RegisterId) where
         more (λ r. held R x r t₀ ≤ number (bestOf best proof)) sender counted
         (λ c. let l = new c in omega arith) (λ r k c. let l = old r k c in omega arith)
 
-    stored-more : (h : Heard R id t) (sender : ReplicaId) (counted : ReplicaSet) (s : ℕ) → h .message ≡ WRITTEN sender s
+    pub stored-more : (h : Heard R id t) (sender : ReplicaId) (counted : ReplicaSet) (s : ℕ) → h .message ≡ WRITTEN sender s
         → Holds counted s t → Holds (with counted sender) s (suc t)
     stored-more h sender counted s e old =
         more (λ r. s ≤ held R x r (suc t)) sender counted
@@ -377,12 +376,12 @@ module _ (R : Run) (x : RegisterId) where
     still-backed : (card : List ℕ) (counted : ReplicaSet) (timestamp : Timestamp) → Writing id card t₀ t now (number timestamp) counted → Backed R x (suc t) (number timestamp) (sha256 card) (now .signers)
     still-backed card counted timestamp it = backed-later R x t (suc t) (number timestamp) (sha256 card) (now .signers) (omega arith) (it .backed)
 
-    write-heard : (card : List ℕ) → CardOfRun R card → (h : Heard R id t) → WriteIn id card t₀ t now (now .phase) → ClientCase now (h .message) (h .turn) → Next true id card t₀ t
+    write-heard : (card : List ℕ) → CardOfRun R card → (h : Heard R id t) → WriteIn id card t₀ t now (now .phase) → ClientCase now (signature (h .bytes)) (h .message) (h .turn) → Next true id card t₀ t
     write-heard card in-run h it (stamp-counted sender nonce proof best counted e phase new kept from left) =
         let y : Stamping id card t₀ now nonce (number best) counted = subst (WriteIn id card t₀ t now) phase it in
         goes-to true card h waits (Stamps nonce (bestOf best proof) (with counted sender)) left refl
         (record { card-is = kept ∙ y .card-is; new = y .new; seen = take-stamp card h sender nonce proof best counted e y })
-    write-heard card in-run h it (stamps-enough sender nonce proof best counted next shown last e phase new full succ kept digest nobody of last-is left) =
+    write-heard card in-run h it (stamps-enough sender nonce proof best counted next shown last e phase new succ kept digest nobody of shows last-is left) =
         let y : Stamping id card t₀ now nonce (number best) counted = subst (WriteIn id card t₀ t now) phase it in
         let fits : TimestampFits best = subst PhaseFits phase (good .phase-fits) in
         goes-to true card h _ (Prepareds next empty) left refl
@@ -390,22 +389,22 @@ module _ (R : Run) (x : RegisterId) where
           card-is = kept ∙ y .card-is;
           digest-is = digest ∙ ap sha256 (y .card-is);
           chosen = choose (bestOf best proof) next (best-fits best proof (fits .1)) succ
-              (below (number (bestOf best proof)) (with counted sender) (quorum (with counted sender) full) (take-stamp card h sender nonce proof best counted e y));
+              (below (number (bestOf best proof)) (with counted sender) (quorum (with counted sender) (new .2)) (take-stamp card h sender nonce proof best counted e y));
           fewer = empty-few (R .f);
           signed = λ r k c. none-in r k;
         })
-    write-heard card in-run h it (stamps-ended sender nonce proof best counted e phase left) = stops refl (done-is (h .turn) ended Idle (h .step) left)
-    write-heard card in-run h it (prepared-counted sender timestamp counted e phase new less same-card left) =
+    write-heard card in-run h it (stamps-ended sender nonce proof best counted e phase none-next left) = stops refl (done-is (h .turn) ended Idle (h .step) left)
+    write-heard card in-run h it (prepared-counted sender timestamp counted e phase new same-card signatures left) =
         let y : Preparing id card t₀ t now (number timestamp) counted = subst (WriteIn id card t₀ t now) phase it in
         goes-to true card h waits (Prepareds timestamp (with counted sender)) left refl
         (record {
           card-is = same-card .card-kept ∙ y .card-is;
           digest-is = same-card .digest-kept ∙ y .digest-is;
           chosen = y .chosen;
-          fewer = subst (λ (f : ℕ). isQuorum f (with counted sender) ≡ false) (good .f-is) less;
+          fewer = subst (λ (f : ℕ). isQuorum f (with counted sender) ≡ false) (good .f-is) (new .2);
           signed = take-prepared card h sender (number timestamp) counted e y;
         })
-    write-heard card in-run h it (prepareds-enough sender timestamp counted proof e phase new full kept from built of-timestamp of-digest left) =
+    write-heard card in-run h it (prepareds-enough sender timestamp counted proof e phase new kept from built is left) =
         let y : Preparing id card t₀ t now (number timestamp) counted = subst (WriteIn id card t₀ t now) phase it in
         goes-to true card h _ (Writtens timestamp empty) left refl
         (record {
@@ -414,7 +413,7 @@ module _ (R : Run) (x : RegisterId) where
           backed = subst (Backed R x (suc t) (number timestamp) (sha256 card)) (sym from) (build-backed card h sender (number timestamp) counted proof e y built);
           stored = λ r k c. none-in r k;
         })
-    write-heard card in-run h it (written-counted sender timestamp counted e phase new same-card left) =
+    write-heard card in-run h it (written-counted sender timestamp counted e phase new same-card signatures left) =
         let y : Writing id card t₀ t now (number timestamp) counted = subst (WriteIn id card t₀ t now) phase it in
         goes-to true card h waits (Writtens timestamp (with counted sender)) left refl
         (record {
@@ -423,23 +422,23 @@ module _ (R : Run) (x : RegisterId) where
           backed = subst (Backed R x (suc t) (number timestamp) (sha256 card)) (sym (same-card .signers-kept)) (still-backed card counted timestamp y);
           stored = stored-more h sender counted (number timestamp) e (y .stored);
         })
-    write-heard card in-run h it (writtens-enough sender timestamp counted e phase new full left) =
+    write-heard card in-run h it (writtens-enough sender timestamp counted e phase new built written left) =
         let y : Writing id card t₀ t now (number timestamp) counted = subst (WriteIn id card t₀ t now) phase it in
         finishes timestamp (currentCard now) (now .signers) (done-is (h .turn) (done timestamp (currentCard now) (now .signers)) Idle (h .step) left) (λ w. ap preparedFor phase)
         (record {
           fits = carried-fits (subst PhaseFits phase (good .phase-fits));
           own = λ w. (y .chosen .own, y .card-is);
-          settled = λ w. record { who = has (with counted sender); enough = quorum (with counted sender) full; hold = stored-more h sender counted (number timestamp) e (y .stored) };
+          settled = λ w. record { who = has (with counted sender); enough = quorum (with counted sender) (new .2); hold = stored-more h sender counted (number timestamp) e (y .stored) };
           above = y .chosen .above;
           is-shown = subst (λ (card : List ℕ). Shown (suc t) (number timestamp) card (now .signers)) (sym (y .card-is))
               (inr (record { positive = y .chosen .positive; backed = still-backed card counted timestamp y; card-in = in-run }));
         })
     write-heard card in-run h it (card-counted sender nonce card′ proof best counted showed e phase new stands better from left) = absurd (subst (WriteIn id card t₀ t now) phase it)
-    write-heard card in-run h it (cards-agree sender nonce card′ proof best counted showed e phase new stands full full′ left) = absurd (subst (WriteIn id card t₀ t now) phase it)
-    write-heard card in-run h it (cards-viewed sender nonce card′ proof best counted showed e phase new stands full no-writer left) = absurd (subst (WriteIn id card t₀ t now) phase it)
-    write-heard card in-run h it (cards-differ sender nonce card′ proof best counted showed shown e phase new stands full better from left) = absurd (subst (WriteIn id card t₀ t now) phase it)
+    write-heard card in-run h it (cards-agree sender nonce card′ proof best counted showed e phase new stands full left) = absurd (subst (WriteIn id card t₀ t now) phase it)
+    write-heard card in-run h it (cards-viewed sender nonce card′ proof best counted showed e phase new stands no-writer left) = absurd (subst (WriteIn id card t₀ t now) phase it)
+    write-heard card in-run h it (cards-differ sender nonce card′ proof best counted showed e phase new stands differ better from left) = absurd (subst (WriteIn id card t₀ t now) phase it)
     write-heard card in-run h it (back-counted sender timestamp counted e phase new same-card left) = absurd (subst (WriteIn id card t₀ t now) phase it)
-    write-heard card in-run h it (back-enough sender timestamp counted e phase new full left) = absurd (subst (WriteIn id card t₀ t now) phase it)
+    write-heard card in-run h it (back-enough sender timestamp counted e phase new left) = absurd (subst (WriteIn id card t₀ t now) phase it)
 
     -- ---- A read takes a message
 
@@ -450,9 +449,6 @@ module _ (R : Run) (x : RegisterId) where
       carried = rw (h .event-is, h .admitted .decodes, e);
       not-refused = (h .turn .answer, h .step .answer-is);
     }
-
-    issued-positive : (s : ℕ) → issued s ≡ true → 1 ≤ s
-    issued-positive s e = let l = leb-true 1 (s / 256) (and-true-both (leb 1 (s / 256)) (within 1 64 (s % 256)) e .0) in omega arith
 
     card-shown : (h : Heard R id t) (sender : ReplicaId) (nonce : ℕ) (card : List ℕ) (proof : Option PreparedProof) → h .message ≡ CARD sender nonce card proof (now .id)
         → cardStands card proof ≡ true → Shown t (preparedTimestamp proof) card (preparedSigners proof)
@@ -515,20 +511,20 @@ module _ (R : Run) (x : RegisterId) where
         both : Parts (ltb (number best) (preparedTimestamp proof)) (eqb (number best) (preparedTimestamp proof))
         both = go (ltb (number best) (preparedTimestamp proof)) (eqb (number best) (preparedTimestamp proof)) refl refl
 
-    read-heard : (card : List ℕ) (h : Heard R id t) → ReadIn id t₀ t now (now .phase) → ClientCase now (h .message) (h .turn) → Next false id card t₀ t
+    read-heard : (card : List ℕ) (h : Heard R id t) → ReadIn id t₀ t now (now .phase) → ClientCase now (signature (h .bytes)) (h .message) (h .turn) → Next false id card t₀ t
     read-heard card₀ h it (stamp-counted sender nonce proof best counted e phase new kept from left) = absurd (subst (ReadIn id t₀ t now) phase it)
-    read-heard card₀ h it (stamps-enough sender nonce proof best counted next shown last e phase new full succ kept digest nobody of last-is left) = absurd (subst (ReadIn id t₀ t now) phase it)
-    read-heard card₀ h it (stamps-ended sender nonce proof best counted e phase left) = absurd (subst (ReadIn id t₀ t now) phase it)
-    read-heard card₀ h it (prepared-counted sender timestamp counted e phase new less same-card left) = absurd (subst (ReadIn id t₀ t now) phase it)
-    read-heard card₀ h it (prepareds-enough sender timestamp counted proof e phase new full kept from built of-timestamp of-digest left) = absurd (subst (ReadIn id t₀ t now) phase it)
-    read-heard card₀ h it (written-counted sender timestamp counted e phase new same-card left) = absurd (subst (ReadIn id t₀ t now) phase it)
-    read-heard card₀ h it (writtens-enough sender timestamp counted e phase new full left) = absurd (subst (ReadIn id t₀ t now) phase it)
+    read-heard card₀ h it (stamps-enough sender nonce proof best counted next shown last e phase new succ kept digest nobody of shows last-is left) = absurd (subst (ReadIn id t₀ t now) phase it)
+    read-heard card₀ h it (stamps-ended sender nonce proof best counted e phase none-next left) = absurd (subst (ReadIn id t₀ t now) phase it)
+    read-heard card₀ h it (prepared-counted sender timestamp counted e phase new same-card signatures left) = absurd (subst (ReadIn id t₀ t now) phase it)
+    read-heard card₀ h it (prepareds-enough sender timestamp counted proof e phase new kept from built is left) = absurd (subst (ReadIn id t₀ t now) phase it)
+    read-heard card₀ h it (written-counted sender timestamp counted e phase new same-card signatures left) = absurd (subst (ReadIn id t₀ t now) phase it)
+    read-heard card₀ h it (writtens-enough sender timestamp counted e phase new built written left) = absurd (subst (ReadIn id t₀ t now) phase it)
     read-heard card₀ h it (card-counted sender nonce card proof best counted showed e phase new stands better from left) =
         let y : Reading id t₀ t now nonce (number best) counted showed = subst (ReadIn id t₀ t now) phase it in
         let q = take-card h sender nonce card proof best counted showed e stands y in
         goes-to false card₀ h waits (Cards nonce (bestOf best proof) (with counted sender) (showedBy best proof sender showed)) left refl
-        (record { new = y .new; seen = q .seen; shown-by = q .shown-by; is-shown = subst₂ (Shown (suc t) (number (bestOf best proof))) (sym better) (sym from) (q .is-shown) })
-    read-heard card₀ h it (cards-agree sender nonce card proof best counted showed e phase new stands full full′ left) =
+        (record { new = y .new; seen = q .seen; shown-by = q .shown-by; is-shown = subst₂ (Shown (suc t) (number (bestOf best proof))) (sym better) (sym (from .signers-are)) (q .is-shown) })
+    read-heard card₀ h it (cards-agree sender nonce card proof best counted showed e phase new stands full left) =
         let y : Reading id t₀ t now nonce (number best) counted showed = subst (ReadIn id t₀ t now) phase it in
         let q = take-card h sender nonce card proof best counted showed e stands y in
         finishes (bestOf best proof) (betterCard best proof card now) (betterSigners best proof now)
@@ -536,11 +532,11 @@ module _ (R : Run) (x : RegisterId) where
         (record {
           fits = best-fits best proof (carried-fits (subst PhaseFits phase (good .phase-fits)));
           own = λ w. apart (cc);
-          settled = λ w. record { who = has (showedBy best proof sender showed); enough = quorum (showedBy best proof sender showed) full′; hold = q .shown-by };
-          above = below (number (bestOf best proof)) (with counted sender) (quorum (with counted sender) full) (q .seen);
+          settled = λ w. record { who = has (showedBy best proof sender showed); enough = quorum (showedBy best proof sender showed) full; hold = q .shown-by };
+          above = below (number (bestOf best proof)) (with counted sender) (quorum (with counted sender) (new .2)) (q .seen);
           is-shown = q .is-shown;
         })
-    read-heard card₀ h it (cards-viewed sender nonce card proof best counted showed e phase new stands full no-writer left) =
+    read-heard card₀ h it (cards-viewed sender nonce card proof best counted showed e phase new stands no-writer left) =
         let y : Reading id t₀ t now nonce (number best) counted showed = subst (ReadIn id t₀ t now) phase it in
         let q = take-card h sender nonce card proof best counted showed e stands y in
         finishes (bestOf best proof) (betterCard best proof card now) (betterSigners best proof now)
@@ -549,17 +545,17 @@ module _ (R : Run) (x : RegisterId) where
           fits = best-fits best proof (carried-fits (subst PhaseFits phase (good .phase-fits)));
           own = λ w. apart (cc);
           settled = λ w. let none : isWriter id ≡ false = subst (λ (i : ClientId). isWriter i ≡ false) (good .id-is) no-writer in apart (cc);
-          above = below (number (bestOf best proof)) (with counted sender) (quorum (with counted sender) full) (q .seen);
+          above = below (number (bestOf best proof)) (with counted sender) (quorum (with counted sender) (new .2)) (q .seen);
           is-shown = q .is-shown;
         })
-    read-heard card₀ h it (cards-differ sender nonce card proof best counted showed shown e phase new stands full better from left) =
+    read-heard card₀ h it (cards-differ sender nonce card proof best counted showed e phase new stands differ better from left) =
         let y : Reading id t₀ t now nonce (number best) counted showed = subst (ReadIn id t₀ t now) phase it in
         let q = take-card h sender nonce card proof best counted showed e stands y in
         goes-to false card₀ h _ (WriteBack (bestOf best proof) (showedBy best proof sender showed)) left refl
         (record {
-          above = below (number (bestOf best proof)) (with counted sender) (quorum (with counted sender) full) (q .seen);
+          above = below (number (bestOf best proof)) (with counted sender) (quorum (with counted sender) (new .2)) (q .seen);
           stored = q .shown-by;
-          is-shown = subst₂ (Shown (suc t) (number (bestOf best proof))) (sym better) (sym from) (q .is-shown);
+          is-shown = subst₂ (Shown (suc t) (number (bestOf best proof))) (sym better) (sym (from .signers-are)) (q .is-shown);
         })
     read-heard card₀ h it (back-counted sender timestamp counted e phase new same-card left) =
         let y : WritingBack t₀ t now (number timestamp) counted = subst (ReadIn id t₀ t now) phase it in
@@ -569,13 +565,13 @@ module _ (R : Run) (x : RegisterId) where
           stored = stored-more h sender counted (number timestamp) e (y .stored);
           is-shown = subst₂ (Shown (suc t) (number timestamp)) (sym (same-card .card-kept)) (sym (same-card .signers-kept)) (shown-later t (suc t) (number timestamp) (currentCard now) (now .signers) (omega arith) (y .is-shown));
         })
-    read-heard card₀ h it (back-enough sender timestamp counted e phase new full left) =
+    read-heard card₀ h it (back-enough sender timestamp counted e phase new left) =
         let y : WritingBack t₀ t now (number timestamp) counted = subst (ReadIn id t₀ t now) phase it in
         finishes timestamp (currentCard now) (now .signers) (done-is (h .turn) (done timestamp (currentCard now) (now .signers)) Idle (h .step) left) (λ w. apart (cc))
         (record {
           fits = carried-fits (subst PhaseFits phase (good .phase-fits));
           own = λ w. apart (cc);
-          settled = λ w. record { who = has (with counted sender); enough = quorum (with counted sender) full; hold = stored-more h sender counted (number timestamp) e (y .stored) };
+          settled = λ w. record { who = has (with counted sender); enough = quorum (with counted sender) (new .2); hold = stored-more h sender counted (number timestamp) e (y .stored) };
           above = y .above;
           is-shown = shown-later t (suc t) (number timestamp) (currentCard now) (now .signers) (omega arith) (y .is-shown);
         })

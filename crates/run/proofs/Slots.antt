@@ -84,7 +84,7 @@ carried-body x id s d = let last : x .0 % 256 ≡ x .0 % 256 % 256 = omega arith
 carried-signatures : (x : RegisterId) (s : ℕ) (d : List ℕ) (entries : List Entry) → signedBy x (λ id. PREPARED id s d) entries ≡ signedBy (carried x) (λ id. PREPARED id s d) entries
 carried-signatures x s d [] = refl
 carried-signatures x s d (entry ∷ entries) =
-    ap₂ (λ (bytes : List ℕ) (rest : List Signature). record { signer = replica (entry .signer); covers = bytes } ∷ rest) (carried-body x (entry .signer) s d) (carried-signatures x s d entries)
+    ap₂ (λ (bytes : List ℕ) (rest : List Signature). record { signer = replica (entry .signer); covers = bytes; bytes = entry .signature } ∷ rest) (carried-body x (entry .signer) s d) (carried-signatures x s d entries)
 
 module _ (R : Run) (x : RegisterId) where
   -- What a step that sent PREPARED left in the slot.

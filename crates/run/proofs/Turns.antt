@@ -1,5 +1,4 @@
--- What an event does to a party's record: it is kept, or the party steps, with the step and its facts. Counts and progress (#107) rest on the
--- step itself, and on what is `pub` here, in `Order` and in `Slots` without a user yet. Assumes nothing.
+-- What an event does to a party's record: it is kept, or the party steps, with the step and its facts. Assumes nothing.
 use mathlib.Core.Path.{_≡_, refl, sym, ap, subst, _∙_}
 use mathlib.Core.Bool.{Bool, true, false, cond}
 use mathlib.Core.List.{List}
@@ -328,7 +327,7 @@ module _ (R : Run) where
     pub event-is : event R t ≡ some (to-client id bytes verdicts)
     pub admitted : Admitted AtClient (clientAt R id t .f) nobody bytes verdicts (clientAt R id t .register) message
     pub stepped : clientTakes id (clientAt R id t) (signature bytes) message ≡ accepted turn
-    pub facts : ClientFacts (clientAt R id t) verdicts message turn
+    pub facts : ClientFacts (clientAt R id t) (signature bytes) verdicts message turn
     pub step : ClientStep id t turn
 
   pub heard-register : (id : ClientId) (t : ℕ) (h : Heard id t) (at : At R t (client id)) → registerOf (at .0) ≡ clientAt R id t .register
@@ -377,7 +376,7 @@ module _ (R : Run) where
   -- What a client takes, at either engine: the message, the step itself, and its facts.
   abbrev pub TakesMessage : (List ℕ → Message → Outcome Turn) → Client → List ℕ → List ℕ → Turn → Type 0
   TakesMessage engine before bytes verdicts turn =
-      (message : Message) × Admitted AtClient (before .f) nobody bytes verdicts (before .register) message × (engine (signature bytes) message ≡ accepted turn) × ClientFacts before verdicts message turn
+      (message : Message) × Admitted AtClient (before .f) nobody bytes verdicts (before .register) message × (engine (signature bytes) message ≡ accepted turn) × ClientFacts before (signature bytes) verdicts message turn
 
   writer-takes : (before : Client) (bytes verdicts : List ℕ) (turn : Turn) → ClientFits before → PhaseFits (before .phase) → Bytes bytes → clientStep before bytes verdicts ≡ accepted turn
       → TakesMessage (onReply before) before bytes verdicts turn
@@ -386,7 +385,7 @@ module _ (R : Run) where
         message,
         a,
         taken,
-        client-facts before verdicts (signature bytes) message turn fits phase-fits (decoded-fits AtClient bytes (before .register) message (a .decodes) small)
+        client-facts before (signature bytes) verdicts message turn fits phase-fits (decoded-fits AtClient bytes (before .register) message (a .decodes) small)
             (decoded-signature AtClient bytes (before .register) message (a .decodes) small) (a .ranged) (a .passed) taken,
       )
 
@@ -397,7 +396,7 @@ module _ (R : Run) where
         message,
         a,
         taken,
-        viewer-facts before verdicts message turn fits phase-fits no-writer (decoded-fits AtClient bytes (before .register) message (a .decodes) small) (a .ranged) (a .passed) taken,
+        viewer-facts before (signature bytes) verdicts message turn fits phase-fits no-writer (decoded-fits AtClient bytes (before .register) message (a .decodes) small) (a .ranged) (a .passed) taken,
       )
 
   pub handed-takes : (id : ClientId) (before : Client) (bytes verdicts : List ℕ) (turn : Turn) → GoodClient id before → Bytes bytes → handedStep id before bytes verdicts ≡ accepted turn

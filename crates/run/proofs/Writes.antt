@@ -25,7 +25,8 @@ use Rattle.run.specs.Claims.{Begins, GoesOn, Finished, NotMade}
 use Rattle.run.specs.Premises.{Accepted, CardOfRun, eventCard, Premises}
 use Rattle.run.specs.Run.{begins-write, to-client, registerOf, Run, event, clientAt, answerAt, At, Correct, makes}
 use Rattle.run.proofs.Turns.{Silent, Heard, heard-register, ClientTurn, rested, wrote, asked, heard, client-turn, made-again, took, good-client}
-use Rattle.run.proofs.Stages.{isStamping, preparedFor, isPrepare, isOver, Stage, stamping, prepares, keeps, finishes, others, stage}
+use Rattle.protocol.proofs.ClientCases.{isOver}
+use Rattle.run.proofs.Stages.{isStamping, preparedFor, isPrepare, Stage, stamping, prepares, keeps, finishes, others, stage}
 use Rattle.run.proofs.Slots.{split-last}
 use Rattle.run.proofs.Operations.{Chosen, WriteIn, During, goes-on, stops, finishes as ends, breaks-off}
 use Rattle.run.proofs.Demand3.{write-shows}
@@ -46,7 +47,7 @@ module _ (R : Run) (x : RegisterId) where
 
   module _ (id : ClientId) (c : R .correct-client id ≡ true) where
     heard-stage : (t : ℕ) (h : Heard R id t) → Stage (clientAt R id t) (h .turn)
-    heard-stage t h = stage (clientAt R id t) (h .turn) (h .message) (h .facts .case)
+    heard-stage t h = stage (clientAt R id t) (h .turn) _ (h .message) (h .facts .case)
 
     next-phase : {A : Type 0} (of : Phase → A) (t : ℕ) (h : Heard R id t) → of (clientAt R id (suc t) .phase) ≡ of (h .turn .next .phase)
     next-phase of t h = ap (λ (now : Client). of (now .phase)) (h .step .next-is)
@@ -117,9 +118,9 @@ module _ (R : Run) (x : RegisterId) where
             by (stamping was no-timestamp none-next same answer) =
                 stamped-on t (ap currentCard (h .step .next-is) ∙ same) (λ at. not-over t waits (h .step .answer-is ∙ ap accepted answer) refl (heard-not-made t h))
                 (ih was (sym (h .facts .same-register) ∙ sym (ap (λ (now : Client). now .register) (h .step .next-is)) ∙ is))
-            by (prepares timestamp shown last was no-timestamp is for answer shows) = no is
-            by (keeps timestamp was is no-stamps no-prepare goes) = no no-stamps
-            by (finishes timestamp card signers was none-next is answer) = no is
+            by (prepares timestamp shown last was no-timestamp is for kept answer shows) = no is
+            by (keeps timestamp was is no-stamps kept no-prepare goes) = no no-stamps
+            by (finishes timestamp card signers entries was none-next is written answer) = no is
             by (others was none-next is no-prepare) = no is
 
     -- ---- A PREPARE is of a write
@@ -146,12 +147,12 @@ module _ (R : Run) (x : RegisterId) where
           where
             by : Stage (clientAt R id t) (h .turn) → Sends t s d
             by (stamping was no-timestamp none-next same answer) = no (h .turn .answer) (h .step .answer-is) (ap isPrepare answer)
-            by (prepares timestamp shown′ last′ was no-timestamp is for answer shows) =
+            by (prepares timestamp shown′ last′ was no-timestamp is for kept answer shows) =
                 let same-timestamp : timestamp ≡ s = cc (h .step .answer-is) in
                 let same-digest : d ≡ sha256 (currentCard (clientAt R id t)) = cc (h .step .answer-is) in
                 record { was-stamping = was; had-no-timestamp = no-timestamp; has-timestamp = next-phase preparedFor t h ∙ for ∙ ap some same-timestamp; digest-is = same-digest }
-            by (keeps timestamp was is no-stamps no-prepare goes) = no (h .turn .answer) (h .step .answer-is) no-prepare
-            by (finishes timestamp card signers was none-next is answer) = no (h .turn .answer) (h .step .answer-is) (ap isPrepare answer)
+            by (keeps timestamp was is no-stamps kept no-prepare goes) = no (h .turn .answer) (h .step .answer-is) no-prepare
+            by (finishes timestamp card signers entries was none-next is written answer) = no (h .turn .answer) (h .step .answer-is) (ap isPrepare answer)
             by (others was none-next is no-prepare) = no (h .turn .answer) (h .step .answer-is) no-prepare
 
     -- What is answered to a message is for the client's register.
@@ -213,9 +214,9 @@ module _ (R : Run) (x : RegisterId) where
           where
             by : Stage (clientAt R id t) (h .turn) → preparedFor (clientAt R id (suc t) .phase) ≡ some s
             by (stamping was no-timestamp none-next same answer) = no no-timestamp
-            by (prepares timestamp shown last was no-timestamp is for answer shows) = no no-timestamp
-            by (keeps timestamp was is no-stamps no-prepare goes′) = let same : timestamp ≡ s = cc in next-phase preparedFor t h ∙ is ∙ ap some same
-            by (finishes timestamp card signers was none-next is answer) =
+            by (prepares timestamp shown last was no-timestamp is for kept answer shows) = no no-timestamp
+            by (keeps timestamp was is no-stamps kept no-prepare goes′) = let same : timestamp ≡ s = cc in next-phase preparedFor t h ∙ is ∙ ap some same
+            by (finishes timestamp card signers entries was none-next is written answer) =
                 absurd (goes (to-client id (h .bytes) (h .verdicts), h .event-is, refl) .not-done timestamp card signers (h .step .answer-is ∙ ap accepted answer))
             by (others was none-next is no-prepare) = no was
 
@@ -257,7 +258,7 @@ module _ (R : Run) (x : RegisterId) where
             where
               by : Stage (clientAt R id t) (h .turn) → Asked t₀ card s
               by (stamping was no-timestamp none-next same answer) = no (next-phase preparedFor t h ∙ none-next)
-              by (prepares timestamp shown last was no-timestamp is for answer shows) =
+              by (prepares timestamp shown last was no-timestamp is for kept answer shows) =
                   let there : preparedFor (clientAt R id (suc t) .phase) ≡ some timestamp = next-phase preparedFor t h ∙ for in
                   let same : timestamp ≡ s = cc in
                   let own = good-client R id c t .id-is in
@@ -279,10 +280,10 @@ module _ (R : Run) (x : RegisterId) where
                     none-between = λ u l₁ l₂ at. none-between u l₁ (omega arith) at;
                   } in
                   (w, refl, refl, same, refl)
-              by (keeps timestamp was is no-stamps no-prepare goes) =
+              by (keeps timestamp was is no-stamps kept no-prepare goes) =
                   let there : preparedFor (clientAt R id (suc t) .phase) ≡ some timestamp = next-phase preparedFor t h ∙ is in
                   ih (cc)
-              by (finishes timestamp card′ signers was none-next is answer) = no (next-phase preparedFor t h ∙ none-next)
+              by (finishes timestamp card′ signers entries was none-next is written answer) = no (next-phase preparedFor t h ∙ none-next)
               by (others was none-next is no-prepare) = no (next-phase preparedFor t h ∙ none-next)
 
   -- ---- A write from its PREPARE on

@@ -7,7 +7,7 @@ use Prim.Native.Nat.{ℕ, zero, suc, _+_, _-_, _*_, _≤_, _<_}
 use native.Mathlib.Omega.{arith}
 use borrow.Author.Tests.{le-ltb}
 use lib.ListN.{length, getD, take, drop, getElem?, length-append, length-take, length-drop}
-use lib.Seq.{getD-drop}
+use lib.Seq.{getD-drop, drop-drop}
 use Rattle.base.specs.BigEndian.{fromBytes}
 use Rattle.base.specs.BitMap.{bit}
 use Rattle.base.specs.Bytes.{filled}
@@ -21,7 +21,7 @@ use Rattle.wire.specs.Acceptance.{Sender, replica, numbered}
 use Rattle.wire.specs.Accepting.{countIn}
 use Rattle.wire.specs.Checks.{preparedOf, writtenOf, entriesIfThere, entriesOf}
 use Rattle.wire.specs.Decode.{forRegister, registerIn, reading, fieldsIn}
-use Rattle.wire.specs.Layout.{mapIn, field}
+use Rattle.wire.specs.Layout.{mapIn, field, signature}
 use Rattle.wire.specs.Message.{Message, PREPARED, WRITTEN, body}
 use Rattle.wire.specs.Parts.{partAt, proofPart, timestampPart, digestPart, countPart, entriesPart}
 use Rattle.wire.specs.Proof.{Entry, Proof, proofFrom, readEntries}
@@ -85,18 +85,21 @@ no-signatures party bytes n e = rw (decode-refused party bytes n (message-refuse
 
 -- ---- The i-th
 
--- An entry's signature: its replica's, over that replica's message.
-abbrev entrySignature : RegisterId → (ReplicaId → Message) → ReplicaId → Signature
-entrySignature x message id = record { signer = replica id; covers = body x (message id) }
+-- An entry's signature: its replica's, over that replica's message; the 64 bytes that stand behind the replica's number.
+abbrev entrySignature : RegisterId → (ReplicaId → Message) → List ℕ → ℕ → Signature
+entrySignature x message bytes at =
+    let id : ReplicaId = record { 0 = getD bytes at 0 } in
+    record { signer = replica id; covers = body x (message id); bytes = take 64 (drop (suc at) bytes) }
 
 signed-at : (x : RegisterId) (message : ReplicaId → Message) (n : ℕ) (bytes : List ℕ) (i : ℕ) → i < n
-    → getElem? (signedBy x message (readEntries n bytes)) i ≡ some (entrySignature x message (record { 0 = getD bytes (65 * i) 0 }))
+    → getElem? (signedBy x message (readEntries n bytes)) i ≡ some (entrySignature x message bytes (65 * i))
 unfolding readEntries
 signed-at x message zero bytes i h = absurd (omega arith)
 signed-at x message (suc n) bytes zero h = refl
 signed-at x message (suc n) bytes (suc i) h =
     let next : 65 + 65 * i ≡ 65 * suc i = omega arith in
-    signed-at x message n (drop 65 bytes) i (omega arith) ∙ rw (getD-drop 65 bytes (65 * i) 0, next)
+    let behind : 65 + suc (65 * i) ≡ suc (65 * suc i) = omega arith in
+    signed-at x message n (drop 65 bytes) i (omega arith) ∙ rw (getD-drop 65 bytes (65 * i) 0, drop-drop (suc (65 * i)) 65 bytes, next, behind)
 
 -- An entry that is counted lies within its proof.
 module _ (d : ℕ) (proof : List ℕ) (i : ℕ) (stand : EntriesStand d proof) (h : i < countPart d proof) where
@@ -107,14 +110,16 @@ module _ (d : ℕ) (proof : List ℕ) (i : ℕ) (stand : EntriesStand d proof) (
   timestamp-in : number (timestampPart proof) ≡ fromBytes (take 5 proof)
   timestamp-in = let long = inside in ap number (front-timestamp proof (omega arith)) ∙ number-ofNumber (fromBytes (take 5 proof))
 
-  proof-at : (x : RegisterId) (message : ReplicaId → Message) → getElem? (signedBy x message (proofFrom d proof .entries)) i ≡ some (entrySignature x message (record { 0 = getD proof (6 + d + 65 * i) 0 }))
+  proof-at : (x : RegisterId) (message : ReplicaId → Message) → getElem? (signedBy x message (proofFrom d proof .entries)) i ≡ some (entrySignature x message proof (6 + d + 65 * i))
   unfolding countPart
-  proof-at x message = rw (← getD-drop (6 + d) proof (65 * i) 0) (signed-at x message (getD proof (5 + d) 0) (drop (6 + d) proof) i h)
+  proof-at x message =
+      let behind : 6 + d + suc (65 * i) ≡ suc (6 + d + 65 * i) = omega arith in
+      signed-at x message (getD proof (5 + d) 0) (drop (6 + d) proof) i h ∙ rw (getD-drop (6 + d) proof (65 * i) 0, drop-drop (suc (65 * i)) (6 + d) proof, behind)
 
 -- Of a proof, by the parts that the code answers.
 pub prepared-at : (x : RegisterId) (proof : List ℕ) (i : ℕ) → EntriesStand 32 proof → i < countPart 32 proof
     → getElem? (preparedSignatures x (proofFrom 32 proof)) i
-    ≡ some (entrySignature x (λ id. PREPARED id (number (timestampPart proof)) (filled 32 (digestPart 32 proof))) (record { 0 = getD proof (38 + 65 * i) 0 }))
+    ≡ some (entrySignature x (λ id. PREPARED id (number (timestampPart proof)) (filled 32 (digestPart 32 proof))) proof (38 + 65 * i))
 unfolding digestPart
 prepared-at x proof i stand h =
     let long = inside 32 proof i stand h in
@@ -123,7 +128,7 @@ prepared-at x proof i stand h =
     (proof-at 32 proof i stand h x (λ id. PREPARED id (fromBytes (take 5 proof)) (take 32 (drop 5 proof))))
 
 pub written-at : (x : RegisterId) (proof : List ℕ) (i : ℕ) → EntriesStand 0 proof → i < countPart 0 proof
-    → getElem? (writtenSignatures x (proofFrom 0 proof)) i ≡ some (entrySignature x (λ id. WRITTEN id (number (timestampPart proof))) (record { 0 = getD proof (6 + 65 * i) 0 }))
+    → getElem? (writtenSignatures x (proofFrom 0 proof)) i ≡ some (entrySignature x (λ id. WRITTEN id (number (timestampPart proof))) proof (6 + 65 * i))
 written-at x proof i stand h = rw (timestamp-in 0 proof i stand h) (proof-at 0 proof i stand h x (λ id. WRITTEN id (fromBytes (take 5 proof))))
 
 -- Of a list behind another.
@@ -181,7 +186,7 @@ module _ (x : RegisterId) (prepared written : List ℕ) (i : ℕ) where
 
 -- Of a message that was read.
 module _ (party : Party) (bytes : List ℕ) (fields : Fields) (e : reading party bytes ≡ accepted fields) where
-  pub own-at : signatureTo party bytes 0 ≡ accepted (some (record { signer = numbered party (fields .sender); covers = take (length bytes - 64) bytes }))
+  pub own-at : signatureTo party bytes 0 ≡ accepted (some (record { signer = numbered party (fields .sender); covers = take (length bytes - 64) bytes; bytes = signature bytes }))
   unfolding signatureTo
   own-at =
       let p = parsed party bytes fields e in
@@ -224,9 +229,9 @@ unread-at party bytes i n e = rw (decode-refused party bytes n (message-refused 
 -- ---- Answers
 
 -- The bytes covered, stored in front of the output.
-pub answers : {found : Outcome (Option Signature)} {old covers : List ℕ} {sender : Sender} {signer : Signer} {most next : ℕ} {new : List ℕ}
-    → found ≡ accepted (some (record { signer = sender; covers = covers })) → signerOf signer ≡ sender → Put old 0 covers most next new → ShowsSignature found old (By signer next) new
-answers {found} {old} {covers} {sender} {signer} {most} {next} {new} e who a =
+pub answers : {found : Outcome (Option Signature)} {old covers bytes : List ℕ} {sender : Sender} {signer : Signer} {most next : ℕ} {new : List ℕ}
+    → found ≡ accepted (some (record { signer = sender; covers = covers; bytes = bytes })) → signerOf signer ≡ sender → Put old 0 covers most next new → ShowsSignature found old (By signer next) new
+answers {found} {old} {covers} {bytes} {sender} {signer} {most} {next} {new} e who a =
     let all : next ≡ length covers = omega (arith, a .behind) in
     let none : 0 + length covers ≡ length covers = omega arith in
     record { answered = rw (e, who, all); holds = a .holds ∙ rw (e, none) }

@@ -2,13 +2,31 @@
 use mathlib.Core.Path.{_≡_, refl}
 use mathlib.Core.Bool.{Bool, true, _&&_}
 use mathlib.Core.List.{List}
-use Prim.Native.Nat.{ℕ}
-use lib.ListN.{drop}
+use Prim.Native.Nat.{ℕ, _/_, _%_, _≤_}
+use native.Mathlib.Omega.{arith}
+use borrow.Author.Tests.{eqb-true, leb-true}
+use lib.Dec.{eqb, leb}
+use lib.ListN.{length, drop}
 use Rattle.base.specs.Outcome.{Outcome, accepted, guard}
+use Rattle.base.specs.Party.{replicaCount, quorumSize}
+use Rattle.base.specs.Range.{within}
+use Rattle.base.specs.Rising.{rising}
 use Rattle.base.proofs.Booleans.{and-true-both}
 use Rattle.base.proofs.Outcome.{guard-accepted}
-use Rattle.wire.specs.Checks.{preparedOf, writtenOf, timestampOf, ifThere, oneEach, ownGenuine, shapedIfThere, genuine, issued, issuedIfThere, proven, checked}
+use Rattle.wire.specs.Checks.{preparedOf, writtenOf, timestampOf, ifThere, oneEach, ownGenuine, shaped, shapedIfThere, genuine, issued, issuedIfThere, proven, checked}
 use Rattle.wire.specs.Message.{Message}
+use Rattle.wire.specs.Proof.{Entry, signers}
+
+-- A proof that passes 9 has at most the 11 entries of the largest quorum.
+pub shaped-few : (f : ℕ) (entries : List Entry) → shaped f entries ≡ true → length entries ≤ 11
+unfolding shaped
+shaped-few f entries e =
+    let many = eqb-true (length entries) (quorumSize f) (and-true-both (eqb (length entries) (quorumSize f)) (rising 0 (replicaCount f) (signers entries)) e .0) in
+    omega arith
+
+-- A timestamp that passes 11 is above 0.0.
+pub issued-positive : (timestamp : ℕ) → issued timestamp ≡ true → 1 ≤ timestamp
+issued-positive timestamp e = let low = leb-true 1 (timestamp / 256) (and-true-both (leb 1 (timestamp / 256)) (within 1 64 (timestamp % 256)) e .0) in omega arith
 
 pub record Passed (f : ℕ) (message : Message) (verdicts : List ℕ) : Type 0 where
   pub one-each : oneEach message verdicts ≡ true

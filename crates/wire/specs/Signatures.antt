@@ -11,6 +11,7 @@ use Rattle.base.specs.declared.party.ReplicaId.{ReplicaId}
 use Rattle.wire.specs.Acceptance.{Sender, replica, client, senderOf}
 use Rattle.wire.specs.Checks.{preparedOf, writtenOf}
 use Rattle.wire.specs.Decode.{decode}
+use Rattle.wire.specs.Layout.{signature}
 use Rattle.wire.specs.Message.{Message, PREPARED, WRITTEN, body}
 use Rattle.wire.specs.Parts.{countPart, entriesPart}
 use Rattle.wire.specs.Proof.{Entry, PreparedProof, WrittenProof, readProof}
@@ -21,17 +22,18 @@ use Rattle.wire.specs.declared.signatures.Signed.the-variants.{By, Nothi
 use Rattle.wire.specs.declared.signatures.Signer.{Signer}
 use Rattle.wire.specs.declared.signatures.Signer.the-variants.{Replica, Client}
 
--- A signature (seal): whose it is, and the bytes that it covers.
+-- A signature (seal): whose it is, the bytes that it covers, and its own 64 bytes.
 pub record Signature : Type 0 where
   pub signer : Sender
   pub covers : List ℕ
+  pub bytes : List ℕ
 
 -- "An entry's seal is that of the holder's PREPARED (or WRITTEN) message with this stamp (and digest)." Document 02, #103: "an entry's
 -- seal is that of a message for the set that its proof is shown for".
 abbrev pub signedBy : RegisterId → (ReplicaId → Message) → List Entry → List Signature
 signedBy register message [] = []
 signedBy register message (entry ∷ entries) =
-    record { signer = replica (entry .signer); covers = body register (message (entry .signer)) } ∷ signedBy register message entries
+    record { signer = replica (entry .signer); covers = body register (message (entry .signer)); bytes = entry .signature } ∷ signedBy register message entries
 
 abbrev pub preparedSignatures : RegisterId → PreparedProof → List Signature
 preparedSignatures register proof = signedBy register (λ id. PREPARED id (proof .timestamp) (proof .digest)) (proof .entries)
@@ -46,7 +48,7 @@ signaturesIfThere signatures (some proof) = signatures proof
 -- The signatures of a message: "the message's own first, then entries in order". Its own covers "all bytes before it".
 abbrev pub signaturesOf : List ℕ → RegisterId × Message → List Signature
 signaturesOf bytes (register, message) =
-    record { signer = senderOf message; covers = take (length bytes - 64) bytes }
+    record { signer = senderOf message; covers = take (length bytes - 64) bytes; bytes = signature bytes }
     ∷ (signaturesIfThere (preparedSignatures register) (preparedOf message) ++ signaturesIfThere (writtenSignatures register) (writtenOf message))
 
 -- The signatures of bytes that a party is handed; none if it cannot read them (2 to 5).

@@ -31,6 +31,7 @@ ghost use Rattle.base.specs.declared.party.RegisterId.{RegisterId};
 ghost use Rattle.wire.specs.Acceptance.{numbered};
 ghost use Rattle.wire.specs.Accepting.{entryCount, countIn};
 ghost use Rattle.wire.specs.Decode.{reading};
+ghost use Rattle.wire.specs.Layout.{signature as signatureIn};
 ghost use Rattle.wire.specs.Message.{longest};
 ghost use Rattle.wire.specs.Parts.{countPart, proofPart};
 ghost use Rattle.wire.specs.Proof.{proofFrom};
@@ -90,7 +91,7 @@ fn sender(party: Party, number: u8) -> Signer
 fn own(party: Party, number: u8, bytes: &[u8], out: &mut [u8]) -> Signed
     requires { ⌜ (64 ≤ length (now bytes)) × (length (now bytes) ≤ length (now out)) ⌝ }
     ensures { λ r. ⌜ ShowsSignature
-        (accepted (some (record { signer = numbered party number; covers = take (length (now (bytes .entry)) - 64) (now (bytes .entry)) })))
+        (accepted (some (record { signer = numbered party number; covers = take (length (now (bytes .entry)) - 64) (now (bytes .entry)); bytes = signatureIn (now (bytes .entry)) })))
         (now (out .entry)) r (now (out .exit)) ⌝ }
 {
     let covered = bytes.len() - SIGNATURE;

@@ -46,7 +46,7 @@ at-2·1 = record { count = 2; client = client-1 }
 abbrev old-write : Writing
 old-write = first register-1 1 service service-digest
 
-abbrev held-up : Writing
+abbrev pub held-up : Writing
 held-up = first register-1 2 lathe lathe-digest
 
 -- Client 2's, at 1.2.
@@ -76,7 +76,7 @@ handing = proof-to client-1 register-1 (proofBytes (written-proof other)) three
 
 -- ---- What happens: replicas 1 to 3 and clients 1 and 2 are correct
 
-unfoldable story : List Line
+unfoldable pub story : List Line
 story =
     -- 0 to 8: client 1 begins to write `service`, and every correct replica prepares 1.1. Then its laptop is gone.
     asking old-write
@@ -110,7 +110,7 @@ answers-as-told : plays (freshStore run 2) story ≡ true
 unfolding run story steps digests plays
 answers-as-told = refl
 
-as-told : Told run story
+pub as-told : Told run story
 unfolding run
 as-told = played run 2 story refl answers-as-told
 

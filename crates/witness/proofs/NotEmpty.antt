@@ -22,11 +22,11 @@ use Rattle.run.specs.Premises.{Premises}
 use Rattle.run.specs.Vouching.{Vouching}
 use Rattle.run.specs.Run.{begins-write, begins-read, to-replica, to-client, Run, event, answerAt, At, Correct, Said, Sent}
 use Rattle.wire.specs.Acceptance.{replica, client}
-use Rattle.wire.specs.Message.{Message, READ-STAMP, PREPARE, WRITE, READ, STAMP, PREPARED, WRITTEN}
+use Rattle.wire.specs.Message.{Message, READ-STAMP, PREPARE, WRITE, READ, STAMP, PREPARED, WRITTEN, encode}
 use Rattle.wire.specs.Proof.{PreparedProof, WrittenProof}
 use Rattle.wire.specs.Sha256.{sha256}
 use Rattle.witness.proofs.Answers.{code}
-use Rattle.witness.proofs.Cast.{replica-1, replica-2, replica-3, replica-4, register-1, client-1, client-2, client-3, client-4, 1·1, 1·4, 2·2, 3·1, at-1·1, by-1-2-4, entry, from-replica, from-client, stale, one, three, four, seven, not-genuine, service, lathe, scrapped, service-digest, lathe-digest, cards, right-digests, different-cards}
+use Rattle.witness.proofs.Cast.{replica-1, replica-2, replica-3, replica-4, register-1, client-1, client-2, client-3, client-4, 1·1, 1·4, 2·2, 3·1, at-1·1, by-1-2-4, signature, entry, from-replica, from-client, stale, one, three, four, seven, not-genuine, service, lathe, scrapped, service-digest, lathe-digest, cards, right-digests, different-cards}
 use Rattle.witness.proofs.Computing.{messages, steps, digests}
 use Rattle.witness.proofs.FirstWrite.{proof, prepared, write, written, shows, write-under-way, write-done}
 use Rattle.witness.proofs.Replay.{plays, freshStore, played}
@@ -107,7 +107,7 @@ written-3 id = WRITTEN id 3·1
 
 -- ---- What happens: replicas 1 to 3 and clients 1 to 3 are correct
 
-story : List Line
+unfoldable pub story : List Line
 unfolding write-under-way write-done
 story =
     -- 0 to 15: the first write.
@@ -166,9 +166,10 @@ story =
     ∷ to-client client-1 (from-replica replica-1 prepared-3) one ↝ waits
     ∷ to-client client-1 (from-replica replica-2 prepared-3) one ↝ waits
     ∷ to-client client-1 (from-replica replica-4 prepared-3) one ↝ send write-3
-    -- 60 to 65: a WRITTEN in replica 2's name that it did not send has the verdict 0. Then the right ones come: the third write is done.
+    -- 60 to 65: a WRITTEN in replica 2's name, with a signature that its box did not make, has the verdict 0. Then the right ones come: the third
+    -- write is done.
     ∷ to-replica replica-1 (from-client client-1 write-3) four ↝ send (written-3 replica-1)
-    ∷ to-client client-1 (from-replica replica-2 written-3) not-genuine ↛ 8
+    ∷ to-client client-1 (encode register-1 (written-3 replica-2) (signature replica-4)) not-genuine ↛ 8
     ∷ to-replica replica-2 (from-client client-1 write-3) four ↝ send (written-3 replica-2)
     ∷ to-client client-1 (from-replica replica-1 written-3) one ↝ waits
     ∷ to-client client-1 (from-replica replica-2 written-3) one ↝ waits
@@ -188,7 +189,7 @@ answers-as-told : plays (freshStore run 3) story ≡ true
 unfolding run story steps digests plays
 answers-as-told = refl
 
-as-told : Told run story
+pub as-told : Told run story
 unfolding run
 as-told = played run 3 story refl answers-as-told
 
@@ -215,11 +216,11 @@ claims = demand-3 run premises
 
 -- ---- Its finished operations
 
-pub first-write : Finished run register-1
+unfoldable pub first-write : Finished run register-1
 unfolding story code messages
 first-write = finished-told run story as-told register-1 client-1 0 15 _ _ _ at-1·1 service by-1-2-4 refl (lit< tt) refl refl refl true (service, refl) refl
 
-pub read : Finished run register-1
+unfoldable pub read : Finished run register-1
 unfolding story code messages
 read = finished-told run story as-told register-1 client-2 16 21 _ _ _ at-1·1 service by-1-2-4 refl (lit< tt) refl refl refl false refl refl
 
@@ -228,7 +229,7 @@ pub in-one-phase : (t : ℕ) → 16 < t → t < 21 → At run t (client client-2
 unfolding story code messages
 in-one-phase = only-counted run story as-told client-2 16 21 refl
 
-pub read-with-write-back : Finished run register-1
+unfoldable pub read-with-write-back : Finished run register-1
 unfolding story code messages
 read-with-write-back = finished-told run story as-told register-1 client-3 24 37 _ _ _ at-1·1 service by-1-2-4 refl (lit< tt) refl refl refl false refl refl
 

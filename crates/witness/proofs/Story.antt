@@ -94,11 +94,11 @@ pub each-tested : (test : ℕ → Line → Bool) (t : ℕ) (lines : List Line) (
 each-tested test t lines line h found = each-at (λ s l. test s l ≡ true) t lines line (tested test 0 lines h) found
 
 -- A line's event.
-abbrev eventIn : Option Line → Option Event
+abbrev pub eventIn : Option Line → Option Event
 eventIn none = none
 eventIn (some line) = some (line .event)
 
-event-in : (t : ℕ) (lines : List Line) → getElem? (eventsOf lines) t ≡ eventIn (getElem? lines t)
+pub event-in : (t : ℕ) (lines : List Line) → getElem? (eventsOf lines) t ≡ eventIn (getElem? lines t)
 event-in t [] = refl
 event-in zero (line ∷ lines) = refl
 event-in (suc t) (line ∷ lines) = event-in t lines
@@ -267,7 +267,7 @@ sentBefore lines party bytes (suc t) = sentIn party bytes (getElem? lines t) || 
 
 -- ---- Tests of a told run
 
-abbrev isMaking : Event → Bool
+abbrev pub isMaking : Event → Bool
 isMaking (at-replica id e) = false
 isMaking (at-client id (write-begun x card)) = false
 isMaking (at-client id (read-begun x)) = false
@@ -497,7 +497,7 @@ module _ (R : Run) (lines : List Line) (told : Told R lines) where
 
   -- ---- Between two events
 
-  between : (good : List ℕ → Bool) (party : Sender) (begun finished : ℕ) → AllBetween lines good party begun finished → (t : ℕ) → begun < t → t < finished → (at : At R t party)
+  pub between : (good : List ℕ → Bool) (party : Sender) (begun finished : ℕ) → AllBetween lines good party begun finished → (t : ℕ) → begun < t → t < finished → (at : At R t party)
       → NotMade R t × (good (code (registerOf (at .0)) (answerAt R t)) ≡ true)
   between good party begun finished all t after before at =
       (not-made, subst (λ (e : Event). good (code (registerOf e) (answerAt R t)) ≡ true) (line .2) (ap good (answer-told t (line .0) (line .1)) ∙ both .1))

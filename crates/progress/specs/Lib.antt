@@ -1,0 +1,5 @@
+pub mod Counts
+pub mod Delivery
+pub mod Operations
+pub mod Progress
+pub mod Verdicts
