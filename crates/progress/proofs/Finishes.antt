@@ -95,7 +95,7 @@ module _ (R : Run) (x : RegisterId) (o : Invocation R x) where
       sends = sends;
       before = omega arith;
       awaits = awaits;
-      counted = λ id c r. absurd (omega (arith, r .after-sent, r .delivered .after-given, r .delivered .before));
+      counted = λ id c r. absurd (omega (arith, r .handed .after-sent, r .delivered .after-given, r .delivered .before));
     }
 
     -- A reply came at the last event, or earlier.
@@ -103,15 +103,11 @@ module _ (R : Run) (x : RegisterId) (o : Invocation R x) where
     came {u} {t} r now-came before =
         split-last (r .delivered .j) t (r .delivered .before) now-came
         (λ l. before (record {
-          i = r .i;
-          after-sent = r .after-sent;
-          signature = r .signature;
-          verdicts = r .verdicts;
-          long = r .long;
           handed = r .handed;
+          long = r .long;
           reply = r .reply;
           replies = r .replies;
-          delivered = record { j = r .delivered .j; after-given = r .delivered .after-given; before = l; signature = r .delivered .signature; verdicts = r .delivered .verdicts; boxed = r .delivered .boxed; handed = r .delivered .handed };
+          delivered = record { j = r .delivered .j; after-given = r .delivered .after-given; before = l; signature = r .delivered .signature; verdicts = r .delivered .verdicts; boxed = r .delivered .boxed; event-is = r .delivered .event-is };
         }))
 
     first : Asking (suc (o .begun))

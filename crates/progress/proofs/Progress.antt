@@ -20,15 +20,11 @@ module _ (R : Run) (P : Premises R) {Made : Signature → Type 0} (judged : Judg
   replied : (u : ℕ) (m : Message) (id : ReplicaId) → Lasts R x o t → Sends R x o u m → Reached R x Made o u m t id → Replied R x Made o u m t id
   replied u m id lasts s r =
       let sent = s .lasts .has-begun in
-      let lasts-then : Lasts R x o (r .i) = record { has-begun = omega (arith, r .after-sent); goes-on = λ v low high at. lasts .goes-on v low (omega (arith, r .before)) at } in
-      let (reply, replies) = not-refused R x P judged o u (r .i) m id (r .signature) (r .verdicts) s (r .after-sent) lasts-then (λ v nonce low high. one v nonce low (omega (arith, r .before))) (r .not-withdrawn) (r .boxed) (r .handed) in
+      let lasts-then : Lasts R x o (r .handed .i) = record { has-begun = omega (arith, r .handed .after-sent); goes-on = λ v low high at. lasts .goes-on v low (omega (arith, r .before)) at } in
+      let (reply, replies) = not-refused R x P judged o u (r .handed .i) m id (r .handed .signature) (r .handed .verdicts) s (r .handed .after-sent) lasts-then (λ v nonce low high. one v nonce low (omega (arith, r .before))) (r .not-withdrawn) (r .boxed) (r .handed .event-is) in
       record {
-        i = r .i;
-        after-sent = r .after-sent;
-        signature = r .signature;
-        verdicts = r .verdicts;
-        long = r .boxed .long;
         handed = r .handed;
+        long = r .boxed .long;
         reply = reply;
         replies = replies;
         delivered = r .delivered reply replies;

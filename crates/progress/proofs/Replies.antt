@@ -69,34 +69,34 @@ module _ (R : Run) (x : RegisterId) {Made : Signature → Type 0} (o : Invocatio
   -- ---- At the replica
 
   abbrev handed-over : List ℕ
-  handed-over = encode x m (r .signature)
+  handed-over = encode x m (r .handed .signature)
 
   decoded : decode AtReplica handed-over ≡ accepted (forRegister x m)
   decoded =
-      reads R x (client (o .id)) correct u m (s .by) (sends-for R x o u m s) (s .answered) (r .signature) (r .long) (R .have-bytes (r .i) (to-replica id handed-over (r .verdicts)) (r .handed)) AtReplica (ask .taken-by)
+      reads R x (client (o .id)) correct u m (s .by) (sends-for R x o u m s) (s .answered) (r .handed .signature) (r .long) (R .have-bytes (r .handed .i) (to-replica id handed-over (r .handed .verdicts)) (r .handed .event-is)) AtReplica (ask .taken-by)
 
-  abbrev at-replica : At R (r .i) (replica id)
-  at-replica = (to-replica id handed-over (r .verdicts), r .handed, refl)
+  abbrev at-replica : At R (r .handed .i) (replica id)
+  at-replica = (to-replica id handed-over (r .handed .verdicts), r .handed .event-is, refl)
 
   for : registerIn handed-over ≡ x
   for = found-register AtReplica handed-over x m decoded
 
-  is-reply : ReplyTo (registerReplicaAt R x id (r .i)) m (r .reply)
+  is-reply : ReplyTo (registerReplicaAt R x id (r .handed .i)) m (r .reply)
   is-reply =
-      let step = register-step R x id c (r .i) (r .reply) (at-replica, for, r .replies) in
-      let same-bytes : step .bytes ≡ handed-over = cc (step .event-is, r .handed) in
+      let step = register-step R x id c (r .handed .i) (r .reply) (at-replica, for, r .replies) in
+      let same-bytes : step .bytes ≡ handed-over = cc (step .event-is, r .handed .event-is) in
       let pair : forRegister (registerIn (step .bytes)) (step .message) ≡ forRegister x m = cc (step .admitted .decodes, decoded) in
       let same : step .message ≡ m = ap (λ (p : RegisterId × Message). p .1) pair in
       let replies : step .reply .message ≡ r .reply = cc (step .answer-is, r .replies) in
-      subst (λ (n : Message). ReplyTo (registerReplicaAt R x id (r .i)) m n) replies (subst (λ (n : Message). ReplyTo (registerReplicaAt R x id (r .i)) n (step .reply .message)) same (step .facts .reply-is))
+      subst (λ (n : Message). ReplyTo (registerReplicaAt R x id (r .handed .i)) m n) replies (subst (λ (n : Message). ReplyTo (registerReplicaAt R x id (r .handed .i)) n (step .reply .message)) same (step .facts .reply-is))
 
   from-replica : (senderOf (r .reply) ≡ replica id) × (takerOf (r .reply) ≡ AtClient)
   from-replica = go m is-reply
     where
-      same : registerReplicaAt R x id (r .i) .id ≡ id
-      same = good-bank R id c (r .i) .id-is
+      same : registerReplicaAt R x id (r .handed .i) .id ≡ id
+      same = good-bank R id c (r .handed .i) .id-is
 
-      go : (n : Message) → ReplyTo (registerReplicaAt R x id (r .i)) n (r .reply) → (senderOf (r .reply) ≡ replica id) × (takerOf (r .reply) ≡ AtClient)
+      go : (n : Message) → ReplyTo (registerReplicaAt R x id (r .handed .i)) n (r .reply) → (senderOf (r .reply) ≡ replica id) × (takerOf (r .reply) ≡ AtClient)
       go (READ-STAMP by nonce) e = (ap senderOf e ∙ ap replica same, ap takerOf e)
       go (PREPARE by timestamp digest proof last) e = (ap senderOf e ∙ ap replica same, ap takerOf e)
       go (WRITE by card proof) e = (ap senderOf e ∙ ap replica same, ap takerOf e)
@@ -118,13 +118,13 @@ module _ (R : Run) (x : RegisterId) {Made : Signature → Type 0} (o : Invocatio
   returned = encode x (r .reply) (r .delivered .signature)
 
   small : Bytes returned
-  small = R .have-bytes j (to-client (o .id) returned (r .delivered .verdicts)) (r .delivered .handed)
+  small = R .have-bytes j (to-client (o .id) returned (r .delivered .verdicts)) (r .delivered .event-is)
 
   reply-decoded : decode AtClient returned ≡ accepted (forRegister x (r .reply))
-  reply-decoded = reads R x (replica id) c (r .i) (r .reply) at-replica for (r .replies) (r .delivered .signature) (r .delivered .boxed .long) small AtClient (from-replica .1)
+  reply-decoded = reads R x (replica id) c (r .handed .i) (r .reply) at-replica for (r .replies) (r .delivered .signature) (r .delivered .boxed .long) small AtClient (from-replica .1)
 
   pub returned-at : (v : ℕ) → j ≡ v → At R v (client (o .id))
-  returned-at v z = (to-client (o .id) returned (r .delivered .verdicts), ap (event R) (sym z) ∙ r .delivered .handed, refl)
+  returned-at v z = (to-client (o .id) returned (r .delivered .verdicts), ap (event R) (sym z) ∙ r .delivered .event-is, refl)
 
   -- A message that the client takes then is this reply.
   pub heard-reply : (v : ℕ) → j ≡ v → (h : Heard R (o .id) v) → senderOf (h .message) ≡ replica id
@@ -146,8 +146,8 @@ module _ (R : Run) (x : RegisterId) {Made : Signature → Type 0} (o : Invocatio
 
       passed : Passed (R .f) (r .reply) (r .delivered .verdicts)
       passed =
-          boxed-passes R x (replica id) c (r .i) (r .reply) at-replica for (r .replies) (r .delivered .signature) (r .delivered .boxed .long) small judged (r .delivered .boxed) (from-replica .0) j (r .delivered .after-given) AtClient
-          (from-replica .1) (r .delivered .verdicts) (to-a-client R j (o .id) returned (r .delivered .verdicts) x (r .reply) (r .delivered .handed) reply-decoded)
+          boxed-passes R x (replica id) c (r .handed .i) (r .reply) at-replica for (r .replies) (r .delivered .signature) (r .delivered .boxed .long) small judged (r .delivered .boxed) (from-replica .0) j (r .delivered .after-given) AtClient
+          (from-replica .1) (r .delivered .verdicts) (to-a-client R j (o .id) returned (r .delivered .verdicts) x (r .reply) (r .delivered .event-is) reply-decoded)
 
       lets : admits (now .f) nobody (r .delivered .verdicts) (forRegister x (r .reply)) ≡ accepted (forRegister x (r .reply))
       lets =
@@ -157,8 +157,8 @@ module _ (R : Run) (x : RegisterId) {Made : Signature → Type 0} (o : Invocatio
       go : (b : Bool) → has (countedIn (now .phase)) id ≡ b → (has (countedIn (now .phase)) id ≡ true) ⊎ Accepted R j
       go true k = inl k
       go false k =
-          let stands = still-sound R x (replica id) c (r .i) (r .reply) at-replica for (r .replies) (r .delivered .signature) (r .delivered .boxed .long) small j (r .delivered .after-given) .stands in
-          let (turn, taken) = takes-reply now (signature returned) id (registerReplicaAt R x id (r .i)) m (r .reply) (good-bank R id c (r .i) .id-is) awaits (ask .may-send) is-reply stands k in
+          let stands = still-sound R x (replica id) c (r .handed .i) (r .reply) at-replica for (r .replies) (r .delivered .signature) (r .delivered .boxed .long) small j (r .delivered .after-given) .stands in
+          let (turn, taken) = takes-reply now (signature returned) id (registerReplicaAt R x id (r .handed .i)) m (r .reply) (good-bank R id c (r .handed .i) .id-is) awaits (ask .may-send) is-reply stands k in
           let stepped = let-through (o .id) now x (r .reply) returned (r .delivered .verdicts) is reply-decoded lets in
           let is-taken = subst (λ (i : ClientId). clientTakes i now (signature returned) (r .reply) ≡ accepted turn) same-id taken in
-          inr (turn .answer, client-outcome R (o .id) j (reply-handed returned (r .delivered .verdicts)) (r .delivered .handed) .answer-is ∙ ap clientAnswer (stepped ∙ is-taken))
+          inr (turn .answer, client-outcome R (o .id) j (reply-handed returned (r .delivered .verdicts)) (r .delivered .event-is) .answer-is ∙ ap clientAnswer (stepped ∙ is-taken))

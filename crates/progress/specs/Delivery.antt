@@ -33,7 +33,15 @@ module _ (R : Run) (x : RegisterId) (Made : Signature → Type 0) where
     pub long : length signature ≡ 64
     pub made : Made (record { signer = sender; covers = body x message; bytes = signature })
 
-  -- A replica's reply, given at event i, is handed to the operation's client after that and before event t.
+  -- A message that was sent at event u is handed to a replica after that, at i, with a signature.
+  pub record Handed (u : ℕ) (message : Message) (id : ReplicaId) : Type 0 where
+    pub i : ℕ
+    pub after-sent : u < i
+    pub signature : List ℕ
+    pub verdicts : List ℕ
+    pub event-is : event R i ≡ some (to-replica id (encode x message signature) verdicts)
+
+  -- A replica's reply, given at event i, is handed to the operation's client after that, at j, and before event t.
   pub record Delivered (o : Invocation R x) (t : ℕ) (id : ReplicaId) (i : ℕ) (reply : Message) : Type 0 where
     pub j : ℕ
     pub after-given : i < j
@@ -41,29 +49,21 @@ module _ (R : Run) (x : RegisterId) (Made : Signature → Type 0) where
     pub signature : List ℕ
     pub verdicts : List ℕ
     pub boxed : Boxed (replica id) reply signature
-    pub handed : event R j ≡ some (to-client (o .id) (encode x reply signature) verdicts)
+    pub event-is : event R j ≡ some (to-client (o .id) (encode x reply signature) verdicts)
 
-  -- A message that the operation sent at event u is handed to a replica after that, at i, and answered, and the reply is delivered before event t.
+  -- A message that the operation sent at event u is handed to a replica and answered, and the reply is delivered before event t.
   pub record Replied (o : Invocation R x) (u : ℕ) (message : Message) (t : ℕ) (id : ReplicaId) : Type 0 where
-    pub i : ℕ
-    pub after-sent : u < i
-    pub signature : List ℕ
-    pub verdicts : List ℕ
-    pub long : length signature ≡ 64
-    pub handed : event R i ≡ some (to-replica id (encode x message signature) verdicts)
+    pub handed : Handed u message id
+    pub long : length (handed .signature) ≡ 64
     pub reply : Message
-    pub replies : answerAt R i ≡ accepted (send reply)
-    pub delivered : Delivered o t id i reply
+    pub replies : answerAt R (handed .i) ≡ accepted (send reply)
+    pub delivered : Delivered o t id (handed .i) reply
 
-  -- The same without saying that it is answered: it is handed over as the client's box signed it, where the client is not withdrawn, and whatever
-  -- is answered is delivered.
+  -- The same without saying that it is answered: it is handed over before event t as the client's box signed it, where the client is not withdrawn, and
+  -- whatever is answered is delivered.
   pub record Reached (o : Invocation R x) (u : ℕ) (message : Message) (t : ℕ) (id : ReplicaId) : Type 0 where
-    pub i : ℕ
-    pub after-sent : u < i
-    pub before : i < t
-    pub signature : List ℕ
-    pub verdicts : List ℕ
-    pub boxed : Boxed (client (o .id)) message signature
-    pub handed : event R i ≡ some (to-replica id (encode x message signature) verdicts)
-    pub not-withdrawn : has (withdrawnAt R id i) (o .id) ≡ false
-    pub delivered : (reply : Message) → answerAt R i ≡ accepted (send reply) → Delivered o t id i reply
+    pub handed : Handed u message id
+    pub before : handed .i < t
+    pub boxed : Boxed (client (o .id)) message (handed .signature)
+    pub not-withdrawn : has (withdrawnAt R id (handed .i)) (o .id) ≡ false
+    pub delivered : (reply : Message) → answerAt R (handed .i) ≡ accepted (send reply) → Delivered o t id (handed .i) reply

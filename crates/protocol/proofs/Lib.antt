@@ -1,5 +1,6 @@
 pub mod Accepts
 pub mod ArrayLaws
+pub mod AwaitedReplies
 pub mod BankFacts
 pub mod Built
 pub mod Calls

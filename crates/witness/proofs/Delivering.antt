@@ -128,13 +128,15 @@ module _ (m : Message) (answered : answerAt run 0 ≡ accepted (send m)) where
       → registerOf (to-replica id asked-bytes one) ≡ register-2 → same (signature id) (signature id) ≡ true → Reached run register-2 Made operation 0 m 7 id
   unfolding invoked story same
   reached id i j first second third handed returned for own = record {
-    i = i;
-    after-sent = first;
+    handed = record {
+      i = i;
+      after-sent = first;
+      signature = replicate 64 101;
+      verdicts = one;
+      event-is = event-told run story as-told i _ handed ∙ ap (λ (b : List ℕ). some (to-replica id b one)) (same-bytes register-2 asks m (replicate 64 101) (sym asked));
+    };
     before = omega arith;
-    signature = replicate 64 101;
-    verdicts = one;
     boxed = record { long = length-replicate {A = ℕ} 64 101; made = refl };
-    handed = event-told run story as-told i _ handed ∙ ap (λ (b : List ℕ). some (to-replica id b one)) (same-bytes register-2 asks m (replicate 64 101) (sym asked));
     not-withdrawn = not-withdrawn run story as-told refl id client-1 i;
     delivered = λ reply replies.
         let (told, e, bytes) = sends-told run story as-told i _ (shows id) handed in
@@ -147,7 +149,7 @@ module _ (m : Message) (answered : answerAt run 0 ≡ accepted (send m)) where
           signature = signature id;
           verdicts = one;
           boxed = record { long = length-replicate {A = ℕ} 64 (id .0); made = own };
-          handed = returned ∙ ap (λ (b : List ℕ). some (to-client client-1 b one)) (same-bytes register-2 (shows id) reply (signature id) (sym is));
+          event-is = returned ∙ ap (λ (b : List ℕ). some (to-client client-1 b one)) (same-bytes register-2 (shows id) reply (signature id) (sym is));
         };
   }
 

@@ -17,7 +17,7 @@ use Rattle.base.specs.Range.{within}
 use Rattle.base.specs.Same.{same}
 use Rattle.base.specs.declared.party.RegisterId.{RegisterId}
 use Rattle.base.specs.declared.party.ReplicaId.{ReplicaId}
-use Rattle.progress.specs.Delivery.{AtQuorum, Boxed}
+use Rattle.progress.specs.Delivery.{AtQuorum, Boxed, Handed}
 use Rattle.progress.specs.Operations.{OneLaptop, Invocation, Lasts, Sends, Over}
 use Rattle.progress.specs.Verdicts.{Judged}
 use Rattle.protocol.specs.Client.{send, waits}
@@ -40,15 +40,11 @@ use Rattle.witness.proofs.Story.{Line, _↝_, _↛_, each, wellTold, to
 
 -- As `Replied`, but the reply's bytes may have come at any time.
 pub record RepliedByBytes (R : Run) (x : RegisterId) (Made : Signature → Type 0) (o : Invocation R x) (u : ℕ) (message : Message) (t : ℕ) (id : ReplicaId) : Type 0 where
-  pub i : ℕ
-  pub after-sent : u < i
-  pub before : i < t
-  pub signature : List ℕ
-  pub verdicts : List ℕ
-  pub long : length signature ≡ 64
-  pub handed : event R i ≡ some (to-replica id (encode x message signature) verdicts)
+  pub handed : Handed R x Made u message id
+  pub before : handed .i < t
+  pub long : length (handed .signature) ≡ 64
   pub reply : Message
-  pub replies : answerAt R i ≡ accepted (send reply)
+  pub replies : answerAt R (handed .i) ≡ accepted (send reply)
   pub j : ℕ
   pub came-before : j < t
   pub reply-signature : List ℕ
@@ -163,13 +159,15 @@ module _ (u : ℕ) (m question : Message) (asked : body register-1 m ≡ body re
       let (reply, replies, bytes) = sends-told run story as-told i _ (answer id) at in
       let is : body register-1 reply ≡ body register-1 (answer id) = subst (λ (y : RegisterId). body y reply ≡ body y (answer id)) for bytes in
       record {
-        i = i;
-        after-sent = first;
+        handed = record {
+          i = i;
+          after-sent = first;
+          signature = replicate 64 102;
+          verdicts = v;
+          event-is = event-told run story as-told i _ at ∙ ap (λ (b : List ℕ). some (to-replica id b v)) (same-bytes register-1 question m (replicate 64 102) (sym asked));
+        };
         before = second;
-        signature = replicate 64 102;
-        verdicts = v;
         long = length-replicate {A = ℕ} 64 102;
-        handed = event-told run story as-told i _ at ∙ ap (λ (b : List ℕ). some (to-replica id b v)) (same-bytes register-1 question m (replicate 64 102) (sym asked));
         reply = reply;
         replies = replies;
         j = j;
