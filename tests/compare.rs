@@ -3,6 +3,7 @@
 //! `compare PROGRAM [SEED [CALLS]]` or `compare PROGRAM --files FILE...`: PROGRAM reads a script and prints a line per line
 //! of it. Built by `rustc -O --edition 2021 tests/compare.rs -o target/compare`.
 mod arguments;
+mod counts;
 mod forge;
 mod generate;
 #[path = "../model/mod.rs"]
@@ -167,6 +168,7 @@ fn compare_script(program: &str, seed: u64, script: Script, tally: &mut Tally) -
         return Ok(false);
     }
     tally.count_script(&script);
+    tally.count_ends(counts::ends(script.lines.iter().zip(&script.expected)));
     Ok(true)
 }
 

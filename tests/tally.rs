@@ -25,6 +25,10 @@ pub const HAND: &str = "hand";
 /// Operations that are done: with other signers than the replicas that were counted, or that showed the card; with CARDs of the
 /// timestamp that others signed than the first one; with a signer above 8; at 0.0, after a proof.
 const SIGNERS: [&str; 4] = ["unheard", "tie", "above 8", "back at 0.0"];
+/// Operations at their end, by the messages that they sent, as document 02, #107, counts them; and with another count, which
+/// cannot occur.
+pub const SENT: [&str; 4] = ["3, write", "1, read", "2, read", "1, ended"];
+pub const MISCOUNTED: &str = "miscounted";
 /// WRITEs of the held timestamp that others signed than the held proof.
 pub const RIVAL: &str = "rival";
 /// WRITEs of a timestamp that the replica holds with another card in another register.
@@ -213,6 +217,10 @@ const COLUMNS: [Column; 11] = [
             SIGNERS[1],
             SIGNERS[2],
             SIGNERS[3],
+            SENT[0],
+            SENT[1],
+            SENT[2],
+            SENT[3],
             "ended",
             LENT[0],
             LENT[1],
@@ -279,7 +287,8 @@ fn rows() -> Vec<String> {
         names(&["counted", DONE]),
         names(&HELD),
         names(&SIGNERS),
-        names(&["ended", TAKEN, AGAIN, SCREEN]),
+        names(&SENT),
+        names(&[MISCOUNTED, "ended", TAKEN, AGAIN, SCREEN]),
         names(&[NEWER, OLDER, USED_UP]),
         REFUSALS.map(refusal_row).collect(),
         names(&[BUSY, HAS_OWN, BEFORE_17]),
@@ -391,6 +400,14 @@ impl Tally {
             self.note_message(column, call, output);
             self.note_register(column, call, output);
             self.note_shut_out(column, call, output);
+        }
+    }
+
+    /// Clients' operations at their end, by their rows.
+    pub fn count_ends(&mut self, rows: Vec<&'static str>) {
+        let column = Column::named("to-client").expect("a column's name");
+        for row in rows {
+            self.note(column, row);
         }
     }
 
@@ -514,7 +531,7 @@ impl Tally {
         println!("{} calls, {} accepted", self.calls, self.accepted);
     }
 
-    /// What occurred too seldom for the comparison to mean much, and refusals that cannot occur.
+    /// What occurred too seldom for the comparison to mean much, and what cannot occur.
     pub fn faults(&self) -> Vec<String> {
         let names = COLUMNS.iter().map(|column| column.name);
         let mut faults: Vec<String> = names.flat_map(|name| self.faults_of(name)).collect();
@@ -549,6 +566,7 @@ impl Tally {
         let others = REFUSALS.filter(|refusal| !column.refusals.contains(refusal));
         others
             .map(refusal_row)
+            .chain([MISCOUNTED.to_string()])
             .filter(|row| self.times(column, row) > 0)
             .map(|row| format!("impossible: {}, {row}", column.name))
             .collect()

@@ -43,7 +43,7 @@ AwaitsNow now m = Awaits (now .id) m (now .digest) (now .phase)
 -- ---- A step goes on counting, sends the next message, or is over
 
 pub data Onward (now : Client) (m message : Message) (turn : Turn) : Type 0 where
-  counts : (sender : ReplicaId) → AwaitsNow (turn .next) m → senderOf message ≡ replica sender → isReplica (now .f) sender ≡ true → countedIn (turn .next .phase) ≡ with (countedIn (now .phase)) sender
+  counts : (sender : ReplicaId) → turn .answer ≡ waits → AwaitsNow (turn .next) m → senderOf message ≡ replica sender → isReplica (now .f) sender ≡ true → countedIn (turn .next .phase) ≡ with (countedIn (now .phase)) sender
       → Onward now m message turn
   asks-next : (next : Message) → turn .answer ≡ send next → AwaitsNow (turn .next) next → Onward now m message turn
   is-over : isOver (turn .answer) ≡ true → Onward now m message turn
@@ -63,7 +63,7 @@ module _ (now : Client) (own : List ℕ) (m message : Message) (turn : Turn) (sa
   counting : (sender : ReplicaId) (counted : ReplicaSet) (was is : Phase) → now .phase ≡ was → countedIn was ≡ counted → Leaves turn waits is → countedIn is ≡ with counted sender
       → senderOf message ≡ replica sender → OneMore now sender counted false → (Was was → Next m is) → Onward now m message turn
   counting sender counted was is e k left k′ by new on =
-      counts sender (now-awaits m is (left .phase-is) (on (subst Was e a))) by (new .0) (ap countedIn (left .phase-is) ∙ k′ ∙ ap (λ (set : ReplicaSet). with set sender) (sym k ∙ ap countedIn (sym e)))
+      counts sender (left .answer-is) (now-awaits m is (left .phase-is) (on (subst Was e a))) by (new .0) (ap countedIn (left .phase-is) ∙ k′ ∙ ap (λ (set : ReplicaSet). with set sender) (sym k ∙ ap countedIn (sym e)))
 
   asking : (next : Message) (is : Phase) → Leaves turn (send next) is → Next next is → Onward now m message turn
   asking next is left it = asks-next next (left .answer-is) (now-awaits next is (left .phase-is) it)

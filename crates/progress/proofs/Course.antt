@@ -1,20 +1,19 @@
 -- The course of an operation while it lasts: its register, its phase, the messages that it has sent and the timestamps that it was shown. What is
 -- counted follows where it ends. Assumes nothing.
 use mathlib.Core.Path.{_≡_, refl, sym, ap, subst, _∙_}
-use mathlib.Core.Logic.{inl, inr, ⊎-elim}
 use mathlib.Core.Bool.{Bool, true, false, cond}
-use mathlib.Core.List.{List, [], _∷_, _++_, append-nil}
+use mathlib.Core.List.{List, [], _++_, append-nil}
 use mathlib.Core.Option.{Option, none, some}
-use Prim.Native.Nat.{ℕ, zero, suc, _+_, _/_, _≤_, _<_, max}
+use Prim.Native.Nat.{ℕ, zero, suc, _+_, _/_, _≤_, _<_}
 use native.Mathlib.Omega.{arith}
-use borrow.Author.Tests.{eqb-true, eqb-false, eq-eqb, ne-eqb, ltb-true, ltb-false, leb-true, leb-false}
-use lib.Dec.{eqb, ltb}
+use borrow.Author.Tests.{eqb-true}
+use lib.Dec.{eqb}
 use lib.ListN.{length, length-append}
 use Rattle.base.specs.Counting.{one, count}
 use Rattle.base.specs.Outcome.{Outcome, accepted}
 use Rattle.base.specs.Party.{replicaCount, quorumSize, isReplica, isWriter, isRegister}
-use Rattle.base.specs.ReplicaSet.{empty, has, with, isQuorum}
-use Rattle.base.specs.Timestamp.{number, ofNumber, successor}
+use Rattle.base.specs.ReplicaSet.{empty, with, isQuorum}
+use Rattle.base.specs.Timestamp.{number, successor}
 use Rattle.base.specs.declared.party.ClientId.{ClientId}
 use Rattle.base.specs.declared.party.RegisterId.{RegisterId}
 use Rattle.base.specs.declared.party.ReplicaId.{ReplicaId}
@@ -22,7 +21,6 @@ use Rattle.base.specs.declared.replica_set.ReplicaSet.{ReplicaSet}
 use Rattle.base.specs.declared.timestamp.Timestamp.{Timestamp}
 use Rattle.base.proofs.Apart.{apart}
 use Rattle.base.proofs.Range.{bounds}
-use Rattle.base.proofs.ReplicaSet.{has-empty, with-new}
 use Rattle.protocol.specs.Client.{Answer, send, waits, done, ended, Turn, bestOf, showedBy}
 use Rattle.protocol.specs.Events.{ClientEvent, write-begun, read-begun, reply-handed}
 use Rattle.protocol.specs.declared.client.Client.{Client}
@@ -31,7 +29,7 @@ use Rattle.protocol.specs.declared.client.Phase.the-variants.{Idle, Stamps, Pre
 use Rattle.protocol.proofs.ClientCases.{isOver, Leaves, OneMore, PhaseFits, ClientCase, stamp-counted, stamps-enough, stamps-ended, prepared-counted, prepareds-enough, written-counted, writtens-enough, card-counted, cards-agree, cards-viewed, cards-differ, back-counted, back-enough}
 use Rattle.run.specs.Claims.{Begins, GoesOn}
 use Rattle.run.specs.Run.{Event, at-client, begins-write, begins-read, to-client, makes, Run, registerOf, event, clientAt, answerAt, At, Correct}
-use Rattle.run.proofs.Operations.{none-in, best-fits}
+use Rattle.run.proofs.Operations.{best-fits}
 use Rattle.run.proofs.Order.{begins-at}
 use Rattle.run.proofs.Slots.{split-last}
 use Rattle.run.proofs.Turns.{good-client, Silent, ClientStep, Heard, heard-register, ClientTurn, rested, wrote, asked, heard, made-again, took, client-turn}
@@ -39,13 +37,13 @@ use Rattle.wire.specs.Acceptance.{client}
 use Rattle.wire.specs.Decode.{forRegister}
 use Rattle.wire.specs.Layout.{signature}
 use Rattle.wire.specs.Message.{Message, STAMP, WRITTEN, CARD}
-use Rattle.wire.specs.Parts.{preparedTimestamp}
 use Rattle.wire.specs.Proof.{PreparedProof}
 use Rattle.progress.specs.Counts.{Look, sentIn, cardShown, stampShown, takenIn, seen, allSame, largest, readMessages}
 use Rattle.progress.specs.Operations.{Invocation, Lasts, Sends}
+use Rattle.progress.proofs.CardsTaken.{CardsIn, best-shown, card-taken, just, agree, differ}
 use Rattle.progress.proofs.Counted.{countedIn, few-counted}
-use Rattle.progress.proofs.Largest.{equals, equals-more, none-above, same-if, differ-if, Best, none-best, best-more, best-there, largest-is}
-use Rattle.progress.proofs.Members.{member-of, is-member, empty-count}
+use Rattle.progress.proofs.Largest.{equals, Best, none-best, largest-is}
+use Rattle.progress.proofs.Members.{empty-count}
 use Rattle.progress.proofs.Seen.{none-before, silent-seen, turn-seen}
 
 -- ---- Phases
@@ -58,13 +56,6 @@ soFar (Prepareds timestamp counted) = 2
 soFar (Writtens timestamp counted) = 3
 soFar (Cards nonce best counted showed) = 1
 soFar (WriteBack timestamp counted) = 2
-
--- The CARDs taken: as many as replicas are counted, and as many show the best timestamp as replicas that showed it.
-pub record CardsIn (n : ℕ) (cards : List ℕ) (best : ℕ) (counted showed : ReplicaSet) : Type 0 where
-  pub long : length cards ≡ count n (has counted)
-  pub is-best : Best best cards
-  pub top : equals best cards ≡ count n (has showed)
-  pub part : (i : ReplicaId) → 1 ≤ i .0 → i .0 ≤ 16 → has showed i ≡ true → has counted i ≡ true
 
 -- q CARDs of two timestamps or more.
 abbrev pub Differ : ℕ → List ℕ → Type 0
@@ -79,18 +70,6 @@ InCourse f w stamps cards (Writtens timestamp counted) = w ≡ true
 InCourse f w stamps cards (Cards nonce best counted showed) = (w ≡ false) × CardsIn (replicaCount f) cards (number best) counted showed
 InCourse f w stamps cards (WriteBack timestamp counted) = (w ≡ false) × Differ f cards
 
--- ---- The best of the replies
-
-number-best : (best : Timestamp) (proof : Option PreparedProof) → number (bestOf best proof) ≡ max (number best) (preparedTimestamp proof)
-number-best best proof = go (ltb (number best) (preparedTimestamp proof)) refl
-  where
-    go : (b : Bool) → ltb (number best) (preparedTimestamp proof) ≡ b → number (cond b (ofNumber (preparedTimestamp proof)) best) ≡ max (number best) (preparedTimestamp proof)
-    go true e = let l = ltb-true (number best) (preparedTimestamp proof) e in omega arith
-    go false e = let l = ltb-false (number best) (preparedTimestamp proof) e in omega arith
-
-best-shown : (best : Timestamp) (proof : Option PreparedProof) (shown : List ℕ) → Best (number best) shown → Best (number (bestOf best proof)) (shown ++ preparedTimestamp proof ∷ [])
-best-shown best proof shown it = rw (number-best best proof) (best-more (number best) (preparedTimestamp proof) shown it)
-
 -- A successor is missing behind the last count alone.
 last-count : (best : Timestamp) (id : ClientId) → successor best id ≡ none → best .count ≡ 4_294_967_295
 last-count best id e = go (eqb (best .count) 4_294_967_295) refl e
@@ -98,71 +77,6 @@ last-count best id e = go (eqb (best .count) 4_294_967_295) refl e
     go : (b : Bool) → eqb (best .count) 4_294_967_295 ≡ b → cond {A = Option Timestamp} b none (some (record { count = best .count + 1; client = id })) ≡ none → best .count ≡ 4_294_967_295
     go true k e = eqb-true (best .count) 4_294_967_295 k
     go false k e = apart (cc)
-
--- ---- One CARD more
-
-module _ (n : ℕ) (small : n ≤ 16) (cards : List ℕ) (sender : ReplicaId) (proof : Option PreparedProof) (best : Timestamp) (counted showed : ReplicaSet) (low : 1 ≤ sender .0) (high : sender .0 ≤ n)
-    (new : has counted sender ≡ false) (it : CardsIn n cards (number best) counted showed) where
-  abbrev s : ℕ
-  s = preparedTimestamp proof
-
-  -- Those that showed the best timestamp, with the sender: by whether its own is later, or the same.
-  abbrev showing : Bool → Bool → ReplicaSet
-  showing later same = cond later (with empty sender) (cond same (with showed sender) showed)
-
-  not-showed : has showed sender ≡ false
-  not-showed = go (has showed sender) refl
-    where
-      go : (b : Bool) → has showed sender ≡ b → has showed sender ≡ false
-      go true e = let was = it .part sender low (omega arith) e in apart (cc)
-      go false e = e
-
-  showing-top : (later same : Bool) → ltb (number best) s ≡ later → eqb (number best) s ≡ same → equals (number (cond later (ofNumber s) best)) (cards ++ s ∷ []) ≡ count n (has (showing later same))
-  showing-top true same e k =
-      let l = ltb-true (number best) s e in
-      let whole : number (ofNumber s) ≡ s = omega arith in
-      let itself : one (eqb s s) ≡ 1 = rw (eq-eqb s s refl) refl in
-      ap (λ (b : ℕ). equals b (cards ++ s ∷ [])) whole
-      ∙ omega (arith, equals-more s cards s, none-above (number best) s cards l (it .is-best .below), with-new n empty sender small low high (has-empty sender), empty-count n)
-  showing-top false true e k =
-      let itself : one (eqb s (number best)) ≡ 1 = rw (eq-eqb s (number best) (sym (eqb-true (number best) s k))) refl in
-      omega (arith, equals-more (number best) cards s, with-new n showed sender small low high not-showed, it .top)
-  showing-top false false e k =
-      let other : one (eqb s (number best)) ≡ 0 = rw (ne-eqb s (number best) (λ z. eqb-false (number best) s k (sym z))) refl in
-      omega (arith, equals-more (number best) cards s, it .top)
-
-  showing-part : (later same : Bool) (i : ReplicaId) → 1 ≤ i .0 → i .0 ≤ 16 → has (showing later same) i ≡ true → has (with counted sender) i ≡ true
-  showing-part true same i li hi k = is-member counted sender i li hi (⊎-elim (λ e. inl e) (λ m. none-in i m) (member-of empty sender i li hi k))
-  showing-part false true i li hi k = is-member counted sender i li hi (⊎-elim (λ e. inl e) (λ m. inr (it .part i li hi m)) (member-of showed sender i li hi k))
-  showing-part false false i li hi k = is-member counted sender i li hi (inr (it .part i li hi k))
-
-  card-taken : CardsIn n (cards ++ s ∷ []) (number (bestOf best proof)) (with counted sender) (showedBy best proof sender showed)
-  card-taken = record {
-    long = omega (arith, length-append cards (s ∷ []), with-new n counted sender small low high new, it .long);
-    is-best = best-shown best proof cards (it .is-best);
-    top = showing-top (ltb (number best) s) (eqb (number best) s) refl refl;
-    part = showing-part (ltb (number best) s) (eqb (number best) s);
-  }
-
--- The reply that makes a quorum makes it just: there are q CARDs, all of one timestamp exactly if q replicas showed the best.
-module _ (f : ℕ) (cards : List ℕ) (best : ℕ) (counted showed : ReplicaSet) (sender : ReplicaId) (in-range : isReplica f sender ≡ true) (new : has counted sender ≡ false) (few : isQuorum f counted ≡ false)
-    (full : isQuorum f (with counted sender) ≡ true) (it : CardsIn (replicaCount f) cards best (with counted sender) showed) where
-  just : length cards ≡ quorumSize f
-  just =
-      let range = bounds 1 (replicaCount f) (sender .0) in-range in
-      omega (
-        arith,
-        it .long,
-        with-new (replicaCount f) counted sender (omega arith) (range .0) (range .1) new,
-        leb-false (quorumSize f) (count (replicaCount f) (has counted)) few,
-        leb-true (quorumSize f) (count (replicaCount f) (has (with counted sender))) full,
-      )
-
-  agree : isQuorum f showed ≡ true → allSame cards ≡ true
-  agree k = same-if best cards (omega (arith, just, it .top, leb-true (quorumSize f) (count (replicaCount f) (has showed)) k))
-
-  differ : isQuorum f showed ≡ false → allSame cards ≡ false
-  differ k = differ-if best cards (best-there best cards (it .is-best) (omega (arith, just))) (omega (arith, just, it .top, leb-false (quorumSize f) (count (replicaCount f) (has showed)) k))
 
 -- ---- An operation
 

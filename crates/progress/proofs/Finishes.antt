@@ -26,7 +26,7 @@ use Rattle.wire.specs.Acceptance.{replica, client}
 use Rattle.wire.specs.Message.{Message}
 use Rattle.wire.specs.Signatures.{Signature}
 use Rattle.progress.specs.Delivery.{AtQuorum, Replied}
-use Rattle.progress.specs.Operations.{OneLaptop, Invocation, Lasts, Sends, IsEnd, Over}
+use Rattle.progress.specs.Operations.{OneLaptop, Invocation, Lasts, Sends, SentLast, IsEnd, Over}
 use Rattle.progress.specs.Verdicts.{Judged}
 use Rattle.progress.proofs.Awaited.{AwaitsNow, Onward, counts, asks-next, is-over, onward}
 use Rattle.progress.proofs.Counted.{countedIn, few-counted}
@@ -82,8 +82,7 @@ module _ (R : Run) (x : RegisterId) (o : Invocation R x) where
     record Asking (t : ℕ) : Type 0 where
       at : ℕ
       message : Message
-      sends : Sends R x o at message
-      before : at < t
+      sent-last : SentLast R x o t at message
       awaits : AwaitsNow (now t) message
       counted : (id : ReplicaId) → R .correct-replica id ≡ true → Replied R x Made o at message t id → has (countedIn (now t .phase)) id ≡ true
 
@@ -92,8 +91,7 @@ module _ (R : Run) (x : RegisterId) (o : Invocation R x) where
     just-asked t m sends awaits = record {
       at = t;
       message = m;
-      sends = sends;
-      before = omega arith;
+      sent-last = record { sends = sends; before = omega arith; none-since = λ v other low high k. absurd (omega arith) };
       awaits = awaits;
       counted = λ id c r. absurd (omega (arith, r .handed .after-sent, r .delivered .after-given, r .delivered .before));
     }
@@ -137,29 +135,40 @@ module _ (R : Run) (x : RegisterId) (o : Invocation R x) where
         on-course = course R x o t l lasts
 
         -- The same message, with one event more.
-        goes-on : AwaitsNow (now (suc t)) (it .message) → ((id : ReplicaId) → R .correct-replica id ≡ true → Replied R x Made o (it .at) (it .message) (suc t) id → has (countedIn (now (suc t) .phase)) id ≡ true) → Asking (suc t)
-        goes-on awaits all-counted = let b = it .before in record { at = it .at; message = it .message; sends = it .sends; before = omega arith; awaits = awaits; counted = all-counted }
+        goes-on : ((message : Message) → At R t (client (o .id)) → answerAt R t ≡ accepted (send message) → ⊥) → AwaitsNow (now (suc t)) (it .message) → ((id : ReplicaId) → R .correct-replica id ≡ true → Replied R x Made o (it .at) (it .message) (suc t) id → has (countedIn (now (suc t) .phase)) id ≡ true) → Asking (suc t)
+        goes-on silent awaits all-counted = record { at = it .at; message = it .message; sent-last = still-last; awaits = awaits; counted = all-counted }
+          where
+            still-last : SentLast R x o (suc t) (it .at) (it .message)
+            still-last =
+                let last = it .sent-last in
+                record {
+                  sends = last .sends;
+                  before = omega (arith, last .before);
+                  none-since = λ v other low high s. split-last v t high
+                      (λ z. silent other (subst (λ (w : ℕ). At R w (client (o .id))) z (s .by)) (subst (λ (w : ℕ). answerAt R w ≡ accepted (send other)) z (s .answered)))
+                      (λ z. last .none-since v other low z s);
+                }
 
         -- A reply that comes now is of a replica that was counted, or is taken.
         came-now : (id : ReplicaId) → R .correct-replica id ≡ true → (r : Replied R x Made o (it .at) (it .message) (suc t) id) → r .delivered .j ≡ t → (has (countedIn (now t .phase)) id ≡ true) ⊎ Accepted R t
         came-now id c r z =
             subst (λ (v : ℕ). (has (countedIn (now v .phase)) id ≡ true) ⊎ Accepted R v) z
-            (counted-or-taken R x o (it .at) (suc t) (it .message) (it .sends) id c r judged (subst (λ (v : ℕ). now v .register ≡ x) (sym z) (on-course .register-is)) (subst (λ (v : ℕ). AwaitsNow (now v) (it .message)) (sym z) (it .awaits)))
+            (counted-or-taken R x o (it .at) (suc t) (it .message) (it .sent-last .sends) id c r judged (subst (λ (v : ℕ). now v .register ≡ x) (sym z) (on-course .register-is)) (subst (λ (v : ℕ). AwaitsNow (now v) (it .message)) (sym z) (it .awaits)))
 
         go : Step R x o t → Asking (suc t)
         go (waits-on same silent) =
-            goes-on (rw same (it .awaits)) (λ id c r. rw same (came r
-            (λ z. ⊎-elim (λ k. k) (λ a. absurd (silent (returned-at R x o (it .at) (suc t) (it .message) (it .sends) id c r t z) (a .0) (a .1))) (came-now id c r z))
+            goes-on (λ m at a. silent at (send m) a) (rw same (it .awaits)) (λ id c r. rw same (came r
+            (λ z. ⊎-elim (λ k. k) (λ a. absurd (silent (returned-at R x o (it .at) (suc t) (it .message) (it .sent-last .sends) id c r t z) (a .0) (a .1))) (came-now id c r z))
             (λ before. it .counted id c before)))
         go (hears h) = by (onward (now t) _ (it .message) (h .message) (h .turn) (h .facts .same-id) (it .awaits) (h .facts .case))
           where
             by : Onward (now t) (it .message) (h .message) (h .turn) → Asking (suc t)
-            by (counts sender awaits by-sender in-range sets) =
-                goes-on (rw (h .step .next-is) awaits) (λ id c r.
+            by (counts sender counted awaits by-sender in-range sets) =
+                goes-on (λ m at a. apart (cc (h .step .answer-is))) (rw (h .step .next-is) awaits) (λ id c r.
                 let range = correct-replica-range R id c in
                 rw (h .step .next-is, sets) (is-member (countedIn (now t .phase)) sender id (range .0) (omega arith)
                 (came r
-                (λ z. inl (replica-one id sender (sym (heard-reply R x o (it .at) (suc t) (it .message) (it .sends) id c r t z h) ∙ by-sender)))
+                (λ z. inl (replica-one id sender (sym (heard-reply R x o (it .at) (suc t) (it .message) (it .sent-last .sends) id c r t z h) ∙ by-sender)))
                 (λ before. inr (it .counted id c before)))))
             by (asks-next m a awaits) =
                 just-asked t m (record { lasts = lasts; by = heard-at R x o t h; answered = h .step .answer-is ∙ ap accepted a }) (rw (h .step .next-is) awaits)
@@ -184,12 +193,16 @@ module _ (R : Run) (x : RegisterId) (o : Invocation R x) where
     quorum-counted q counted h =
         le-leb (quorumSize (R .f)) (count (replicaCount (R .f)) (has counted)) (omega (arith, q .enough, count-most (replicaCount (R .f)) (q .who) (has counted) (λ id low high k. h id k)))
 
-    pub finishes : (t : ℕ) → o .begun < t → OneLaptop R (o .id) (o .begun) t → ((u : ℕ) (m : Message) → u < t → Sends R x o u m → AtQuorum R (Replied R x Made o u m t)) → Over R x o t
-    finishes t l one answered = ⊎-elim (λ over. over) (λ lasts. never (asking t l lasts)) (over-or-lasts t l one)
+    -- The replies to the message that it sent last are enough.
+    pub last-enough : (t : ℕ) → o .begun < t → OneLaptop R (o .id) (o .begun) t → ((u : ℕ) (m : Message) → SentLast R x o t u m → AtQuorum R (Replied R x Made o u m t)) → Over R x o t
+    last-enough t l one answered = ⊎-elim (λ over. over) (λ lasts. never (asking t l lasts)) (over-or-lasts t l one)
       where
         -- While it lasts, those that are counted are no quorum.
         never : Asking t → Over R x o t
         never it =
-            let q = answered (it .at) (it .message) (it .before) (it .sends) in
+            let q = answered (it .at) (it .message) (it .sent-last) in
             let full = quorum-counted q (countedIn (now t .phase)) (λ id k. it .counted id (q .correct id k) (q .each id k)) in
             absurd (false≢true (sym (few-counted R (o .id) correct t) ∙ full))
+
+    pub finishes : (t : ℕ) → o .begun < t → OneLaptop R (o .id) (o .begun) t → ((u : ℕ) (m : Message) → u < t → Sends R x o u m → AtQuorum R (Replied R x Made o u m t)) → Over R x o t
+    finishes t l one answered = last-enough t l one (λ u m last. answered u m (last .before) (last .sends))

@@ -1,5 +1,6 @@
 pub mod Asked
 pub mod Awaited
+pub mod CardsTaken
 pub mod Counted
 pub mod Counts
 pub mod Course

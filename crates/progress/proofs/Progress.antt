@@ -9,10 +9,10 @@ use Rattle.run.specs.Run.{Run}
 use Rattle.wire.specs.Message.{Message}
 use Rattle.wire.specs.Signatures.{Signature}
 use Rattle.progress.specs.Delivery.{AtQuorum, Replied, Reached}
-use Rattle.progress.specs.Operations.{OneLaptop, Invocation, Lasts, Sends, Over}
+use Rattle.progress.specs.Operations.{OneLaptop, Invocation, Lasts, Sends, SentLast, Over}
 use Rattle.progress.specs.Progress.{Progress}
 use Rattle.progress.specs.Verdicts.{Judged}
-use Rattle.progress.proofs.Finishes.{over-or-lasts, finishes}
+use Rattle.progress.proofs.Finishes.{over-or-lasts, last-enough, finishes}
 use Rattle.progress.proofs.NotRefused.{not-refused}
 
 module _ (R : Run) (P : Premises R) {Made : Signature → Type 0} (judged : Judged R Made) (x : RegisterId) (o : Invocation R x) (t : ℕ) (l : o .begun < t) (one : OneLaptop R (o .id) 0 t) where
@@ -30,13 +30,17 @@ module _ (R : Run) (P : Premises R) {Made : Signature → Type 0} (judged : Judg
         delivered = r .delivered reply replies;
       }
 
-  delivered : ((u : ℕ) (m : Message) → u < t → Sends R x o u m → AtQuorum R (Reached R x Made o u m t)) → Over R x o t
-  delivered reached =
+  -- That the message that it sent last is delivered, and what is answered, is enough.
+  pub last-delivered : ((u : ℕ) (m : Message) → SentLast R x o t u m → AtQuorum R (Reached R x Made o u m t)) → Over R x o t
+  last-delivered reached =
       ⊎-elim (λ over. over)
-      (λ lasts. finishes R x o judged t l (λ v nonce low high. one v nonce (omega arith) high) (λ u m before s.
-      let q = reached u m before s in
-      record { who = q .who; enough = q .enough; correct = q .correct; each = λ id k. replied u m id lasts s (q .each id k) }))
+      (λ lasts. last-enough R x o judged t l (λ v nonce low high. one v nonce (omega arith) high) (λ u m last.
+      let q = reached u m last in
+      record { who = q .who; enough = q .enough; correct = q .correct; each = λ id k. replied u m id lasts (last .sends) (q .each id k) }))
       (over-or-lasts R x o t l (λ v nonce low high. one v nonce (omega arith) high))
+
+  delivered : ((u : ℕ) (m : Message) → u < t → Sends R x o u m → AtQuorum R (Reached R x Made o u m t)) → Over R x o t
+  delivered reached = last-delivered (λ u m last. reached u m (last .before) (last .sends))
 
 pub progress : (R : Run) → Premises R → (Made : Signature → Type 0) → Judged R Made → (x : RegisterId) → Progress R x Made
 progress R P Made judged x = record {

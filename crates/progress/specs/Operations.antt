@@ -42,6 +42,12 @@ module _ (R : Run) (x : RegisterId) where
     pub by : At R u (client (o .id))
     pub answered : answerAt R u ≡ accepted (send message)
 
+  -- The last one that it has sent before event t.
+  pub record SentLast (o : Invocation) (t u : ℕ) (message : Message) : Type 0 where
+    pub sends : Sends o u message
+    pub before : u < t
+    pub none-since : (v : ℕ) (other : Message) → u < v → v < t → Sends o v other → ⊥
+
   -- Done, or ended.
   abbrev pub IsEnd : ℕ → Type 0
   IsEnd t = ((timestamp : Timestamp) × (card : List ℕ) × (signers : ReplicaSet) × (answerAt R t ≡ accepted (done timestamp card signers))) ⊎ (answerAt R t ≡ accepted ended)
