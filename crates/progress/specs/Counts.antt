@@ -17,9 +17,9 @@ use Rattle.run.specs.Claims.{Begins, GoesOn, Finished}
 use Rattle.run.specs.Premises.{Accepted}
 use Rattle.run.specs.Run.{Event, at-replica, at-client, Run, event, answerAt, At}
 use Rattle.wire.specs.Acceptance.{client}
-use Rattle.wire.specs.Checks.{all}
+use Rattle.wire.specs.Checks.{preparedOf, all}
 use Rattle.wire.specs.Decode.{decode}
-use Rattle.wire.specs.Message.{Message, READ-STAMP, PREPARE, WRITE, READ, STAMP, PREPARED, WRITTEN, CARD}
+use Rattle.wire.specs.Message.{Message, kindOf}
 use Rattle.wire.specs.Parts.{preparedTimestamp}
 use Rattle.wire.specs.declared.message.Party.the-variants.{Client as AtClient}
 
@@ -34,28 +34,16 @@ sentIn e waits = []
 sentIn e (done timestamp card signers) = []
 sentIn e ended = []
 
--- The timestamp that a CARD shows, and that a STAMP shows.
+-- The timestamp that a reply of a kind shows: CARD is 8, STAMP 5.
+abbrev pub shownBy : ℕ → Outcome (RegisterId × Message) → List ℕ
+shownBy kind (accepted (x, message)) = cond (eqb (kindOf message) kind) (preparedTimestamp (preparedOf message) ∷ []) []
+shownBy kind (refused number) = []
+
 abbrev pub cardShown : Outcome (RegisterId × Message) → List ℕ
-cardShown (accepted (x, CARD id nonce card proof addressed)) = preparedTimestamp proof ∷ []
-cardShown (accepted (x, READ-STAMP id nonce)) = []
-cardShown (accepted (x, PREPARE id timestamp digest proof last)) = []
-cardShown (accepted (x, WRITE id card proof)) = []
-cardShown (accepted (x, READ id nonce)) = []
-cardShown (accepted (x, STAMP id nonce proof addressed)) = []
-cardShown (accepted (x, PREPARED id timestamp digest)) = []
-cardShown (accepted (x, WRITTEN id timestamp)) = []
-cardShown (refused number) = []
+cardShown = shownBy 8
 
 abbrev pub stampShown : Outcome (RegisterId × Message) → List ℕ
-stampShown (accepted (x, STAMP id nonce proof addressed)) = preparedTimestamp proof ∷ []
-stampShown (accepted (x, READ-STAMP id nonce)) = []
-stampShown (accepted (x, PREPARE id timestamp digest proof last)) = []
-stampShown (accepted (x, WRITE id card proof)) = []
-stampShown (accepted (x, READ id nonce)) = []
-stampShown (accepted (x, PREPARED id timestamp digest)) = []
-stampShown (accepted (x, WRITTEN id timestamp)) = []
-stampShown (accepted (x, CARD id nonce card proof addressed)) = []
-stampShown (refused number) = []
+stampShown = shownBy 5
 
 -- In a message that is taken.
 abbrev pub takenIn : (Outcome (RegisterId × Message) → List ℕ) → Look ℕ
