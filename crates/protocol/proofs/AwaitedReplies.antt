@@ -1,15 +1,13 @@
 -- A client takes each reply that it awaits, of a replica that it has not counted: whatever a STAMP or a CARD shows, and until there are q of them. Assumes
 -- nothing.
 use mathlib.Core.Path.{_≡_, refl, sym, subst, _∙_}
-use mathlib.Core.Bool.{Bool, true, false, _&&_, cond}
+use mathlib.Core.Bool.{Bool, true, false, cond}
 use mathlib.Core.List.{List}
 use mathlib.Core.Option.{Option, none, some}
 use Prim.Native.Nat.{ℕ}
 use borrow.Author.Tests.{eq-eqb}
-use lib.Dec.{eqb}
 use Rattle.base.specs.Outcome.{Outcome, accepted, guard}
 use Rattle.base.specs.ReplicaSet.{has}
-use Rattle.base.specs.Same.{same}
 use Rattle.base.specs.Timestamp.{number, successor}
 use Rattle.base.specs.declared.party.ReplicaId.{ReplicaId}
 use Rattle.base.specs.declared.replica_set.ReplicaSet.{ReplicaSet}
@@ -18,7 +16,7 @@ use Rattle.base.proofs.Outcome.{guard-passes}
 use Rattle.base.proofs.Same.{same-itself}
 use Rattle.wire.specs.Message.{Message, STAMP, PREPARED, WRITTEN, CARD}
 use Rattle.wire.specs.Proof.{PreparedProof}
-use Rattle.protocol.specs.Client.{Turn, enough, isNew, AfterCards, toPrepare, afterStamp, onStamp, afterPrepared, onPrepared, afterWritten, afterWriteBack, onWritten, afterCard, countCard, onCard, onReply}
+use Rattle.protocol.specs.Client.{Turn, enough, AfterCards, toPrepare, afterStamp, onStamp, afterPrepared, onPrepared, afterWritten, afterWriteBack, onWritten, afterCard, countCard, onCard, onReply}
 use Rattle.protocol.specs.Parts.{cardStands}
 use Rattle.protocol.specs.Viewer.{afterView, onViewerReply}
 use Rattle.protocol.specs.declared.client.Client.{Client}
@@ -74,32 +72,22 @@ module _ (now : Client) (own : List ℕ) (from : ReplicaId) where
   in-phase : (of : Phase → Outcome Turn) (phase : Phase) → now .phase ≡ phase → Takes (of phase) → Takes (of (now .phase))
   in-phase of phase at it = subst (λ (p : Phase). Takes (of p)) (sym at) it
 
-  new : (counted : ReplicaSet) → has counted from ≡ false → isNew counted from ≡ true
-  new counted e = rw e refl
-
-  answers-nonce : (nonce : ℕ) (counted : ReplicaSet) → has counted from ≡ false → (eqb nonce nonce && (eqb (now .id .0) (now .id .0) && isNew counted from)) ≡ true
-  answers-nonce nonce counted e = rw (eq-eqb nonce nonce refl, eq-eqb (now .id .0) (now .id .0) refl) (new counted e)
-
-  answers-timestamp : (timestamp : Timestamp) (counted : ReplicaSet) → has counted from ≡ false → (eqb (number timestamp) (number timestamp) && isNew counted from) ≡ true
-  answers-timestamp timestamp counted e = rw (eq-eqb (number timestamp) (number timestamp) refl) (new counted e)
-
   pub takes-stamp : (nonce : ℕ) (proof : Option PreparedProof) (best : Timestamp) (counted : ReplicaSet) → now .phase ≡ Stamps nonce best counted → has counted from ≡ false → Taken (STAMP from nonce proof (now .id))
   unfolding onReply onStamp
-  takes-stamp nonce proof best counted at e = in-phase (onStamp now from nonce proof (now .id)) _ at (passing 18 _ _ (answers-nonce nonce counted e) (stamp-taken _ _ _ _))
+  takes-stamp nonce proof best counted at e = in-phase (onStamp now from nonce proof (now .id)) _ at (passing 18 _ _ (simp (eq-eqb nonce nonce refl, eq-eqb (now .id .0) (now .id .0) refl, e) refl) (stamp-taken _ _ _ _))
 
   pub takes-prepared : (timestamp : Timestamp) (counted : ReplicaSet) → now .phase ≡ Prepareds timestamp counted → has counted from ≡ false → Taken (PREPARED from (number timestamp) (now .digest))
   unfolding onReply onPrepared
   takes-prepared timestamp counted at e =
-      let test : (eqb (number timestamp) (number timestamp) && (same (now .digest) (now .digest) && isNew counted from)) ≡ true = rw (eq-eqb (number timestamp) (number timestamp) refl, same-itself (now .digest)) (new counted e) in
-      in-phase (onPrepared now from (number timestamp) (now .digest) own) _ at (passing 18 _ _ test (prepared-taken _ _ _))
+      in-phase (onPrepared now from (number timestamp) (now .digest) own) _ at (passing 18 _ _ (simp (eq-eqb (number timestamp) (number timestamp) refl, same-itself (now .digest), e) refl) (prepared-taken _ _ _))
 
   pub takes-written : (timestamp : Timestamp) (counted : ReplicaSet) → now .phase ≡ Writtens timestamp counted → has counted from ≡ false → Taken (WRITTEN from (number timestamp))
   unfolding onReply onWritten
-  takes-written timestamp counted at e = in-phase (onWritten now from (number timestamp) own) _ at (passing 18 _ _ (answers-timestamp timestamp counted e) (written-taken _ _ _))
+  takes-written timestamp counted at e = in-phase (onWritten now from (number timestamp) own) _ at (passing 18 _ _ (simp (eq-eqb (number timestamp) (number timestamp) refl, e) refl) (written-taken _ _ _))
 
   pub takes-back : (timestamp : Timestamp) (counted : ReplicaSet) → now .phase ≡ WriteBack timestamp counted → has counted from ≡ false → Taken (WRITTEN from (number timestamp))
   unfolding onReply onWritten
-  takes-back timestamp counted at e = in-phase (onWritten now from (number timestamp) own) _ at (passing 18 _ _ (answers-timestamp timestamp counted e) (back-taken _ _ _))
+  takes-back timestamp counted at e = in-phase (onWritten now from (number timestamp) own) _ at (passing 18 _ _ (simp (eq-eqb (number timestamp) (number timestamp) refl, e) refl) (back-taken _ _ _))
 
   -- In a read or a view.
   pub takes-card : (nonce : ℕ) (card : List ℕ) (proof : Option PreparedProof) (best : Timestamp) (counted showed : ReplicaSet) → now .phase ≡ Cards nonce best counted showed → has counted from ≡ false
@@ -107,5 +95,5 @@ module _ (now : Client) (own : List ℕ) (from : ReplicaId) where
   unfolding onReply onViewerReply onCard
   takes-card nonce card proof best counted showed at e stands =
       let shows : (next : AfterCards) → ((after : Client) (largest : Timestamp) (with-it : ReplicaSet) → Takes (next largest with-it after)) → Takes (onCard next now from nonce card proof (now .id) (now .phase)) =
-      λ next taken. in-phase (onCard next now from nonce card proof (now .id)) _ at (passing 18 _ _ (answers-nonce nonce counted e) (card-taken _ next (taken _) _ _ _ _)) in
+      λ next taken. in-phase (onCard next now from nonce card proof (now .id)) _ at (passing 18 _ _ (simp (eq-eqb nonce nonce refl, eq-eqb (now .id .0) (now .id .0) refl, e) refl) (card-taken _ next (taken _) _ _ _ _)) in
       (passing 14 _ _ stands (shows afterCard (λ after largest with-it. cards-taken after largest with-it .0)), passing 14 _ _ stands (shows afterView (λ after largest with-it. cards-taken after largest with-it .1)))

@@ -101,6 +101,10 @@ pub standing-short : (card : List ℕ) (proof : Option PreparedProof) → cardSt
 standing-short card none e = rw (same-equal card startCard e) (omega arith)
 standing-short card (some proof) e = standing-under-short card (proof .digest) e
 
+-- A quorum's replies are enough, and fewer are not.
+enough-is : (client : Client) (set : ReplicaSet) {full : Bool} → enough client set ≡ full → isQuorum (client .f) set ≡ full
+enough-is client set e = e
+
 leaves : {turn : Turn} → Leaves turn (turn .answer) (turn .next .phase)
 leaves = record { answer-is = refl; phase-is = refl }
 
@@ -110,8 +114,8 @@ unchanged = record { card-kept = refl; digest-kept = refl; signers-kept = refl }
 -- ---- Replies
 
 module _ (before : Client) (own verdicts : List ℕ) (message : Message) (passed : Passed (before .f) message verdicts) (fits : ClientFits before) where
-  took : (turn : Turn) → Kept before (turn .next) → PhaseFits (turn .next .phase) → LegalAnswer (turn .answer) → ClientCase before own message turn → ClientFacts before own verdicts message turn
-  took turn kept phase-fits legal case =
+  took : (turn : Turn) → Kept before (turn .next) → PhaseFits (turn .next .phase) → ClientCase before own message turn → LegalAnswer (turn .answer) → ClientFacts before own verdicts message turn
+  took turn kept phase-fits case legal =
       record {
         same-f = kept .same-f;
         same-id = kept .same-id;
@@ -127,8 +131,8 @@ module _ (before : Client) (own verdicts : List ℕ) (message : Message) (passed
         case = case;
       }
 
-  quorum-before : (client : Client) → Kept before client → (set : ReplicaSet) {full : Bool} → isQuorum (client .f) set ≡ full → isQuorum (before .f) set ≡ full
-  quorum-before client kept set {full} h = subst (λ (f : ℕ). isQuorum f set ≡ full) (kept .same-f) h
+  quorum-before : (client : Client) → Kept before client → (set : ReplicaSet) {full : Bool} → enough client set ≡ full → isQuorum (before .f) set ≡ full
+  quorum-before client kept set {full} e = subst (λ (f : ℕ). isQuorum f set ≡ full) (kept .same-f) (enough-is client set e)
 
   -- In another phase.
   better-in : {best : Timestamp} {proof : Option PreparedProof} {client : Client} {phase : Phase} → BetterKept best proof before client → BetterKept best proof before (withPhase phase client)
@@ -141,25 +145,25 @@ module _ (before : Client) (own verdicts : List ℕ) (message : Message) (passed
     to-prepare : isQuorum (before .f) (with counted sender) ≡ true → (next : Option Timestamp) → successor (bestOf best proof) (client .id) ≡ next
         → Accepts (ClientFacts before own verdicts message) (toPrepare client (bestOf best proof) next)
     to-prepare quorum none e =
-        by-value (took _ (phase-kept before client (after .kept) Idle) tt tt (stamps-ended sender nonce proof best counted is-message at (rw (← after .kept .same-id) e) leaves))
+        by-value (took _ (phase-kept before client (after .kept) Idle) tt (stamps-ended sender nonce proof best counted is-message at (rw (← after .kept .same-id) e) leaves) tt)
     to-prepare quorum (some next) e =
         let next-fit = successor-fits (bestOf best proof) next (client .id) best-fit (after .kept .fits .id-fits) e in
         let digest = sha256 (currentCard client) in
         by-value (took _
         (phase-kept before (withDigest digest client) (digest-changed before client (after .kept) digest (digest-fits (currentCard client))) (Prepareds next empty))
         next-fit
-        (prepare-legal client (after .kept .fits) (bestOf best proof) best-fit next next-fit)
         (stamps-enough sender nonce proof best counted next (bestShown client (bestOf best proof)) (lastWritten client)
         is-message at (new .0, new .1, quorum) (rw (← after .kept .same-id) e) (after .card-is) (ap sha256 (after .card-is)) refl (after .better .proof-is)
         (issued-timestamp (number (bestOf best proof)) (bestProof client (bestOf best proof)) refl) (after .last-is)
-        (record { answer-is = cc; phase-is = refl })))
+        (record { answer-is = cc; phase-is = refl }))
+        (prepare-legal client (after .kept .fits) (bestOf best proof) best-fit next next-fit))
 
     after-stamp : Accepts (ClientFacts before own verdicts message) (afterStamp nonce (bestOf best proof) (with counted sender) client)
     unfolding afterStamp
     after-stamp =
         by-cases (enough client (with counted sender)) (λ quorum. to-prepare (quorum-before client (after .kept) (with counted sender) quorum) (successor (bestOf best proof) (client .id)) refl)
-        (λ few. by-value (took _ (phase-kept before client (after .kept) (Stamps nonce (bestOf best proof) (with counted sender))) best-fit tt
-        (stamp-counted sender nonce proof best counted is-message at (new .0, new .1, quorum-before client (after .kept) (with counted sender) few) (after .card-is) (better-in (after .better)) leaves)))
+        (λ few. by-value (took _ (phase-kept before client (after .kept) (Stamps nonce (bestOf best proof) (with counted sender))) best-fit
+        (stamp-counted sender nonce proof best counted is-message at (new .0, new .1, quorum-before client (after .kept) (with counted sender) few) (after .card-is) (better-in (after .better)) leaves) tt))
 
   -- PREPAREDs, the sender's signature among the signatures
   module _ (sender : ReplicaId) (timestamp : Timestamp) (counted : ReplicaSet) (timestamp-fits : TimestampFits timestamp) (new : NewFrom before sender counted)
@@ -184,10 +188,10 @@ module _ (before : Client) (own verdicts : List ℕ) (message : Message) (passed
         (phase-kept before (withSigners (signerSet (proof .entries)) cleared)
         (signers-changed before cleared (signatures-changed before before (itself-kept before fits) (replicate 1_024 0) (zeros-fit 1_024)) (signerSet (proof .entries))) (Writtens timestamp empty))
         timestamp-fits
-        (write-legal before fits proof (number-fits timestamp timestamp-fits, fits .digest-fits, (omega arith, entries-fit)) few)
-        (prepareds-enough sender timestamp counted proof is-message at (new .0, new .1, quorum) refl refl (λ less. built-shape (before .f) counted sender signatures (new .0) (new .1) less quorum) refl leaves)))
-        (λ less. by-value (took _ (phase-kept before (withSignatures signatures before) signed-kept (Prepareds timestamp replicas)) timestamp-fits tt
-        (prepared-counted sender timestamp counted is-message at (new .0, new .1, less) unchanged refl leaves)))
+        (prepareds-enough sender timestamp counted proof is-message at (new .0, new .1, enough-is before replicas quorum) refl refl (λ less. built-shape (before .f) counted sender signatures (new .0) (new .1) less (enough-is before replicas quorum)) refl leaves)
+        (write-legal before fits proof (number-fits timestamp timestamp-fits, fits .digest-fits, (omega arith, entries-fit)) few)))
+        (λ less. by-value (took _ (phase-kept before (withSignatures signatures before) signed-kept (Prepareds timestamp replicas)) timestamp-fits
+        (prepared-counted sender timestamp counted is-message at (new .0, new .1, enough-is before replicas less) unchanged refl leaves) tt))
 
     -- WRITTENs that end a write, likewise
     after-written : message ≡ WRITTEN sender (number timestamp) → before .phase ≡ Writtens timestamp counted
@@ -212,10 +216,10 @@ module _ (before : Client) (own verdicts : List ℕ) (message : Message) (passed
           phase-fits = tt;
           legal = tt;
           passed = passed;
-          case = writtens-enough sender timestamp counted is-message at (new .0, new .1, quorum) (λ less. built-shape (before .f) counted sender signatures (new .0) (new .1) less quorum) refl leaves;
+          case = writtens-enough sender timestamp counted is-message at (new .0, new .1, enough-is before replicas quorum) (λ less. built-shape (before .f) counted sender signatures (new .0) (new .1) less (enough-is before replicas quorum)) refl leaves;
         }))
-        (λ less. by-value (took _ (phase-kept before (withSignatures signatures before) signed-kept (Writtens timestamp replicas)) timestamp-fits tt
-        (written-counted sender timestamp counted is-message at (new .0, new .1, less) unchanged refl leaves)))
+        (λ less. by-value (took _ (phase-kept before (withSignatures signatures before) signed-kept (Writtens timestamp replicas)) timestamp-fits
+        (written-counted sender timestamp counted is-message at (new .0, new .1, enough-is before replicas less) unchanged refl leaves) tt))
 
   -- WRITTENs that end a write-back
   after-write-back : (sender : ReplicaId) (timestamp : Timestamp) (counted : ReplicaSet) → TimestampFits timestamp → NewFrom before sender counted
@@ -223,10 +227,10 @@ module _ (before : Client) (own verdicts : List ℕ) (message : Message) (passed
   unfolding afterWriteBack
   after-write-back sender timestamp counted timestamp-fits new is-message at =
       by-cases (enough before (with counted sender))
-      (λ quorum. by-value (took _ (phase-kept before before (itself-kept before fits) Idle) tt tt
-      (back-enough sender timestamp counted is-message at (new .0, new .1, quorum) leaves)))
-      (λ less. by-value (took _ (phase-kept before before (itself-kept before fits) (WriteBack timestamp (with counted sender))) timestamp-fits tt
-      (back-counted sender timestamp counted is-message at (new .0, new .1, less) unchanged leaves)))
+      (λ quorum. by-value (took _ (phase-kept before before (itself-kept before fits) Idle) tt
+      (back-enough sender timestamp counted is-message at (new .0, new .1, enough-is before (with counted sender) quorum) leaves) tt))
+      (λ less. by-value (took _ (phase-kept before before (itself-kept before fits) (WriteBack timestamp (with counted sender))) timestamp-fits
+      (back-counted sender timestamp counted is-message at (new .0, new .1, enough-is before (with counted sender) less) unchanged leaves) tt))
 
   -- CARDs
   module _ (sender : ReplicaId) (nonce : ℕ) (card : List ℕ) (proof : Option PreparedProof) (best : Timestamp) (counted showed : ReplicaSet) (best-fit : TimestampFits (bestOf best proof))
@@ -242,24 +246,24 @@ module _ (before : Client) (own verdicts : List ℕ) (message : Message) (passed
     unfolding afterCard afterView
     after-cards as-read quorum =
         by-cases _
-        (λ agree. by-value (took _ (phase-kept before client (after .kept) _) tt tt
+        (λ agree. by-value (took _ (phase-kept before client (after .kept) _) tt
         (cards-agree sender nonce card proof best counted showed is-message at (new .0, new .1, quorum) stands (quorum-before client (after .kept) showing agree)
-        (record { answer-is = ap₂ (done latest) (after .card-is) (after .better .signers-are); phase-is = refl }))))
+        (record { answer-is = ap₂ (done latest) (after .card-is) (after .better .signers-are); phase-is = refl })) tt))
         (λ differ. by-value (took _ (phase-kept before client (after .kept) _) best-fit
-        (write-legal client (after .kept .fits) (bestProof client latest) (proof-fits client (after .kept .fits) latest best-fit) (entries-in-length (client .entries) (client .«entry_count»)))
         (cards-differ sender nonce card proof best counted showed is-message at (new .0, new .1, quorum) stands (quorum-before client (after .kept) showing differ) (after .card-is) (better-in (after .better))
-        (record { answer-is = cc; phase-is = refl }))))
+        (record { answer-is = cc; phase-is = refl }))
+        (write-legal client (after .kept .fits) (bestProof client latest) (proof-fits client (after .kept .fits) latest best-fit) (entries-in-length (client .entries) (client .«entry_count»)))))
     after-cards (as-view no-writer) quorum =
-        by-value (took _ (phase-kept before client (after .kept) _) tt tt
+        by-value (took _ (phase-kept before client (after .kept) _) tt
         (cards-viewed sender nonce card proof best counted showed is-message at (new .0, new .1, quorum) stands no-writer
-        (record { answer-is = ap₂ (done latest) (after .card-is) (after .better .signers-are); phase-is = refl })))
+        (record { answer-is = ap₂ (done latest) (after .card-is) (after .better .signers-are); phase-is = refl })) tt)
 
     count-card : {next : AfterCards} → Follows before next → Accepts (ClientFacts before own verdicts message) (countCard next nonce latest (with counted sender) showing client)
     unfolding countCard
     count-card follows =
         by-cases _ (λ quorum. after-cards follows (quorum-before client (after .kept) (with counted sender) quorum))
-        (λ less. by-value (took _ (phase-kept before client (after .kept) _) best-fit tt
-        (card-counted sender nonce card proof best counted showed is-message at (new .0, new .1, quorum-before client (after .kept) (with counted sender) less) stands (after .card-is) (better-in (after .better)) leaves)))
+        (λ less. by-value (took _ (phase-kept before client (after .kept) _) best-fit
+        (card-counted sender nonce card proof best counted showed is-message at (new .0, new .1, quorum-before client (after .kept) (with counted sender) less) stands (after .card-is) (better-in (after .better)) leaves) tt))
 
 -- ---- Phases: the others await another kind
 
