@@ -80,6 +80,13 @@ last-count best id e = go (eqb (best .count) 4_294_967_295) refl e
 
 -- ---- An operation
 
+-- What goes on is not over.
+pub not-over : (R : Run) (t : ℕ) (answer : Answer) → answerAt R t ≡ accepted answer → GoesOn R t → isOver answer ≡ false
+not-over R t (send m) e on = refl
+not-over R t waits e on = refl
+not-over R t (done timestamp card signers) e on = absurd (on .not-done timestamp card signers e)
+not-over R t ended e on = absurd (on .not-ended e)
+
 module _ (R : Run) (x : RegisterId) (o : Invocation R x) where
   abbrev pub nowAt : ℕ → Client
   nowAt t = clientAt R (o .id) t
@@ -98,6 +105,13 @@ module _ (R : Run) (x : RegisterId) (o : Invocation R x) where
 
   pub begun-correct : R .correct-client (o .id) ≡ true
   begun-correct = subst (Correct R) (begun-at .2) (R .at-correct (o .begun) (begun-at .0) (begun-at .1))
+
+  -- What lasts has lasted, and what has just begun lasts.
+  pub lasted : {t u : ℕ} → o .begun ≤ t → t ≤ u → Lasts R x o u → Lasts R x o t
+  lasted l k lasts = record { has-begun = l; goes-on = λ v low high at. lasts .goes-on v low (omega arith) at }
+
+  pub just-begun : {t : ℕ} → o .begun ≤ t → t ≤ suc (o .begun) → Lasts R x o t
+  just-begun l k = record { has-begun = l; goes-on = λ v low high at. absurd (omega arith) }
 
   pub record Course (t : ℕ) : Type 0 where
     pub register-is : nowAt t .register ≡ x
@@ -343,7 +357,7 @@ module _ (R : Run) (x : RegisterId) (o : Invocation R x) where
   course (suc t) l lasts =
       split-last (o .begun) t l
       (λ z. subst (λ (u : ℕ). Course (suc u)) z (first-course .1))
-      (λ z. next-course t z (λ at. lasts .goes-on t z (omega arith) at) (course t z (record { has-begun = omega arith; goes-on = λ u low high at. lasts .goes-on u low (omega arith) at })))
+      (λ z. next-course t z (λ at. lasts .goes-on t z (omega arith) at) (course t z (lasted (omega arith) (omega arith) lasts)))
 
   -- A message that its client takes comes after its beginning.
   pub heard-later : (u : ℕ) → Heard R (o .id) u → o .begun ≤ u → o .begun < u

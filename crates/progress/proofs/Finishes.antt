@@ -2,7 +2,7 @@
 use mathlib.Core.Path.{_≡_, refl, sym, ap, subst, _∙_}
 use mathlib.Core.Logic.{_⊎_, inl, inr, ⊎-elim}
 use mathlib.Core.Bool.{true, false≢true}
-use Prim.Native.Nat.{ℕ, zero, suc, _≤_, _<_}
+use Prim.Native.Nat.{ℕ, zero, suc, _<_}
 use native.Mathlib.Omega.{arith}
 use borrow.Author.Tests.{le-leb}
 use Rattle.base.specs.Counting.{count}
@@ -15,7 +15,6 @@ use Rattle.base.specs.declared.replica_set.ReplicaSet.{ReplicaSet}
 use Rattle.base.proofs.Apart.{apart}
 use Rattle.protocol.specs.Client.{Answer, send, waits, done, ended}
 use Rattle.protocol.specs.declared.client.Client.{Client}
-use Rattle.protocol.proofs.ClientCases.{isOver}
 use Rattle.run.specs.Claims.{GoesOn}
 use Rattle.run.specs.Premises.{Accepted}
 use Rattle.run.specs.Run.{makes, Run, clientAt, answerAt, At}
@@ -30,7 +29,7 @@ use Rattle.progress.specs.Operations.{OneLaptop, Invocation, Lasts, Send
 use Rattle.progress.specs.Verdicts.{Judged}
 use Rattle.progress.proofs.Awaited.{AwaitsNow, Onward, counts, asks-next, is-over, onward}
 use Rattle.progress.proofs.Counted.{countedIn, few-counted}
-use Rattle.progress.proofs.Course.{begun-correct, Course, not-idle, course, Step, waits-on, hears, step, heard-at, heard-later}
+use Rattle.progress.proofs.Course.{not-over, begun-correct, lasted, just-begun, Course, not-idle, course, Step, waits-on, hears, step, heard-at, heard-later}
 use Rattle.progress.proofs.Members.{is-member, count-most}
 use Rattle.progress.proofs.Replies.{returned-at, heard-reply, counted-or-taken}
 
@@ -46,14 +45,11 @@ module _ (R : Run) (x : RegisterId) (o : Invocation R x) where
 
   -- ---- It lasts, or it is over
 
-  earlier : (t : ℕ) → o .begun ≤ t → Lasts R x o (suc t) → Lasts R x o t
-  earlier t l lasts = record { has-begun = l; goes-on = λ u low high at. lasts .goes-on u low (omega arith) at }
-
   pub over-or-lasts : (t : ℕ) → o .begun < t → OneLaptop R (o .id) (o .begun) t → Over R x o t ⊎ Lasts R x o t
   over-or-lasts zero l one = absurd (omega arith)
   over-or-lasts (suc t) l one =
       split-last (o .begun) t l
-      (λ z. inr (record { has-begun = omega arith; goes-on = λ u low high at. absurd (omega arith) }))
+      (λ z. inr (just-begun R x o (omega arith) (omega arith)))
       (λ z. ⊎-elim (λ over. inl (later over)) (λ lasts. go z lasts (step R x o t (course R x o t z lasts) (λ nonce e a. one t nonce (omega arith) (omega arith) e (waits, a)))) (over-or-lasts t z (λ u nonce low high. one u nonce low (omega arith))))
     where
       later : Over R x o t → Over R x o (suc t)
@@ -115,10 +111,10 @@ module _ (R : Run) (x : RegisterId) (o : Invocation R x) where
         begun-at = begins-at R x (o .is-write) (o .id) (o .begun) (o .begins)
 
         asks : (m : Message) → answerAt R (o .begun) ≡ accepted (send m) → (next : Client) → now (suc (o .begun)) ≡ next → AwaitsNow next m → Asking (suc (o .begun))
-        asks m a next e awaits = just-asked (o .begun) m (record { lasts = record { has-begun = omega arith; goes-on = λ u low high at. absurd (omega arith) }; by = begun-at; answered = a }) (rw e awaits)
+        asks m a next e awaits = just-asked (o .begun) m (record { lasts = just-begun R x o (omega arith) (omega arith); by = begun-at; answered = a }) (rw e awaits)
 
         begun-course : Course R x o (suc (o .begun))
-        begun-course = course R x o (suc (o .begun)) (omega arith) (record { has-begun = omega arith; goes-on = λ u low high at. absurd (omega arith) })
+        begun-course = course R x o (suc (o .begun)) (omega arith) (just-begun R x o (omega arith) (omega arith))
 
         go : ClientTurn R (o .id) (o .begun) → Asking (suc (o .begun))
         go (rested same silent) = absurd (silent begun-at (o .not-refused .0) (o .not-refused .1))
@@ -172,19 +168,13 @@ module _ (R : Run) (x : RegisterId) (o : Invocation R x) where
                 (λ before. inr (it .counted id c before)))))
             by (asks-next m a awaits) =
                 just-asked t m (record { lasts = lasts; by = heard-at R x o t h; answered = h .step .answer-is ∙ ap accepted a }) (rw (h .step .next-is) awaits)
-            by (is-over over) = absurd (not-over (h .turn .answer) (h .step .answer-is) over (on (heard-at R x o t h)))
-              where
-                not-over : (answer : Answer) → answerAt R t ≡ accepted answer → isOver answer ≡ true → GoesOn R t → ⊥
-                not-over (send m) e k g = apart (cc)
-                not-over waits e k g = apart (cc)
-                not-over (done timestamp card signers) e k g = g .not-done timestamp card signers e
-                not-over ended e k g = g .not-ended e
+            by (is-over over) = absurd (false≢true (sym (not-over R t (h .turn .answer) (h .step .answer-is) (on (heard-at R x o t h))) ∙ over))
 
     asking : (t : ℕ) → o .begun < t → Lasts R x o t → Asking t
     asking zero l lasts = absurd (omega arith)
     asking (suc t) l lasts =
         split-last (o .begun) t l (λ z. subst (λ (u : ℕ). Asking (suc u)) z first)
-        (λ z. let before = earlier t (omega arith) lasts in next t z before (λ at. lasts .goes-on t z (omega arith) at) (asking t z before))
+        (λ z. let before = lasted R x o (omega arith) (omega arith) lasts in next t z before (λ at. lasts .goes-on t z (omega arith) at) (asking t z before))
 
     -- ---- The theorem
 

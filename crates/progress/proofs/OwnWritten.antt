@@ -21,7 +21,7 @@ use Rattle.base.specs.declared.party.RegisterId.{RegisterId}
 use Rattle.base.specs.declared.timestamp.Timestamp.{Timestamp}
 use Rattle.base.proofs.Apart.{apart}
 use Rattle.base.proofs.Registers.{place-below, place-injective}
-use Rattle.protocol.specs.Client.{Answer, send, waits, done, ended, currentCard, noWritten, writtenAt, keeping}
+use Rattle.protocol.specs.Client.{Answer, send, waits, currentCard, noWritten, writtenAt, keeping}
 use Rattle.protocol.specs.declared.client.Client.{Client}
 use Rattle.protocol.specs.declared.client.Phase.{Phase}
 use Rattle.protocol.specs.declared.client.Phase.the-variants.{Idle, Stamps, Prepareds, Writtens, Cards, WriteBack}
@@ -41,7 +41,7 @@ use Rattle.wire.specs.Message.{PREPARE}
 use Rattle.wire.specs.Proof.{Entry, PreparedProof, WrittenProof}
 use Rattle.wire.specs.Sha256.{sha256}
 use Rattle.progress.specs.Operations.{Invocation, Lasts}
-use Rattle.progress.proofs.Course.{course, Step, waits-on, hears, step, heard-at}
+use Rattle.progress.proofs.Course.{not-over, lasted, course, Step, waits-on, hears, step, heard-at}
 
 module _ (R : Run) (P : Premises R) (id : ClientId) (c : R .correct-client id ≡ true) where
   abbrev now : ℕ → Client
@@ -221,23 +221,17 @@ module _ (R : Run) (P : Premises R) (id : ClientId) (c : R .correct-client id �
     last-kept o same zero l lasts = absurd (omega arith)
     last-kept o same (suc t) l lasts =
         split-last (o .begun) t l (λ z. rw z refl)
-        (λ z. let before : Lasts R x o t = record { has-begun = omega arith; goes-on = λ u low high at. lasts .goes-on u low (omega arith) at } in
+        (λ z. let before : Lasts R x o t = lasted R x o (omega arith) (omega arith) lasts in
         one z (lasts .goes-on t z (omega arith)) before ∙ last-kept o same t z before)
       where
         one : o .begun < t → (At R t (client (o .id)) → GoesOn R t) → Lasts R x o t → lastAt x (suc t) ≡ lastAt x t
         one z on before = subst (λ (i : ClientId). writtenAt (registerPlace x) (clientAt R i (suc t)) ≡ writtenAt (registerPlace x) (clientAt R i t)) same (go (step R x o t (course R x o t z before) (λ nonce e a. on (makes (o .id) nonce, e, refl) .not-made (o .id) nonce e (waits, a))))
           where
-            not-over : (h : Heard R (o .id) t) (answer : Answer) → h .turn .answer ≡ answer → isOver answer ≡ false
-            not-over h (send m) a = refl
-            not-over h waits a = refl
-            not-over h (done timestamp card signers) a = absurd (on (heard-at R x o t h) .not-done timestamp card signers (h .step .answer-is ∙ ap accepted a))
-            not-over h ended a = absurd (on (heard-at R x o t h) .not-ended (h .step .answer-is ∙ ap accepted a))
-
             go : Step R x o t → writtenAt (registerPlace x) (clientAt R (o .id) (suc t)) ≡ writtenAt (registerPlace x) (clientAt R (o .id) t)
             go (waits-on kept silent) = ap (λ (after : Client). writtenAt (registerPlace x) after) kept
             go (hears h) =
                 ap (λ (after : Client). writtenAt (registerPlace x) after) (h .step .next-is)
-                ∙ ap (λ (list : List Written). getD list (registerPlace x) noWritten) (h .facts .written-stays (not-over h (h .turn .answer) refl))
+                ∙ ap (λ (list : List Written). getD list (registerPlace x) noWritten) (h .facts .written-stays (not-over R t (h .turn .answer) (h .step .answer-is) (on (heard-at R x o t h))))
 
     -- So it is when a PREPARE is sent,
     prepare-above : (t s : ℕ) (d : List ℕ) (shown : Option PreparedProof) (last : Option WrittenProof) (at : At R t (client id)) → registerOf (at .0) ≡ x → answerAt R t ≡ accepted (send (PREPARE id s d shown last))

@@ -12,6 +12,7 @@ use Rattle.progress.specs.Delivery.{AtQuorum, Replied, Reached}
 use Rattle.progress.specs.Operations.{OneLaptop, Invocation, Lasts, Sends, SentLast, Over}
 use Rattle.progress.specs.Progress.{Progress}
 use Rattle.progress.specs.Verdicts.{Judged}
+use Rattle.progress.proofs.Course.{lasted}
 use Rattle.progress.proofs.Finishes.{over-or-lasts, last-enough, finishes}
 use Rattle.progress.proofs.NotRefused.{not-refused}
 
@@ -20,7 +21,7 @@ module _ (R : Run) (P : Premises R) {Made : Signature → Type 0} (judged : Judg
   replied : (u : ℕ) (m : Message) (id : ReplicaId) → Lasts R x o t → Sends R x o u m → Reached R x Made o u m t id → Replied R x Made o u m t id
   replied u m id lasts s r =
       let sent = s .lasts .has-begun in
-      let lasts-then : Lasts R x o (r .handed .i) = record { has-begun = omega (arith, r .handed .after-sent); goes-on = λ v low high at. lasts .goes-on v low (omega (arith, r .before)) at } in
+      let lasts-then : Lasts R x o (r .handed .i) = lasted R x o (omega (arith, r .handed .after-sent)) (omega (arith, r .before)) lasts in
       let (reply, replies) = not-refused R x P judged o u (r .handed .i) m id (r .handed .signature) (r .handed .verdicts) s (r .handed .after-sent) lasts-then (λ v nonce low high. one v nonce low (omega (arith, r .before))) (r .not-withdrawn) (r .boxed) (r .handed .event-is) in
       record {
         handed = r .handed;

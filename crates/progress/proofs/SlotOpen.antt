@@ -39,7 +39,7 @@ use Rattle.wire.specs.Parts.{timestampIfThere}
 use Rattle.wire.specs.Proof.{PreparedProof, WrittenProof}
 use Rattle.progress.specs.Operations.{OneLaptop, Invocation, Lasts, Sends}
 use Rattle.progress.proofs.Asked.{Current, AskedNow, sent-now, asked-now}
-use Rattle.progress.proofs.Course.{begun-correct, begun-registered, heard-later, sends-for}
+use Rattle.progress.proofs.Course.{begun-correct, lasted, begun-registered, heard-later, sends-for}
 use Rattle.progress.proofs.HeldSound.{step-for}
 use Rattle.progress.proofs.OwnWritten.{lastAt, lastTimestamp, last-kept, own-below}
 
@@ -169,7 +169,7 @@ module _ (R : Run) (P : Premises R) (x : RegisterId) where
       kept : (v : ℕ) → o .begun < v → v ≤ t → lastAt R P (o .id) own x t ≡ lastAt R P (o .id) own x v
       kept v low high =
           last-kept R P (o .id) own x registered o refl t (omega arith) lasts
-          ∙ sym (last-kept R P (o .id) own x registered o refl v low (record { has-begun = omega arith; goes-on = λ w after before at. lasts .goes-on w after (omega arith) at }))
+          ∙ sym (last-kept R P (o .id) own x registered o refl v low (lasted R x o (omega arith) (omega arith) lasts))
 
       raises : lastTimestamp R P (o .id) own x t ≤ raised (timestampIfThere last) slots
       raises = rw (asks .2, kept u begun (omega arith)) (raised-least (lastAt R P (o .id) own x u) slots)

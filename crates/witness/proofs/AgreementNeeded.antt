@@ -14,7 +14,6 @@ use Rattle.base.proofs.Booleans.{or-true}
 use Rattle.base.specs.ClientSet.{has}
 use Rattle.base.specs.Counting.{count}
 use Rattle.base.specs.Outcome.{refused}
-use Rattle.base.specs.Range.{within}
 use Rattle.base.specs.Same.{same}
 use Rattle.progress.specs.Operations.{OneLaptop, Invocation, Lasts, Sends}
 use Rattle.progress.specs.Progress.{Progress}
@@ -29,13 +28,13 @@ use Rattle.wire.specs.Message.{Message, READ-STAMP, body}
 use Rattle.wire.specs.Signatures.{Signature, signaturesTo}
 use Rattle.witness.proofs.Answers.{code}
 use Rattle.witness.proofs.AnyWrite.{Writing, prepare, asking, prepare-bytes}
-use Rattle.witness.proofs.Cast.{replica-1, register-1, client-2, lathe, lathe-digest, cards, right-digests, different-cards}
-use Rattle.witness.proofs.Computing.{messages, steps, digests}
+use Rattle.witness.proofs.Cast.{replica-1, register-1, client-2, lathe, lathe-digest}
+use Rattle.witness.proofs.Computing.{messages}
 use Rattle.witness.proofs.FirstWrite.{proof, write-under-way, write-done}
 use Rattle.witness.proofs.Invoked.{same-bytes, not-withdrawn, one-laptop, invoked, lasts-told, sends-in}
 use Rattle.witness.proofs.Judging.{passing, AllFair, one-each, each-passes, Made}
-use Rattle.witness.proofs.Replay.{plays, freshStore, played}
-use Rattle.witness.proofs.Story.{Line, _↝_, _↛_, each, wellTold, told, Told, hasBytes, NoOtherCards, AllTrue, trueVerdicts, newNonces, premises-told, correctIn, replicasTo, clientsTo, refused-told, event-told}
+use Rattle.witness.proofs.Checked.{tests, Checked, runOf, goes-as-told, meets-premises}
+use Rattle.witness.proofs.Story.{Line, _↝_, _↛_, Told, correctIn, replicasTo, clientsTo, refused-told, event-told}
 
 -- Client 2's write, at 2.2: it shows the proof of 1.1, which has an entry of replica 4.
 abbrev shown : Writing
@@ -57,36 +56,20 @@ story =
     -- 22: replica 1 does not find it genuine.
     ++ (to-replica replica-1 (prepare-bytes shown) last-not ↛ 10 ∷ [])
 
-well-told : each (wellTold 3 2) 0 story ≡ true
-unfolding story messages hasBytes
-well-told = refl
+checked : Checked 3 2 story
+unfolding story tests
+checked = record { at-most-four = lit≤ tt; at-most-96 = lit≤ tt; well-told = refl; answers = refl; few-faulty = lit≤ tt; verdicts-true = refl; new-nonces = refl; no-other-cards = refl }
 
 pub run : Run
-run = told 3 2 (lit≤ tt) (lit≤ tt) story well-told
-
-answers-as-told : plays (freshStore run 2) story ≡ true
-unfolding run story steps digests plays
-answers-as-told = refl
+run = runOf checked
 
 as-told : Told run story
 unfolding run
-as-told = played run 2 story refl answers-as-told
-
-verdicts-true : AllTrue run story
-unfolding run story messages trueVerdicts
-verdicts-true = refl
-
-no-makings : newNonces story ≡ true
-unfolding story newNonces
-no-makings = refl
-
-no-other-cards : NoOtherCards run story cards
-unfolding story messages cards
-no-other-cards = refl
+as-told = goes-as-told checked
 
 premises : Premises run
-unfolding run count within
-premises = premises-told run story as-told cards (lit≤ tt) verdicts-true no-makings no-other-cards right-digests different-cards
+unfolding run
+premises = meets-premises checked
 
 -- ---- The first two conditions hold, for any say on what was made
 

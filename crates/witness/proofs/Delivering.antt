@@ -33,12 +33,12 @@ use Rattle.wire.specs.Checks.{all}
 use Rattle.wire.specs.Message.{Message, READ, body}
 use Rattle.wire.specs.Signatures.{signaturesTo}
 use Rattle.witness.proofs.Answers.{code}
-use Rattle.witness.proofs.Cast.{replica-1, replica-2, replica-3, register-2, client-1, signature, from-replica-for, from-client-for, stale, one, cards, right-digests, different-cards}
-use Rattle.witness.proofs.Computing.{messages, steps, digests}
+use Rattle.witness.proofs.Cast.{replica-1, replica-2, replica-3, register-2, client-1, signature, from-replica-for, from-client-for, stale, one}
+use Rattle.witness.proofs.Computing.{messages}
 use Rattle.witness.proofs.Invoked.{same-bytes, not-withdrawn, one-laptop, invoked}
 use Rattle.witness.proofs.Judging.{passing, AllFair, asBoxes, Made, judged-told}
-use Rattle.witness.proofs.Replay.{plays, freshStore, played}
-use Rattle.witness.proofs.Story.{Line, _↝_, each, wellTold, told, Told, hasBytes, NoOtherCards, AllTrue, trueVerdicts, newNonces, premises-told, event-told, only-counted, done-told, sends-told}
+use Rattle.witness.proofs.Checked.{tests, Checked, runOf, goes-as-told, meets-premises}
+use Rattle.witness.proofs.Story.{Line, _↝_, each, told, Told, event-told, only-counted, done-told, sends-told}
 
 abbrev pub asks : Message
 asks = READ client-1 1
@@ -64,36 +64,20 @@ story =
     ∷ to-client client-1 (shown-bytes replica-3) one ↝ done start startCard empty
     ∷ []
 
-well-told : each (wellTold 3 1) 0 story ≡ true
-unfolding story messages hasBytes
-well-told = refl
+checked : Checked 3 1 story
+unfolding story tests
+checked = record { at-most-four = lit≤ tt; at-most-96 = lit≤ tt; well-told = refl; answers = refl; few-faulty = lit≤ tt; verdicts-true = refl; new-nonces = refl; no-other-cards = refl }
 
 pub run : Run
-run = told 3 1 (lit≤ tt) (lit≤ tt) story well-told
-
-answers-as-told : plays (freshStore run 1) story ≡ true
-unfolding run story steps digests plays
-answers-as-told = refl
+run = runOf checked
 
 pub as-told : Told run story
 unfolding run
-as-told = played run 1 story refl answers-as-told
-
-verdicts-true : AllTrue run story
-unfolding run story messages trueVerdicts
-verdicts-true = refl
-
-no-makings : newNonces story ≡ true
-unfolding story newNonces
-no-makings = refl
-
-no-other-cards : NoOtherCards run story cards
-unfolding story messages cards
-no-other-cards = refl
+as-told = goes-as-told checked
 
 premises : Premises run
-unfolding run count within
-premises = premises-told run story as-told cards (lit≤ tt) verdicts-true no-makings no-other-cards right-digests different-cards
+unfolding run
+premises = meets-premises checked
 
 all-fair : AllFair asBoxes story
 unfolding story messages signaturesTo all passing

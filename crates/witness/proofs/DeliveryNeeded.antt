@@ -29,14 +29,14 @@ use Rattle.wire.specs.Checks.{all}
 use Rattle.wire.specs.Message.{Message, READ, WRITE, body, encode}
 use Rattle.wire.specs.Signatures.{Signature, signaturesTo}
 use Rattle.witness.proofs.Answers.{no-test, code}
-use Rattle.witness.proofs.Cast.{replica-1, replica-2, replica-3, register-1, client-1, client-2, signature, from-replica, from-client, stale, one, four, service, cards, right-digests, different-cards}
-use Rattle.witness.proofs.Computing.{messages, steps, digests}
+use Rattle.witness.proofs.Cast.{replica-1, replica-2, replica-3, register-1, client-1, client-2, signature, from-replica, from-client, stale, one, four, service}
+use Rattle.witness.proofs.Computing.{messages}
 use Rattle.witness.proofs.Delivering.{of-three}
 use Rattle.witness.proofs.FirstWrite.{proof, write, written, shows, write-under-way, write-done}
 use Rattle.witness.proofs.Invoked.{same-bytes, one-laptop, invoked, lasts-told}
 use Rattle.witness.proofs.Judging.{passing, AllFair, asBoxes, Made, judged-told}
-use Rattle.witness.proofs.Replay.{plays, freshStore, played}
-use Rattle.witness.proofs.Story.{Line, _↝_, _↛_, each, wellTold, told, Told, hasBytes, NoOtherCards, AllTrue, trueVerdicts, newNonces, premises-told, AllBetween, between, event-told, sends-told}
+use Rattle.witness.proofs.Checked.{tests, Checked, runOf, goes-as-told, meets-premises}
+use Rattle.witness.proofs.Story.{Line, _↝_, _↛_, each, told, Told, AllBetween, between, event-told, sends-told}
 
 -- As `Replied`, but the reply's bytes may have come at any time.
 pub record RepliedByBytes (R : Run) (x : RegisterId) (Made : Signature → Type 0) (o : Invocation R x) (u : ℕ) (message : Message) (t : ℕ) (id : ReplicaId) : Type 0 where
@@ -92,36 +92,20 @@ story =
     ∷ to-client client-2 (from-replica replica-2 written) one ↛ 18
     ∷ []
 
-well-told : each (wellTold 3 2) 0 story ≡ true
-unfolding story messages hasBytes
-well-told = refl
+checked : Checked 3 2 story
+unfolding story tests
+checked = record { at-most-four = lit≤ tt; at-most-96 = lit≤ tt; well-told = refl; answers = refl; few-faulty = lit≤ tt; verdicts-true = refl; new-nonces = refl; no-other-cards = refl }
 
 pub run : Run
-run = told 3 2 (lit≤ tt) (lit≤ tt) story well-told
-
-answers-as-told : plays (freshStore run 2) story ≡ true
-unfolding run story steps digests plays
-answers-as-told = refl
+run = runOf checked
 
 as-told : Told run story
 unfolding run
-as-told = played run 2 story refl answers-as-told
-
-verdicts-true : AllTrue run story
-unfolding run story messages trueVerdicts
-verdicts-true = refl
-
-no-makings : newNonces story ≡ true
-unfolding story newNonces
-no-makings = refl
-
-no-other-cards : NoOtherCards run story cards
-unfolding story messages cards
-no-other-cards = refl
+as-told = goes-as-told checked
 
 premises : Premises run
-unfolding run count within
-premises = premises-told run story as-told cards (lit≤ tt) verdicts-true no-makings no-other-cards right-digests different-cards
+unfolding run
+premises = meets-premises checked
 
 all-fair : AllFair asBoxes story
 unfolding story messages signaturesTo all passing

@@ -4,6 +4,7 @@ pub mod AnyWrite
 pub mod BoundNeeded
 pub mod Cards
 pub mod Cast
+pub mod Checked
 pub mod Computing
 pub mod Delivering
 pub mod DeliveryNeeded

@@ -28,11 +28,11 @@ use Rattle.wire.proofs.RoundTrip.{body-message}
 use Rattle.wire.specs.Proof.{proofBytes}
 use Rattle.witness.proofs.Answers.{code, goesOn, is-accepted}
 use Rattle.witness.proofs.AnyWrite.{Writing, prepare, prepared, prepared-proof, written-proof, asking, preparing-at, prepare-bytes, whole-write}
-use Rattle.witness.proofs.Cast.{replica-1, replica-2, replica-3, register-1, client-1, client-2, 1·1, by-1-2-4, one, three, service, lathe, service-digest, lathe-digest, cards, right-digests, different-cards}
-use Rattle.witness.proofs.Computing.{messages, steps, digests}
+use Rattle.witness.proofs.Cast.{replica-1, replica-2, replica-3, register-1, client-1, client-2, 1·1, by-1-2-4, one, three, service, lathe, service-digest, lathe-digest}
+use Rattle.witness.proofs.Computing.{messages}
 use Rattle.witness.proofs.FirstWrite.{first}
-use Rattle.witness.proofs.Replay.{plays, freshStore, played}
-use Rattle.witness.proofs.Story.{Line, _↝_, _↛_, each, wellTold, told, Told, hasBytes, NoOtherCards, AllTrue, trueVerdicts, newNonces, premises-told, none-between, Sends, sends-told, refused-told, event-told, answer-told, AllBetween, finished-told, broken-off, allBytes, all-bytes}
+use Rattle.witness.proofs.Checked.{tests, Checked, runOf, goes-as-told, meets-premises}
+use Rattle.witness.proofs.Story.{Line, _↝_, _↛_, Told, none-between, Sends, sends-told, refused-told, event-told, answer-told, AllBetween, finished-told, broken-off, allBytes, all-bytes}
 
 -- ---- The writes
 
@@ -99,38 +99,22 @@ story =
     -- 39 to 54: it writes `lathe` again, and shows that proof: its slots are closed, and it is done.
     ∷ whole-write new-write)))
 
-well-told : each (wellTold 3 2) 0 story ≡ true
-unfolding story messages hasBytes
-well-told = refl
+checked : Checked 3 2 story
+unfolding story tests
+checked = record { at-most-four = lit≤ tt; at-most-96 = lit≤ tt; well-told = refl; answers = refl; few-faulty = lit≤ tt; verdicts-true = refl; new-nonces = refl; no-other-cards = refl }
 
 pub run : Run
-run = told 3 2 (lit≤ tt) (lit≤ tt) story well-told
-
-answers-as-told : plays (freshStore run 2) story ≡ true
-unfolding run story steps digests plays
-answers-as-told = refl
+run = runOf checked
 
 pub as-told : Told run story
 unfolding run
-as-told = played run 2 story refl answers-as-told
-
-verdicts-true : AllTrue run story
-unfolding run story messages trueVerdicts
-verdicts-true = refl
-
-new : newNonces story ≡ true
-unfolding story messages newNonces
-new = refl
-
-no-other-cards : NoOtherCards run story cards
-unfolding story messages cards
-no-other-cards = refl
+as-told = goes-as-told checked
 
 -- ---- The run meets the premises, and the theorem is applied to it
 
 pub premises : Premises run
-unfolding run count within
-premises = premises-told run story as-told cards (lit≤ tt) verdicts-true new no-other-cards right-digests different-cards
+unfolding run
+premises = meets-premises checked
 
 pub claims : (x : RegisterId) → Claims run x
 claims = demand-3 run premises

@@ -26,11 +26,11 @@ use Rattle.wire.specs.Message.{Message, READ-STAMP, PREPARE, WRITE, READ, STAMP
 use Rattle.wire.specs.Proof.{PreparedProof, WrittenProof}
 use Rattle.wire.specs.Sha256.{sha256}
 use Rattle.witness.proofs.Answers.{code}
-use Rattle.witness.proofs.Cast.{replica-1, replica-2, replica-3, replica-4, register-1, client-1, client-2, client-3, client-4, 1·1, 1·4, 2·2, 3·1, at-1·1, by-1-2-4, signature, entry, from-replica, from-client, stale, one, three, four, seven, not-genuine, service, lathe, scrapped, service-digest, lathe-digest, cards, right-digests, different-cards}
-use Rattle.witness.proofs.Computing.{messages, steps, digests}
+use Rattle.witness.proofs.Cast.{replica-1, replica-2, replica-3, replica-4, register-1, client-1, client-2, client-3, client-4, 1·1, 1·4, 2·2, 3·1, at-1·1, by-1-2-4, signature, entry, from-replica, from-client, stale, one, three, four, seven, not-genuine, service, lathe, scrapped, service-digest, lathe-digest}
+use Rattle.witness.proofs.Computing.{messages, steps}
 use Rattle.witness.proofs.FirstWrite.{proof, prepared, write, written, shows, write-under-way, write-done}
-use Rattle.witness.proofs.Replay.{plays, freshStore, played}
-use Rattle.witness.proofs.Story.{Line, _↝_, _↛_, each, wellTold, told, Told, hasBytes, NoOtherCards, AllTrue, trueVerdicts, newNonces, premises-told, only-counted, Sends, sends-told, done-told, refused-told, finished-told, allBytes, genuine-told}
+use Rattle.witness.proofs.Checked.{tests, Checked, runOf, goes-as-told, meets-premises}
+use Rattle.witness.proofs.Story.{Line, _↝_, _↛_, Told, trueVerdicts, only-counted, Sends, sends-told, done-told, refused-told, finished-told, allBytes, genuine-told}
 
 -- ---- What is said
 
@@ -178,38 +178,22 @@ story =
     ∷ to-replica replica-3 (from-client client-4 other-card) four ↛ 14
     ∷ []
 
-well-told : each (wellTold 3 3) 0 story ≡ true
-unfolding story messages hasBytes
-well-told = refl
+checked : Checked 3 3 story
+unfolding story tests
+checked = record { at-most-four = lit≤ tt; at-most-96 = lit≤ tt; well-told = refl; answers = refl; few-faulty = lit≤ tt; verdicts-true = refl; new-nonces = refl; no-other-cards = refl }
 
 pub run : Run
-run = told 3 3 (lit≤ tt) (lit≤ tt) story well-told
-
-answers-as-told : plays (freshStore run 3) story ≡ true
-unfolding run story steps digests plays
-answers-as-told = refl
+run = runOf checked
 
 pub as-told : Told run story
 unfolding run
-as-told = played run 3 story refl answers-as-told
-
-verdicts-true : AllTrue run story
-unfolding run story messages trueVerdicts
-verdicts-true = refl
-
-no-makings : newNonces story ≡ true
-unfolding story newNonces
-no-makings = refl
-
-no-other-cards : NoOtherCards run story cards
-unfolding story messages cards
-no-other-cards = refl
+as-told = goes-as-told checked
 
 -- ---- The run meets the premises, and the theorem is applied to it
 
 pub premises : Premises run
-unfolding run count within
-premises = premises-told run story as-told cards (lit≤ tt) verdicts-true no-makings no-other-cards right-digests different-cards
+unfolding run
+premises = meets-premises checked
 
 pub claims : (x : RegisterId) → Claims run x
 claims = demand-3 run premises

@@ -8,7 +8,6 @@ use Prim.Native.Nat.{ℕ}
 use native.Mathlib.Omega.{arith}
 use lib.Dec.{lit<, lit≤}
 use lib.ListN.{getD}
-use Rattle.base.specs.Counting.{count}
 use Rattle.base.specs.Outcome.{refused}
 use Rattle.base.specs.Range.{within}
 use Rattle.base.specs.declared.party.RegisterId.{RegisterId}
@@ -21,11 +20,11 @@ use Rattle.run.specs.Run.{begins-read, to-replica, to-client, Run, answerAt}
 use Rattle.wire.specs.Message.{Message, READ-STAMP, READ, CARD}
 use Rattle.wire.specs.Proof.{PreparedProof}
 use Rattle.witness.proofs.Answers.{code}
-use Rattle.witness.proofs.Cast.{replica-1, replica-2, replica-3, replica-4, register-1, register-2, client-1, viewer-65, at-1·1, by-1-2-4, from-replica, from-replica-for, from-client-for, stale, one, three, four, not-genuine, service, lathe, service-digest, lathe-digest, cards, right-digests, different-cards}
-use Rattle.witness.proofs.Computing.{messages, steps, digests}
+use Rattle.witness.proofs.Cast.{replica-1, replica-2, replica-3, replica-4, register-1, register-2, client-1, viewer-65, at-1·1, by-1-2-4, from-replica, from-replica-for, from-client-for, stale, one, three, four, not-genuine, service, lathe, service-digest, lathe-digest}
+use Rattle.witness.proofs.Computing.{messages, steps}
 use Rattle.witness.proofs.FirstWrite.{proof-of, written, under-way, finishing}
-use Rattle.witness.proofs.Replay.{plays, freshStore, played}
-use Rattle.witness.proofs.Story.{Line, _↝_, _↛_, each, wellTold, told, Told, hasBytes, NoOtherCards, AllTrue, trueVerdicts, newNonces, premises-told, refused-told, finished-told, allBytes, genuine-told}
+use Rattle.witness.proofs.Checked.{tests, Checked, runOf, goes-as-told, meets-premises}
+use Rattle.witness.proofs.Story.{Line, _↝_, _↛_, Told, trueVerdicts, refused-told, finished-told, allBytes, genuine-told}
 
 -- Two writes of one client, of registers 1 and 2, at one timestamp with different cards; and a genuine prepared proof of each.
 pub record TwoDigests (R : Run) : Type 0 where
@@ -84,36 +83,20 @@ story =
     ∷ to-client viewer-65 (shown replica-4 (stale 1 viewer-65)) one ↝ done at-1·1 lathe by-1-2-4
     ∷ []
 
-well-told : each (wellTold 3 65) 0 story ≡ true
-unfolding story messages hasBytes
-well-told = refl
+checked : Checked 3 65 story
+unfolding story tests
+checked = record { at-most-four = lit≤ tt; at-most-96 = lit≤ tt; well-told = refl; answers = refl; few-faulty = lit≤ tt; verdicts-true = refl; new-nonces = refl; no-other-cards = refl }
 
 pub run : Run
-run = told 3 65 (lit≤ tt) (lit≤ tt) story well-told
-
-answers-as-told : plays (freshStore run 65) story ≡ true
-unfolding run story steps digests plays
-answers-as-told = refl
+run = runOf checked
 
 pub as-told : Told run story
 unfolding run
-as-told = played run 65 story refl answers-as-told
-
-verdicts-true : AllTrue run story
-unfolding run story messages trueVerdicts
-verdicts-true = refl
-
-no-makings : newNonces story ≡ true
-unfolding story newNonces
-no-makings = refl
-
-no-other-cards : NoOtherCards run story cards
-unfolding story messages cards
-no-other-cards = refl
+as-told = goes-as-told checked
 
 pub premises : Premises run
-unfolding run count within
-premises = premises-told run story as-told cards (lit≤ tt) verdicts-true no-makings no-other-cards right-digests different-cards
+unfolding run
+premises = meets-premises checked
 
 pub faulty : run .correct-replica replica-4 ≡ false
 unfolding run within

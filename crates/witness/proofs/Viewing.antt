@@ -5,7 +5,6 @@ use mathlib.Core.List.{List, [], _∷_, _++_}
 use mathlib.Core.Option.{some}
 use Prim.Native.Nat.{ℕ, suc, _≤_, _<_}
 use lib.Dec.{lit<, lit≤}
-use Rattle.base.specs.Counting.{count}
 use Rattle.base.specs.Range.{within}
 use Rattle.base.specs.ReplicaSet.{empty}
 use Rattle.base.specs.Timestamp.{number, start}
@@ -21,11 +20,11 @@ use Rattle.run.specs.Run.{begins-read, to-replica, to-client, Run, event, Corre
 use Rattle.wire.specs.Acceptance.{replica}
 use Rattle.wire.specs.Message.{Message, READ}
 use Rattle.witness.proofs.Answers.{code}
-use Rattle.witness.proofs.Cast.{replica-1, replica-2, replica-3, replica-4, register-1, client-1, viewer-65, at-1·1, by-1-2-4, from-replica, from-client, stale, one, four, service, cards, right-digests, different-cards}
-use Rattle.witness.proofs.Computing.{messages, steps, digests}
+use Rattle.witness.proofs.Cast.{replica-1, replica-2, replica-3, replica-4, register-1, client-1, viewer-65, at-1·1, by-1-2-4, from-replica, from-client, stale, one, four, service}
+use Rattle.witness.proofs.Computing.{messages}
 use Rattle.witness.proofs.FirstWrite.{shows, write-under-way, write-done}
-use Rattle.witness.proofs.Replay.{plays, freshStore, played}
-use Rattle.witness.proofs.Story.{Line, _↝_, each, wellTold, told, Told, hasBytes, NoOtherCards, AllTrue, trueVerdicts, newNonces, premises-told, finished-told, viewed-told}
+use Rattle.witness.proofs.Checked.{tests, Checked, runOf, goes-as-told, meets-premises}
+use Rattle.witness.proofs.Story.{Line, _↝_, Told, finished-told, viewed-told}
 
 -- A view begun after a write was done shows that write and its signers, although the CARD that makes its quorum is a faulty replica's and shows 0.0.
 pub record ShowsWrite (R : Run) : Type 0 where
@@ -81,36 +80,20 @@ story =
     -- 28 to 33: replica 2 shows 1.1, and replica 3 still 0.0.
     ++ view 3 replica-2 shows four replica-3 (done at-1·1 service by-1-2-4)
 
-well-told : each (wellTold 3 65) 0 story ≡ true
-unfolding story messages hasBytes
-well-told = refl
+checked : Checked 3 65 story
+unfolding story tests
+checked = record { at-most-four = lit≤ tt; at-most-96 = lit≤ tt; well-told = refl; answers = refl; few-faulty = lit≤ tt; verdicts-true = refl; new-nonces = refl; no-other-cards = refl }
 
 pub run : Run
-run = told 3 65 (lit≤ tt) (lit≤ tt) story well-told
-
-answers-as-told : plays (freshStore run 65) story ≡ true
-unfolding run story steps digests plays
-answers-as-told = refl
+run = runOf checked
 
 as-told : Told run story
 unfolding run
-as-told = played run 65 story refl answers-as-told
-
-verdicts-true : AllTrue run story
-unfolding run story messages trueVerdicts
-verdicts-true = refl
-
-no-makings : newNonces story ≡ true
-unfolding story newNonces
-no-makings = refl
-
-no-other-cards : NoOtherCards run story cards
-unfolding story messages cards
-no-other-cards = refl
+as-told = goes-as-told checked
 
 pub premises : Premises run
-unfolding run count within
-premises = premises-told run story as-told cards (lit≤ tt) verdicts-true no-makings no-other-cards right-digests different-cards
+unfolding run
+premises = meets-premises checked
 
 -- ---- The write and the views
 
