@@ -8,12 +8,25 @@ use borrow.Author.Tests.{eqb-true, eqb-false, ne-eqb}
 use lib.Dec.{eqb}
 use Rattle.base.specs.declared.party.ReplicaId.{ReplicaId}
 use Rattle.base.specs.Counting.{replica, one, count}
+use Rattle.base.proofs.Apart.{apart}
 
 -- Tests that agree on 1 to n count alike.
 pub count-agree : (n : ℕ) (p q : ReplicaId → Bool) → ((i : ℕ) → 1 ≤ i → i ≤ n → p (replica i) ≡ q (replica i)) → count n p ≡ count n q
 unfolding count
 count-agree zero p q h = refl
 count-agree (suc n) p q h = rw (h (suc n) (omega arith) (omega arith), count-agree n p q (λ i low high. h i low (omega arith)))
+
+-- Who passes one test passes another.
+pub count-most : (n : ℕ) (p q : ReplicaId → Bool) → ((i : ReplicaId) → 1 ≤ i .0 → i .0 ≤ n → p i ≡ true → q i ≡ true) → count n p ≤ count n q
+unfolding count
+count-most zero p q h = omega arith
+count-most (suc n) p q h = go (p (replica (suc n))) (q (replica (suc n))) refl refl (count-most n p q (λ i l k. h i l (omega arith)))
+  where
+    go : (a b : Bool) → p (replica (suc n)) ≡ a → q (replica (suc n)) ≡ b → count n p ≤ count n q → one a + count n p ≤ one b + count n q
+    go true true e k l = omega arith
+    go true false e k l = let yes = h (replica (suc n)) (omega arith) (omega arith) e in apart (cc)
+    go false true e k l = omega arith
+    go false false e k l = omega arith
 
 pub count-none : (n : ℕ) → count n (λ (i : ReplicaId). false) ≡ 0
 unfolding count

@@ -3,6 +3,7 @@ pub mod BitMap
 pub mod Bytes
 pub mod ClientSet
 pub mod Counting
+pub mod Falling
 pub mod Mask
 pub mod Outcome
 pub mod Party

@@ -17,6 +17,10 @@ number t = t .count * 256 + t .client .0
 abbrev pub ofNumber : ℕ → Timestamp
 ofNumber n = record { count = n / 256; client = record { 0 = n % 256 } }
 
+-- The client of a timestamp's number.
+abbrev pub clientOf : ℕ → ClientId
+clientOf timestamp = ofNumber timestamp .client
+
 -- "Counts compare first, then desks."
 abbrev pub isBefore : Timestamp → Timestamp → Bool
 isBefore s t = ltb (s .count) (t .count) || (eqb (s .count) (t .count) && ltb (s .client .0) (t .client .0))

@@ -20,6 +20,7 @@ use Rattle.base.specs.declared.party.ReplicaId.{ReplicaId}
 use Rattle.base.specs.declared.replica_set.ReplicaSet.{ReplicaSet}
 use Rattle.base.specs.declared.timestamp.Timestamp.{Timestamp}
 use Rattle.base.proofs.Apart.{apart}
+use Rattle.base.proofs.Falling.{passing}
 use Rattle.base.proofs.Range.{bounds}
 use Rattle.protocol.specs.Client.{Answer, send, waits, done, ended, Turn, bestOf, showedBy}
 use Rattle.protocol.specs.Events.{ClientEvent, write-begun, read-begun, reply-handed}
@@ -42,7 +43,7 @@ use Rattle.progress.specs.Counts.{Look, sentIn, cardShown, stampShown, t
 use Rattle.progress.specs.Operations.{Invocation, Lasts, Sends}
 use Rattle.progress.proofs.CardsTaken.{CardsIn, best-shown, card-taken, just, agree, differ}
 use Rattle.progress.proofs.Counted.{countedIn, few-counted}
-use Rattle.progress.proofs.Largest.{equals, Best, none-best, largest-is}
+use Rattle.progress.proofs.Largest.{Best, none-best, largest-is}
 use Rattle.progress.proofs.Members.{empty-count}
 use Rattle.progress.proofs.Seen.{none-before, silent-seen, turn-seen}
 
@@ -304,7 +305,7 @@ module _ (R : Run) (x : RegisterId) (o : Invocation R x) where
   read-course q r = go (client-turn R (o .id) begun-correct (o .begun))
     where
       no-cards : CardsIn (replicaCount (R .f)) [] 0 empty empty
-      no-cards = record { long = sym (empty-count (replicaCount (R .f))); is-best = none-best; top = unfold equals in sym (empty-count (replicaCount (R .f))); part = λ i low high k. k }
+      no-cards = record { long = sym (empty-count (replicaCount (R .f))); is-best = none-best; top = unfold passing in sym (empty-count (replicaCount (R .f))); part = λ i low high k. k }
 
       go : ClientTurn R (o .id) (o .begun) → (isRegister x ≡ true) × Course (suc (o .begun))
       go (rested same silent) = absurd (silent begun-at (o .not-refused .0) (o .not-refused .1))

@@ -13,6 +13,7 @@ use Rattle.base.specs.declared.party.RegisterId.{RegisterId}
 use Rattle.base.specs.declared.party.ReplicaId.{ReplicaId}
 use Rattle.base.specs.declared.replica_set.ReplicaSet.{ReplicaSet}
 use Rattle.base.proofs.Apart.{apart}
+use Rattle.base.proofs.Counting.{count-most}
 use Rattle.protocol.specs.Client.{Answer, send, waits, done, ended}
 use Rattle.protocol.specs.declared.client.Client.{Client}
 use Rattle.run.specs.Claims.{GoesOn}
@@ -30,7 +31,7 @@ use Rattle.progress.specs.Verdicts.{Judged}
 use Rattle.progress.proofs.Awaited.{AwaitsNow, Onward, counts, asks-next, is-over, onward}
 use Rattle.progress.proofs.Counted.{countedIn, few-counted}
 use Rattle.progress.proofs.Course.{not-over, begun-correct, lasted, just-begun, Course, not-idle, course, Step, waits-on, hears, step, heard-at, heard-later}
-use Rattle.progress.proofs.Members.{is-member, count-most}
+use Rattle.progress.proofs.Members.{is-member}
 use Rattle.progress.proofs.Replies.{returned-at, heard-reply, counted-or-taken}
 
 replica-one : (a b : ReplicaId) → replica a ≡ replica b → a ≡ b

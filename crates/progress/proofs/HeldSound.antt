@@ -8,7 +8,7 @@ use Rattle.base.specs.Outcome.{accepted}
 use Rattle.base.specs.Party.{isRegister, registerPlace}
 use Rattle.base.specs.declared.party.RegisterId.{RegisterId}
 use Rattle.base.specs.declared.party.ReplicaId.{ReplicaId}
-use Rattle.base.proofs.Registers.{place-below, place-injective}
+use Rattle.base.proofs.Registers.{place-below}
 use Rattle.base.proofs.Same.{same-itself}
 use Rattle.protocol.specs.Client.{send}
 use Rattle.protocol.specs.Parts.{startCard, cardStands}
@@ -18,7 +18,7 @@ use Rattle.protocol.specs.declared.replica.RegisterReplica.{RegisterReplica}
 use Rattle.protocol.proofs.BankFacts.{fresh-part}
 use Rattle.protocol.proofs.RegisterFacts.{ReplyTo, HeldChange, stays, stores}
 use Rattle.run.specs.Run.{Run, bankAt, registerReplicaAt, registerAt, registerOf, answerAt, At}
-use Rattle.run.proofs.Turns.{good-bank, RegisterTurn, rests, steps, register-turn, RegisterStep, register-step, step-register}
+use Rattle.run.proofs.Turns.{RegisterTurn, rests, steps, register-turn, RegisterStep, register-step, step-register, step-for, step-passed}
 use Rattle.wire.specs.Acceptance.{replica}
 use Rattle.wire.specs.Decode.{registerIn}
 use Rattle.wire.specs.Message.{Message, READ-STAMP, PREPARE, WRITE, READ, STAMP, PREPARED, WRITTEN, CARD}
@@ -46,20 +46,13 @@ module _ (R : Run) (x : RegisterId) where
   reply-sound id t h verdicts (CARD sender nonce card proof client) r e p = absurd e
 
   module _ (registered : isRegister x ≡ true) (id : ReplicaId) (c : R .correct-replica id ≡ true) where
-    -- A step of the register is with a message for it.
-    pub step-for : (t : ℕ) (s : RegisterStep R x id t) → registerIn (s .bytes) ≡ x
-    step-for t s = place-injective (registerIn (s .bytes)) x (s .admitted .registered) registered (s .placed)
-
     step-came : (t : ℕ) (s : RegisterStep R x id t) → Came R t (s .bytes) (s .verdicts) x (s .message)
-    step-came t s = subst (λ (y : RegisterId). Came R t (s .bytes) (s .verdicts) y (s .message)) (step-for t s) (to-a-replica R t id (s .bytes) (s .verdicts) (registerIn (s .bytes)) (s .message) (s .event-is) (s .admitted .decodes))
-
-    step-passed : (t : ℕ) (s : RegisterStep R x id t) → Passed (R .f) (s .message) (s .verdicts)
-    step-passed t s = subst (λ (f : ℕ). Passed f (s .message) (s .verdicts)) (good-bank R id c t .f-is) (s .facts .passed)
+    step-came t s = subst (λ (y : RegisterId). Came R t (s .bytes) (s .verdicts) y (s .message)) (step-for R x registered id t s) (to-a-replica R t id (s .bytes) (s .verdicts) (registerIn (s .bytes)) (s .message) (s .event-is) (s .admitted .decodes))
 
     changed : (t : ℕ) (s : RegisterStep R x id t) (before after : Held) → HeldSound t before → HeldChange before after (s .message) → HeldSound (suc t) after
     changed t s before after h (stays same) = subst (HeldSound (suc t)) (sym same) (held-later t before h)
     changed t s before after h (stores client card proof e stands shown carried) =
-        let sound = taken-sound R t (s .bytes) (s .verdicts) x (s .message) (step-came t s) (step-passed t s) (subst Stands (sym e) stands) in
+        let sound = taken-sound R t (s .bytes) (s .verdicts) x (s .message) (step-came t s) (step-passed R x id c t s) (subst Stands (sym e) stands) in
         let there : Sound R x (suc t) (WRITE client card proof) = subst (Sound R x (suc t)) e sound in
         record { proof = subst (ProofSound R (preparedSignatures x) (suc t)) (sym shown) (there .prepared); stands = rw (shown, carried) stands }
 
@@ -77,7 +70,7 @@ module _ (R : Run) (x : RegisterId) where
         go h (steps s) = rw (s .next-is) (changed t s (registerAt R x id t .held) (s .reply .next .register .held) h (s .facts .held-change))
 
     replied : (t : ℕ) (s : RegisterStep R x id t) → Sound R x t (s .reply .message)
-    replied t s = reply-sound id t (held-sound t) (s .verdicts) (s .message) (s .reply .message) (s .facts .reply-is) (step-passed t s)
+    replied t s = reply-sound id t (held-sound t) (s .verdicts) (s .message) (s .reply .message) (s .facts .reply-is) (step-passed R x id c t s)
 
 -- What a correct replica sends is sound, for the register of its event.
 pub replied-sound : (R : Run) (id : ReplicaId) → R .correct-replica id ≡ true → (t : ℕ) (m : Message) (at : At R t (replica id)) → answerAt R t ≡ accepted (send m) → Sound R (registerOf (at .0)) t m

@@ -2,11 +2,10 @@
 use mathlib.Core.Path.{_≡_, refl, sym, ap, _∙_}
 use mathlib.Core.Logic.{_⊎_, inl, inr, ⊎-elim}
 use mathlib.Core.Bool.{Bool, true, false, _||_}
-use Prim.Native.Nat.{ℕ, zero, suc, _+_, _≤_}
-use native.Mathlib.Omega.{arith}
+use Prim.Native.Nat.{ℕ, _≤_}
 use borrow.Author.Tests.{eqb-true, eq-eqb}
 use lib.Dec.{eqb}
-use Rattle.base.specs.Counting.{replica as numbered, one, count}
+use Rattle.base.specs.Counting.{replica as numbered, count}
 use Rattle.base.specs.ReplicaSet.{empty, has, with}
 use Rattle.base.specs.declared.party.ReplicaId.{ReplicaId}
 use Rattle.base.specs.declared.replica_set.ReplicaSet.{ReplicaSet}
@@ -34,15 +33,3 @@ module _ (set : ReplicaSet) (r i : ReplicaId) (low : 1 ≤ i .0) (high : i .0 �
 
 pub empty-count : (n : ℕ) → count n (has empty) ≡ 0
 empty-count n = count-agree n (has empty) (λ (i : ReplicaId). false) (λ i low high. has-empty (numbered i)) ∙ count-none n
-
--- Who passes one test passes another.
-pub count-most : (n : ℕ) (p q : ReplicaId → Bool) → ((i : ReplicaId) → 1 ≤ i .0 → i .0 ≤ n → p i ≡ true → q i ≡ true) → count n p ≤ count n q
-unfolding count
-count-most zero p q h = omega arith
-count-most (suc n) p q h = go (p (numbered (suc n))) (q (numbered (suc n))) refl refl (count-most n p q (λ i l k. h i l (omega arith)))
-  where
-    go : (a b : Bool) → p (numbered (suc n)) ≡ a → q (numbered (suc n)) ≡ b → count n p ≤ count n q → one a + count n p ≤ one b + count n q
-    go true true e k l = omega arith
-    go true false e k l = let yes = h (numbered (suc n)) (omega arith) (omega arith) e in apart (cc)
-    go false true e k l = omega arith
-    go false false e k l = omega arith

@@ -12,7 +12,7 @@ use lib.Dec.{eqb}
 use lib.ListN.{getD, replicate}
 use Rattle.base.specs.Outcome.{accepted, guard}
 use Rattle.base.specs.Party.{isWriter, isRegister, registerPlace}
-use Rattle.base.specs.Timestamp.{number}
+use Rattle.base.specs.Timestamp.{number, clientOf}
 use Rattle.base.specs.declared.party.ClientId.{ClientId}
 use Rattle.base.specs.declared.party.RegisterId.{RegisterId}
 use Rattle.base.specs.declared.party.ReplicaId.{ReplicaId}
@@ -28,11 +28,11 @@ use Rattle.protocol.specs.declared.replica.Register.{Register}
 use Rattle.protocol.specs.declared.replica.RegisterReplica.{RegisterReplica}
 use Rattle.protocol.specs.declared.replica.Slots.{Slots}
 use Rattle.protocol.proofs.BankFacts.{fresh-part}
-use Rattle.protocol.proofs.RegisterFacts.{clientOf, ReplyTo}
+use Rattle.protocol.proofs.RegisterFacts.{ReplyTo}
 use Rattle.run.specs.Premises.{Premises}
 use Rattle.run.specs.Run.{to-replica, Run, bankAt, registerReplicaAt, registerAt, registerOf, Said}
 use Rattle.run.proofs.SentMessages.{said-later, step-said}
-use Rattle.run.proofs.Turns.{same-client, Heard, RegisterTurn, rests, steps, register-turn, RegisterStep}
+use Rattle.run.proofs.Turns.{same-client, Heard, RegisterTurn, rests, steps, register-turn, RegisterStep, step-for}
 use Rattle.wire.specs.Acceptance.{client}
 use Rattle.wire.specs.Message.{Message, PREPARE, PREPARED}
 use Rattle.wire.specs.Parts.{timestampIfThere}
@@ -40,7 +40,6 @@ use Rattle.wire.specs.Proof.{PreparedProof, WrittenProof}
 use Rattle.progress.specs.Operations.{OneLaptop, Invocation, Lasts, Sends}
 use Rattle.progress.proofs.Asked.{Current, AskedNow, sent-now, asked-now}
 use Rattle.progress.proofs.Course.{begun-correct, lasted, begun-registered, heard-later, sends-for}
-use Rattle.progress.proofs.HeldSound.{step-for}
 use Rattle.progress.proofs.OwnWritten.{lastAt, lastTimestamp, last-kept, own-below}
 
 -- ---- Slots
@@ -116,7 +115,7 @@ module _ (R : Run) (P : Premises R) (x : RegisterId) where
         let mine : clientOf timestamp ≡ by = same-client (clientOf timestamp) by (omega arith) in
         let replied : s .reply .message ≡ PREPARED (registerReplicaAt R x id t .id) timestamp digest = subst (λ (m : Message). ReplyTo (registerReplicaAt R x id t) m (s .reply .message)) e (s .facts .reply-is) in
         let put : slotDigest slots by ≡ digest = subst (λ (i : ClientId). slotDigest slots i ≡ digest) mine (s .facts .prepared-sent (registerReplicaAt R x id t .id) timestamp digest replied .3) in
-        let said = step-said R P x id t s (s .reply .message) ((to-replica id (s .bytes) (s .verdicts), s .event-is, refl), step-for R x registered id c t s, s .answer-is) (PREPARE by timestamp digest proof last) e c′ in
+        let said = step-said R P x id t s (s .reply .message) ((to-replica id (s .bytes) (s .verdicts), s .event-is, refl), step-for R x registered id t s, s .answer-is) (PREPARE by timestamp digest proof last) e c′ in
         let there : Said R x (client by) (PREPARE by timestamp (slotDigest slots by) proof last) (suc t) =
         subst (λ (d : List ℕ). Said R x (client by) (PREPARE by timestamp d proof last) (suc t)) (sym put) (said-later R x (client by) _ t (suc t) (omega arith) said) in
         inr (proof, last, subst (λ (y : Register). Said R x (client by) (PREPARE by (slotTimestamp (y .slots) by) (slotDigest (y .slots) by) proof last) (suc t)) (sym (s .next-is)) there)

@@ -13,7 +13,7 @@ use lib.Seq.{getD-set-same, getD-set-other}
 use Rattle.base.specs.Outcome.{accepted, guard}
 use Rattle.base.specs.Party.{isWriter}
 use Rattle.base.specs.Same.{same}
-use Rattle.base.specs.Timestamp.{number, ofNumber, successor}
+use Rattle.base.specs.Timestamp.{number, ofNumber, clientOf, successor}
 use Rattle.base.specs.declared.party.ClientId.{ClientId}
 use Rattle.base.specs.declared.party.ReplicaId.{ReplicaId}
 use Rattle.base.specs.declared.timestamp.Timestamp.{Timestamp}
@@ -37,10 +37,6 @@ use Rattle.protocol.proofs.Fit.{SlotsFit, HeldFits, RegisterReplicaFits
 use Rattle.wire.proofs.Tests7To11.{Passed, shaped-few, issued-positive}
 use Rattle.wire.proofs.card.Digests.{standing-under-short}
 use Rattle.wire.specs.Parts.{preparedTimestamp, preparedSigners, timestampIfThere}
-
--- The client of a timestamp's number.
-abbrev pub clientOf : ℕ → ClientId
-clientOf timestamp = ofNumber timestamp .client
 
 -- A slot is kept, or moves up.
 abbrev pub SlotRises : Slots → Slots → ClientId → Type 0
@@ -149,7 +145,7 @@ pub prepared-legal : (id : ReplicaId) (timestamp : ℕ) (digest : List ℕ) → 
 unfolding Fits size
 prepared-legal id timestamp digest hi ht hd register small = record { register-fits = small; fits = (hi, ht, hd); short = omega arith }
 
-written-legal : (id : ReplicaId) (timestamp : ℕ) → id .0 < 256 → timestamp < 2 ^ 40 → LegalMessage (WRITTEN id timestamp)
+pub written-legal : (id : ReplicaId) (timestamp : ℕ) → id .0 < 256 → timestamp < 2 ^ 40 → LegalMessage (WRITTEN id timestamp)
 unfolding Fits size
 written-legal id timestamp hi ht register small = record { register-fits = small; fits = (hi, ht); short = omega arith }
 

@@ -1,12 +1,10 @@
 -- What a replica holds never falls, with its proof's signers, and its replies show it. Assumes nothing.
 use mathlib.Core.Path.{_≡_, refl, sym, ap, subst, _∙_}
-use mathlib.Core.Logic.{⊎-elim}
 use mathlib.Core.Bool.{true}
 use mathlib.Core.List.{List}
 use mathlib.Core.Option.{Option}
 use Prim.Native.Nat.{ℕ, zero, suc, _≤_, _<_}
 use native.Mathlib.Omega.{arith}
-use native.Mathlib.Nat.{eq-or-lt-of-le, le-of-suc-le-suc}
 use Rattle.base.specs.Party.{registerPlace}
 use Rattle.base.specs.declared.party.ClientId.{ClientId}
 use Rattle.base.specs.declared.party.RegisterId.{RegisterId}
@@ -14,44 +12,36 @@ use Rattle.base.specs.declared.party.ReplicaId.{ReplicaId}
 use Rattle.base.proofs.Registers.{place-below}
 use Rattle.wire.specs.Message.{Message, READ-STAMP, READ, STAMP, WRITTEN, CARD}
 use Rattle.wire.specs.Proof.{PreparedProof}
-use Rattle.protocol.specs.RegisterReplica.{heldTimestamp, heldProof, freshRegister}
+use Rattle.protocol.specs.RegisterReplica.{heldProof, freshRegister}
 use Rattle.protocol.specs.declared.replica.RegisterReplica.{RegisterReplica}
 use Rattle.run.specs.Premises.{Premises}
 use Rattle.run.specs.Vouching.{SignersOfHeld}
 use Rattle.wire.specs.Acceptance.{replica, client}
-use Rattle.run.specs.Run.{Run, bankAt, registerAt, Said}
+use Rattle.run.specs.Run.{Run, bankAt, registerAt, held, Said}
 use Rattle.protocol.proofs.BankFacts.{fresh-part}
 use Rattle.protocol.proofs.RegisterFacts.{SignersHeld, held-shown}
-use Rattle.run.proofs.Turns.{RegisterTurn, rests, steps, register-turn, register-step}
+use Rattle.run.proofs.Turns.{onwards, RegisterTurn, rests, steps, register-turn, register-step}
 use Rattle.run.proofs.SentMessages.{said-answers, step-said}
 use Rattle.wire.specs.Parts.{preparedTimestamp}
 
 module _ (R : Run) (x : RegisterId) where
-  -- The timestamp that a replica holds in the register before event t.
-  abbrev pub held : ReplicaId → ℕ → ℕ
-  held id t = heldTimestamp (registerAt R x id t .held)
-
   module _ (id : ReplicaId) (c : R .correct-replica id ≡ true) where
-    held-step : (t : ℕ) → held id t ≤ held id (suc t)
+    held-step : (t : ℕ) → held R x id t ≤ held R x id (suc t)
     held-step t = go (register-turn R x id c t)
       where
-        go : RegisterTurn R x id t → held id t ≤ held id (suc t)
+        go : RegisterTurn R x id t → held R x id t ≤ held R x id (suc t)
         go (rests same silent) = rw same (omega arith)
         go (steps s) = rw (s .next-is) (s .facts .held-rises)
 
-    pub held-rises : (t t′ : ℕ) → t ≤ t′ → held id t ≤ held id t′
-    held-rises t zero l = let z : t ≡ 0 = omega arith in rw z (omega arith)
-    held-rises t (suc t′) l =
-        ⊎-elim (λ z. rw z (omega arith))
-        (λ z. let step = held-step t′ in let rest = held-rises t t′ (le-of-suc-le-suc z) in omega arith)
-        (eq-or-lt-of-le l)
+    pub held-rises : (t t′ : ℕ) → t ≤ t′ → held R x id t ≤ held R x id t′
+    held-rises t t′ l = onwards {P = λ u. held R x id t ≤ held R x id u} (λ u h. omega (arith, held-step u)) t t′ l (omega arith)
 
     -- A replica that sent WRITTEN holds that timestamp or a later one.
-    pub written-held : (t s : ℕ) → Said R x (replica id) (WRITTEN id s) t → s ≤ held id t
+    pub written-held : (t s : ℕ) → Said R x (replica id) (WRITTEN id s) t → s ≤ held R x id t
     written-held t s e =
         let step = register-step R x id c (e .time) (WRITTEN id s) (said-answers R x id (WRITTEN id s) t e) in
         let same : step .reply .message ≡ WRITTEN id s = cc (step .answer-is, e .answered) in
-        let then : s ≤ held id (suc (e .time)) = rw (step .next-is) (step .facts .written-sent id s same .1) in
+        let then : s ≤ held R x id (suc (e .time)) = rw (step .next-is) (step .facts .written-sent id s same .1) in
         let since = held-rises (suc (e .time)) t (e .earlier) in
         omega arith
 
@@ -69,11 +59,11 @@ module _ (R : Run) (x : RegisterId) where
   pub record Showed (id : ReplicaId) (t : ℕ) (question : Message) (by : ClientId) (shown : ℕ) : Type 0 where
     pub time : ℕ
     pub earlier : time < t
-    pub shows : shown ≡ held id time
+    pub shows : shown ≡ held R x id time
     pub asked : Said R x (client by) question time
 
   module _ (P : Premises R) (id : ReplicaId) (c : R .correct-replica id ≡ true) (by : ClientId) (c′ : R .correct-client by ≡ true) (nonce : ℕ) (proof : Option PreparedProof) (t : ℕ) where
-    shown-held : (u : ℕ) → proof ≡ heldProof (registerAt R x id u .held) → preparedTimestamp proof ≡ held id u
+    shown-held : (u : ℕ) → proof ≡ heldProof (registerAt R x id u .held) → preparedTimestamp proof ≡ held R x id u
     shown-held u e = ap preparedTimestamp e ∙ held-shown (registerAt R x id u .held)
 
     pub stamp-showed : Said R x (replica id) (STAMP id nonce proof by) t → Showed id t (READ-STAMP by nonce) by (preparedTimestamp proof)

@@ -1,9 +1,12 @@
 pub mod Atomicity
 pub mod Bodies
 pub mod Called
+pub mod Closing
 pub mod Demand3
 pub mod Handing
 pub mod Held
+pub mod HeldFalling
+pub mod Lurking
 pub mod Nonces
 pub mod Operations
 pub mod Order

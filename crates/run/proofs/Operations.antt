@@ -43,11 +43,11 @@ use Rattle.protocol.proofs.ClientCases.{Leaves, betterCard, betterSigners, Phas
 use Rattle.run.specs.Claims.{NotDone}
 use Rattle.run.specs.Premises.{CardOfRun, Premises, Asks, for-stamps, for-cards}
 use Rattle.wire.specs.Acceptance.{senderOf, replica}
-use Rattle.run.specs.Run.{Run, clientAt, answerAt, Correct, Said, makes, event}
+use Rattle.run.specs.Run.{Run, held, clientAt, answerAt, Correct, Said, makes, event}
 use Rattle.run.proofs.Turns.{same-replica, correct-replica-range, correct-client-range, GoodClient, good-client, ClientStep, Heard}
 use Rattle.run.proofs.SentMessages.{said-later, heard-said}
-use Rattle.run.proofs.Slots.{Backed, backed-later, shaped-backed, meet, card-backed}
-use Rattle.run.proofs.Held.{held, held-rises, written-held, Showed, stamp-showed, card-showed}
+use Rattle.run.proofs.Slots.{Backed, quorum-later, shaped-quorum, meet, card-backed}
+use Rattle.run.proofs.Held.{held-rises, written-held, Showed, stamp-showed, card-showed}
 use Rattle.run.proofs.Nonces.{asked-since}
 use Rattle.run.proofs.Stages.{preparedFor}
 use Rattle.wire.specs.Parts.{preparedTimestamp, preparedSigners}
@@ -119,7 +119,7 @@ module _ (R : Run) (x : RegisterId) where
 
   pub shown-later : (t t′ s : ℕ) (card : List ℕ) (signers : ReplicaSet) → t ≤ t′ → Shown t s card signers → Shown t′ s card signers
   shown-later t t′ s card signers l (inl e) = inl e
-  shown-later t t′ s card signers l (inr v) = inr (record { positive = v .positive; backed = backed-later R x t t′ s (sha256 card) signers l (v .backed); card-in = v .card-in })
+  shown-later t t′ s card signers l (inr v) = inr (record { positive = v .positive; backed = quorum-later R x t t′ _ signers l (v .backed); card-in = v .card-in })
 
   -- ---- The phases of a write of a card to the register, begun by a client at t₀
 
@@ -175,7 +175,7 @@ module _ (R : Run) (x : RegisterId) where
   write-later id card t₀ t now (Writtens timestamp counted) it = record {
     card-is = it .card-is;
     chosen = it .chosen;
-    backed = backed-later R x t (suc t) (number timestamp) (sha256 card) (now .signers) (omega arith) (it .backed);
+    backed = quorum-later R x t (suc t) _ (now .signers) (omega arith) (it .backed);
     stored = holds-later counted (number timestamp) t (it .stored);
   }
   write-later id card t₀ t now (Cards nonce best counted showed) it = it
@@ -371,10 +371,10 @@ module _ (R : Run) (x : RegisterId) where
     build-backed card h sender s counted proof e it built =
         let b : Built (R .f) (with counted sender) (proof .entries) =
         subst (λ (f : ℕ). isQuorum f counted ≡ false → Built f (with counted sender) (proof .entries)) (good .f-is) built (it .fewer) in
-        shaped-backed R x (suc t) s (sha256 card) (proof .entries) (b .is-shaped) (λ r k c. take-prepared card h sender s counted e it r (b .of-counted r k) c)
+        shaped-quorum R x (suc t) _ (proof .entries) (b .is-shaped) (λ r k c. take-prepared card h sender s counted e it r (b .of-counted r k) c)
 
     still-backed : (card : List ℕ) (counted : ReplicaSet) (timestamp : Timestamp) → Writing id card t₀ t now (number timestamp) counted → Backed R x (suc t) (number timestamp) (sha256 card) (now .signers)
-    still-backed card counted timestamp it = backed-later R x t (suc t) (number timestamp) (sha256 card) (now .signers) (omega arith) (it .backed)
+    still-backed card counted timestamp it = quorum-later R x t (suc t) _ (now .signers) (omega arith) (it .backed)
 
     write-heard : (card : List ℕ) → CardOfRun R card → (h : Heard R id t) → WriteIn id card t₀ t now (now .phase) → ClientCase now (signature (h .bytes)) (h .message) (h .turn) → Next true id card t₀ t
     write-heard card in-run h it (stamp-counted sender nonce proof best counted e phase new kept from left) =

@@ -7,7 +7,7 @@ use Prim.Native.Nat.{ℕ, suc, _≤_, _<_}
 use native.Mathlib.Omega.{arith}
 use Rattle.base.specs.Party.{isWriter}
 use Rattle.base.specs.ReplicaSet.{has}
-use Rattle.base.specs.Timestamp.{number}
+use Rattle.base.specs.Timestamp.{number, clientOf}
 use Rattle.base.specs.declared.party.ClientId.{ClientId}
 use Rattle.base.specs.declared.party.RegisterId.{RegisterId}
 use Rattle.base.specs.declared.party.ReplicaId.{ReplicaId}
@@ -15,7 +15,6 @@ use Rattle.base.specs.declared.replica_set.ReplicaSet.{ReplicaSet}
 use Rattle.wire.specs.Acceptance.{client}
 use Rattle.wire.specs.Message.{PREPARE, PREPARED}
 use Rattle.wire.specs.Sha256.{sha256}
-use Rattle.protocol.proofs.RegisterFacts.{clientOf}
 use Rattle.run.specs.ReadsFrom.{Write, CarriesCorrect, ReadsFrom}
 use Rattle.run.specs.Claims.{Finished}
 use Rattle.run.specs.Premises.{Premises}

@@ -1,13 +1,13 @@
 -- What correct parties sent, as messages: legal, and what true verdicts say of a message that passed. Assumes nothing.
-use mathlib.Core.Path.{_≡_, refl, sym, ap, subst}
+use mathlib.Core.Path.{_≡_, refl, sym, ap, subst, _∙_}
 use mathlib.Core.Logic.{⊎-elim}
 use mathlib.Core.Bool.{true}
 use mathlib.Core.List.{List, [], _∷_, _++_}
 use mathlib.Core.Option.{some}
-use Prim.Native.Nat.{ℕ, _+_, _≤_, _<_}
+use Prim.Native.Nat.{ℕ, suc, _+_, _≤_, _<_}
 use native.Mathlib.Omega.{arith}
 use borrow.Author.Tests.{eqb-true}
-use lib.Dec.{eqb}
+use lib.Dec.{eqb, leb}
 use lib.ListN.{length, drop}
 use Rattle.base.specs.Outcome.{accepted}
 use Rattle.base.specs.Party.{isRegister}
@@ -18,13 +18,15 @@ use Rattle.base.specs.declared.party.ReplicaId.{ReplicaId}
 use Rattle.base.proofs.Apart.{apart}
 use Rattle.base.proofs.Booleans.{and-true-both, or-true}
 use Rattle.base.proofs.Range.{bounds}
-use Rattle.wire.specs.Checks.{all, ownGenuine, genuine}
+use Rattle.wire.specs.Checks.{preparedOf, writtenOf, entriesOf, all, oneEach, ownGenuine, genuine}
 use Rattle.wire.specs.Decode.{forRegister, decode, registerIn}
 use Rattle.wire.specs.Message.{Message, READ-STAMP, READ, body, Legal}
 use Rattle.wire.specs.Proof.{Entry, signers}
-use Rattle.wire.specs.Signatures.{Signature, signedBy, signaturesOf}
+use Rattle.wire.specs.Signatures.{Signature, signedBy, preparedSignatures, writtenSignatures, signaturesIfThere, signaturesOf}
+use Rattle.wire.proofs.MessageSignatures.{length-signatures}
 use Rattle.wire.proofs.OneForm.{found-register, decoded-register, decoded-legal}
 use Rattle.wire.proofs.RoundTrip.{body-message, body-register}
+use Rattle.wire.proofs.Tests7To11.{Passed}
 use Rattle.wire.specs.declared.message.Party.the-variants.{Replica as AtReplica, Client as AtClient}
 use Rattle.protocol.specs.Client.{send}
 use Rattle.protocol.proofs.ClientCases.{LegalAnswer}
@@ -93,37 +95,69 @@ module _ (R : Run) where
   own-sent t s ss [] e h c = apart (cc)
   own-sent t s ss (v ∷ vs) e h c = h .0 (eqb-true v 1 e) c
 
-  none-true : (t : ℕ) (signatures : List Signature) → TrueVerdicts R t signatures []
-  unfolding TrueVerdicts
-  none-true t [] = tt
-  none-true t (s ∷ ss) = tt
+  -- Each of these signatures that is a correct party's is of a message that it sent before event t.
+  abbrev pub EachSent : ℕ → List Signature → Type 0
+  EachSent t [] = Unit {0}
+  EachSent t (s ∷ ss) = (Correct R (s .signer) → Sent R (s .signer) (s .covers) t) × EachSent t ss
 
-  pub rest-true : (t : ℕ) (signature : Signature) (signatures : List Signature) (verdicts : List ℕ) → TrueVerdicts R t (signature ∷ signatures) verdicts
-      → TrueVerdicts R t signatures (drop 1 verdicts)
-  unfolding TrueVerdicts
-  rest-true t s ss [] h = none-true t ss
-  rest-true t s ss (v ∷ vs) h = h .1
+  pub sent-front : (t : ℕ) (a b : List Signature) → EachSent t (a ++ b) → EachSent t a
+  sent-front t [] b h = tt
+  sent-front t (s ∷ a) b h = (h .0, sent-front t a b (h .1))
 
-  pub front-true : (t : ℕ) (a b : List Signature) (verdicts : List ℕ) → TrueVerdicts R t (a ++ b) verdicts → TrueVerdicts R t a verdicts
-  unfolding TrueVerdicts
-  front-true t [] b vs h = tt
-  front-true t (s ∷ a) b [] h = tt
-  front-true t (s ∷ a) b (v ∷ vs) h = (h .0, front-true t a b vs (h .1))
+  pub sent-back : (t : ℕ) (a b : List Signature) → EachSent t (a ++ b) → EachSent t b
+  sent-back t [] b h = h
+  sent-back t (s ∷ a) b h = sent-back t a b (h .1)
 
-  -- Entries whose verdicts are all 1: each correct signer sent its message.
-  pub entry-sent : (t : ℕ) (x : RegisterId) (message : ReplicaId → Message) (entries : List Entry) (verdicts : List ℕ) → length entries ≤ length verdicts → genuine verdicts ≡ true
-      → TrueVerdicts R t (signedBy x message entries) verdicts → (id : ReplicaId) → listed (signers entries) id ≡ true
-      → R .correct-replica id ≡ true → Sent R (replica id) (body x (message id)) t
-  unfolding TrueVerdicts listed all
-  entry-sent t x message [] vs l g h id m c = apart (cc)
-  entry-sent t x message (entry ∷ entries) [] l g h id m c = absurd (omega arith)
-  entry-sent t x message (entry ∷ entries) (v ∷ vs) l g h id m c =
+  -- So it is where true verdicts are all 1,
+  pub each-sent : (t : ℕ) (ss : List Signature) (vs : List ℕ) → length ss ≤ length vs → genuine vs ≡ true → TrueVerdicts R t ss vs → EachSent t ss
+  unfolding TrueVerdicts all
+  each-sent t [] vs l g h = tt
+  each-sent t (s ∷ ss) [] l g h = absurd (omega arith)
+  each-sent t (s ∷ ss) (v ∷ vs) l g h =
       let ones = and-true-both (eqb v 1) (all (λ v. eqb v 1) vs) g in
+      (h .0 (eqb-true v 1 (ones .0)), each-sent t ss vs (omega arith) (ones .1) (h .1))
+
+  -- as those on the entries of a message are that passes 7 to 11.
+  pub inside-sent : (f t : ℕ) (bytes verdicts : List ℕ) (x : RegisterId) (m : Message) → Passed f m verdicts → TrueVerdicts R t (signaturesOf bytes (forRegister x m)) verdicts
+      → EachSent t (signaturesIfThere (preparedSignatures x) (preparedOf m) ++ signaturesIfThere (writtenSignatures x) (writtenOf m))
+  unfolding oneEach TrueVerdicts
+  inside-sent f t bytes verdicts x m passed h = go verdicts long (passed .entries-genuine) h
+    where
+      entries : List Signature
+      entries = signaturesIfThere (preparedSignatures x) (preparedOf m) ++ signaturesIfThere (writtenSignatures x) (writtenOf m)
+
+      long : length verdicts ≡ suc (length entries)
+      long =
+          let each = and-true-both (eqb (length verdicts) (1 + length (entriesOf m))) (all (λ v. leb v 1) verdicts) (passed .one-each) in
+          eqb-true (length verdicts) (1 + length (entriesOf m)) (each .0) ∙ sym (length-signatures bytes x m)
+
+      go : (vs : List ℕ) → length vs ≡ suc (length entries) → genuine (drop 1 vs) ≡ true → TrueVerdicts R t (signaturesOf bytes (forRegister x m)) vs → EachSent t entries
+      go [] l g h = absurd (omega arith)
+      go (v ∷ vs) l g h = each-sent t entries vs (omega arith) g (h .1)
+
+  -- Of entries with the signatures of a message: each correct signer sent its own.
+  pub entry-sent : (t : ℕ) (x : RegisterId) (message : ReplicaId → Message) (entries : List Entry) → EachSent t (signedBy x message entries)
+      → (id : ReplicaId) → listed (signers entries) id ≡ true → R .correct-replica id ≡ true → Sent R (replica id) (body x (message id)) t
+  unfolding listed
+  entry-sent t x message [] h id m c = apart (cc)
+  entry-sent t x message (entry ∷ entries) h id m c =
       ⊎-elim
       (λ e. let same : entry .signer ≡ id = same-replica (entry .signer) id (sym (eqb-true (id .0) (entry .signer .0) e)) in
-      subst (λ (i : ReplicaId). R .correct-replica i ≡ true → Sent R (replica i) (body x (message i)) t) same (h .0 (eqb-true v 1 (ones .0))) c)
-      (λ e. entry-sent t x message entries vs (omega arith) (ones .1) (h .1) id e c)
+      subst (λ (i : ReplicaId). R .correct-replica i ≡ true → Sent R (replica i) (body x (message i)) t) same (h .0) c)
+      (λ e. entry-sent t x message entries (h .1) id e c)
       (or-true (eqb (id .0) (entry .signer .0)) (listed (signers entries) id) m)
+
+  -- All verdicts that are handed over in the run are true.
+  abbrev pub AllTrue : Type 0
+  AllTrue = (t : ℕ) → TrueAt R t (event R t)
+
+  -- Those that a replica takes a message with.
+  pub step-true : AllTrue → (x : RegisterId) (id : ReplicaId) (t : ℕ) (s : RegisterStep R x id t)
+      → TrueVerdicts R t (signaturesOf (s .bytes) (forRegister (registerIn (s .bytes)) (s .message))) (s .verdicts)
+  unfolding TrueAt
+  step-true truth x id t s =
+      let there : TrueFor R t (s .bytes) (s .verdicts) (decode AtReplica (s .bytes)) = subst (TrueAt R t) (s .event-is) (truth t) in
+      subst (TrueFor R t (s .bytes) (s .verdicts)) (s .admitted .decodes) there
 
   module _ (P : Premises R) where
     -- The message that a client takes at event t was sent by its sender, for the client's register.
@@ -149,7 +183,6 @@ module _ (R : Run) where
     -- So was the message that a replica takes, for the register that it is for.
     pub step-said : (x : RegisterId) (id : ReplicaId) (t : ℕ) (s : RegisterStep R x id t) (reply : Message) → Answers R x id t reply → (m : Message) → s .message ≡ m
         → Correct R (senderOf m) → Said R x (senderOf m) m t
-    unfolding TrueAt
     step-said x id t s reply a m e c =
         subst (λ (y : RegisterId). Said R y (senderOf m) m t) (step-register R x id t s reply a)
         (subst (λ (n : Message). Correct R (senderOf n) → Said R (registerIn (s .bytes)) (senderOf n) n t) e own c)
@@ -157,9 +190,7 @@ module _ (R : Run) where
         own : Correct R (senderOf (s .message)) → Said R (registerIn (s .bytes)) (senderOf (s .message)) (s .message) t
         own c =
             let small = R .have-bytes t (to-replica id (s .bytes) (s .verdicts)) (s .event-is) in
-            let there : TrueFor R t (s .bytes) (s .verdicts) (decode AtReplica (s .bytes)) = subst (TrueAt R t) (s .event-is) (P .true-verdicts t) in
-            let true-ones : TrueVerdicts R t (signaturesOf (s .bytes) (forRegister (registerIn (s .bytes)) (s .message))) (s .verdicts) = subst (TrueFor R t (s .bytes) (s .verdicts)) (s .admitted .decodes) there in
-            let sent = own-sent t _ _ (s .verdicts) (s .facts .passed .own) true-ones c in
+            let sent = own-sent t _ _ (s .verdicts) (s .facts .passed .own) (step-true (P .true-verdicts) x id t s) c in
             let legal = decoded-legal AtReplica (s .bytes) (registerIn (s .bytes)) (s .message) (s .admitted .decodes) small in
             said (senderOf (s .message)) c (registerIn (s .bytes)) (s .message) legal t
             (subst (λ (b : List ℕ). Sent R (senderOf (s .message)) b t) (covered AtReplica (s .bytes) (registerIn (s .bytes)) (s .message) small (s .admitted .decodes)) sent)

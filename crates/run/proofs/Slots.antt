@@ -4,45 +4,46 @@ use mathlib.Core.Logic.{_⊎_, inl, inr, ⊎-elim}
 use mathlib.Core.Bool.{Bool, true, false}
 use mathlib.Core.List.{List, [], _∷_, _++_}
 use mathlib.Core.Option.{Option, none, some}
-use Prim.Native.Nat.{ℕ, zero, suc, _+_, _/_, _%_, _≤_, _<_}
+use Prim.Native.Nat.{ℕ, zero, suc, _/_, _%_, _≤_, _<_}
 use native.Mathlib.Omega.{arith}
 use native.Mathlib.Nat.{eq-or-lt-of-le, le-of-suc-le-suc}
-use borrow.Author.Tests.{eqb-true, leb-true, leb-false}
-use lib.Dec.{eqb, leb}
-use lib.ListN.{length, drop, length-append}
+use borrow.Author.Tests.{leb-true, leb-false}
+use lib.Dec.{leb}
+use lib.ListN.{length}
 use Rattle.base.specs.BigEndian.{toBytes}
 use Rattle.base.specs.BitMap.{mapOf}
 use Rattle.base.specs.Counting.{count}
 use Rattle.base.specs.Outcome.{accepted, guard}
 use Rattle.base.specs.Party.{replicaCount, quorumSize, isWriter}
 use Rattle.base.specs.ReplicaSet.{has, Quorate}
+use Rattle.base.specs.Timestamp.{clientOf}
 use Rattle.base.specs.declared.party.ClientId.{ClientId}
 use Rattle.base.specs.declared.party.RegisterId.{RegisterId}
 use Rattle.base.specs.declared.party.ReplicaId.{ReplicaId}
 use Rattle.base.specs.declared.replica_set.ReplicaSet.{ReplicaSet}
-use Rattle.base.proofs.Booleans.{and-true-both}
 use Rattle.base.proofs.Listed.{member-listed}
 use Rattle.base.proofs.Outcome.{guard-accepted}
 use Rattle.base.proofs.Quorum.{Common, quorums-meet}
 use Rattle.base.proofs.Range.{bounds}
-use Rattle.wire.specs.Checks.{all, oneEach, entriesOf, shaped, genuine, issued, proofOutcome}
+use Rattle.wire.specs.Checks.{shaped, genuine, issued, proofOutcome}
 use Rattle.wire.specs.Decode.{forRegister}
 use Rattle.wire.specs.Message.{Message, PREPARED, CARD, numberField, fields, joined, body, Legal, Fits, ProofFits}
 use Rattle.wire.specs.Proof.{Entry, PreparedProof, signers, signerSet}
 use Rattle.wire.specs.Signatures.{Signature, signedBy, preparedSignatures, signaturesOf}
+use Rattle.wire.proofs.MessageSignatures.{length-signed}
 use Rattle.wire.proofs.ProofBytes.{proof-rewritten}
 use Rattle.wire.proofs.SignerSets.{shaped-signers, shaped-count}
 use Rattle.protocol.specs.Client.{send}
 use Rattle.protocol.specs.RegisterReplica.{slotCount, slotDigest}
 use Rattle.protocol.specs.declared.replica.Slots.{Slots}
-use Rattle.wire.proofs.Tests7To11.{Passed}
-use Rattle.protocol.proofs.RegisterFacts.{clientOf, SlotRises, prepared-legal}
+use Rattle.wire.proofs.Tests7To11.{Passed, issued-counted}
+use Rattle.protocol.proofs.RegisterFacts.{SlotRises, prepared-legal}
 use Rattle.run.specs.Claims.{Genuine, OneDigest}
 use Rattle.run.specs.Premises.{TrueVerdicts, FewFaulty, Premises}
 use Rattle.wire.specs.Acceptance.{replica}
-use Rattle.run.specs.Run.{Run, registerAt, clientAt, answerAt, Said, Sent}
+use Rattle.run.specs.Run.{Run, registerAt, clientAt, answerAt, Said}
 use Rattle.run.proofs.Turns.{correct-replica-range, Answers, RegisterTurn, rests, steps, register-turn, RegisterStep, register-step, Heard}
-use Rattle.run.proofs.SentMessages.{said-later, said-answers, said, front-true, rest-true, entry-sent, heard-true, heard-legal}
+use Rattle.run.proofs.SentMessages.{said-later, said-answers, said, EachSent, sent-front, each-sent, inside-sent, entry-sent, heard-true, heard-legal}
 
 -- An event before the next one is this one or an earlier one.
 pub split-last : {P : Type 0} (u t : ℕ) → u < suc t → (u ≡ t → P) → (u < t → P) → P
@@ -87,9 +88,12 @@ carried-signatures x s d (entry ∷ entries) =
     ap₂ (λ (bytes : List ℕ) (rest : List Signature). record { signer = replica (entry .signer); covers = bytes; bytes = entry .signature } ∷ rest) (carried-body x (entry .signer) s d) (carried-signatures x s d entries)
 
 module _ (R : Run) (x : RegisterId) where
-  -- What a step that sent PREPARED left in the slot.
-  prepared-step : (id : ReplicaId) (t s : ℕ) (d : List ℕ) (step : RegisterStep R x id t) → answerAt R t ≡ accepted (send (PREPARED id s d))
-      → (isWriter (clientOf s) ≡ true) × (slotCount (registerAt R x id (suc t) .slots) (clientOf s) ≡ s / 256) × (slotDigest (registerAt R x id (suc t) .slots) (clientOf s) ≡ d)
+  -- What the event at which a replica sent PREPARED left in the slot.
+  abbrev pub Left : ReplicaId → ℕ → ℕ → List ℕ → Type 0
+  Left id t s d =
+      (isWriter (clientOf s) ≡ true) × (slotCount (registerAt R x id (suc t) .slots) (clientOf s) ≡ s / 256) × (slotDigest (registerAt R x id (suc t) .slots) (clientOf s) ≡ d)
+
+  prepared-step : (id : ReplicaId) (t s : ℕ) (d : List ℕ) (step : RegisterStep R x id t) → answerAt R t ≡ accepted (send (PREPARED id s d)) → Left id t s d
   prepared-step id t s d step a =
       let same : step .reply .message ≡ PREPARED id s d = cc (step .answer-is) in
       let q = step .facts .prepared-sent id s d same in
@@ -114,15 +118,17 @@ module _ (R : Run) (x : RegisterId) where
           (λ z. let range = bounds 1 64 (clientOf s .0) own in
           rw (step .next-is) (has-kept (registerAt R x id t .slots) (step .reply .next .register .slots) s d (step .facts .slots-rise (clientOf s) (range .0) (range .1)) (ih (before z))))
 
+  pub prepared-left : (id : ReplicaId) → R .correct-replica id ≡ true → (t s : ℕ) (d : List ℕ) (e : Said R x (replica id) (PREPARED id s d) t) → Left id (e .time) s d
+  prepared-left id c t s d e =
+      prepared-step id (e .time) s d (register-step R x id c (e .time) (PREPARED id s d) (said-answers R x id (PREPARED id s d) t e)) (e .answered)
+
   module _ (id : ReplicaId) (c : R .correct-replica id ≡ true) (s : ℕ) (d d′ : List ℕ) where
     one-ordered : (t : ℕ) (e : Said R x (replica id) (PREPARED id s d) t) (e′ : Said R x (replica id) (PREPARED id s d′) t) → e .time ≤ e′ .time → d ≡ d′
     one-ordered t e e′ l =
-        let step = register-step R x id c (e′ .time) (PREPARED id s d′) (said-answers R x id (PREPARED id s d′) t e′) in
-        let left = prepared-step id (e′ .time) s d′ step (e′ .answered) in
+        let left = prepared-left id c t s d′ e′ in
         go left (slots id c (suc (e′ .time)) s d (left .0) (record { time = e .time; earlier = omega arith; by = e .by; register-is = e .register-is; answered = e .answered }))
       where
-        go : (isWriter (clientOf s) ≡ true) × (slotCount (registerAt R x id (suc (e′ .time)) .slots) (clientOf s) ≡ s / 256) × (slotDigest (registerAt R x id (suc (e′ .time)) .slots) (clientOf s) ≡ d′)
-            → Has (registerAt R x id (suc (e′ .time)) .slots) s d → d ≡ d′
+        go : Left id (e′ .time) s d′ → Has (registerAt R x id (suc (e′ .time)) .slots) s d → d ≡ d′
         go left (inl k) = sym (k .1) ∙ left .2
         go left (inr k) = let q = left .1 in absurd (omega arith)
 
@@ -130,73 +136,77 @@ module _ (R : Run) (x : RegisterId) where
   one-digest-each : (id : ReplicaId) → R .correct-replica id ≡ true → (t s : ℕ) (d d′ : List ℕ) → Said R x (replica id) (PREPARED id s d) t → Said R x (replica id) (PREPARED id s d′) t → d ≡ d′
   one-digest-each id c t s d d′ e e′ = ⊎-elim (one-ordered id c s d d′ t e e′) (λ l. sym (one-ordered id c s d′ d t e′ e (omega arith))) (order (e .time) (e′ .time))
 
-  -- The set is of exactly q replicas, all among 1 to n, whose correct members sent PREPARED with this timestamp and digest before event t.
-  pub record Backed (t s : ℕ) (d : List ℕ) (who : ReplicaSet) : Type 0 where
+  -- The set is of exactly q replicas, all among 1 to n, whose correct members sent this message before event t, each its own.
+  pub record SaidByQuorum (t : ℕ) (message : ReplicaId → Message) (who : ReplicaSet) : Type 0 where
     pub exact : Quorate (R .f) who
     pub enough : quorumSize (R .f) ≤ count (replicaCount (R .f)) (has who)
-    pub signed : (id : ReplicaId) → has who id ≡ true → R .correct-replica id ≡ true → Said R x (replica id) (PREPARED id s d) t
+    pub signed : (id : ReplicaId) → has who id ≡ true → R .correct-replica id ≡ true → Said R x (replica id) (message id) t
 
-  pub backed-later : (t t′ s : ℕ) (d : List ℕ) (who : ReplicaSet) → t ≤ t′ → Backed t s d who → Backed t′ s d who
-  backed-later t t′ s d who l b = record { exact = b .exact; enough = b .enough; signed = λ id k c. said-later R x (replica id) (PREPARED id s d) t t′ l (b .signed id k c) }
+  pub quorum-later : (t t′ : ℕ) (message : ReplicaId → Message) (who : ReplicaSet) → t ≤ t′ → SaidByQuorum t message who → SaidByQuorum t′ message who
+  quorum-later t t′ message who l b = record { exact = b .exact; enough = b .enough; signed = λ id k c. said-later R x (replica id) (message id) t t′ l (b .signed id k c) }
 
-  -- The signers of entries that pass 9, if the correct ones sent it.
-  pub shaped-backed : (t s : ℕ) (d : List ℕ) (entries : List Entry) → shaped (R .f) entries ≡ true
-      → ((id : ReplicaId) → has (signerSet entries) id ≡ true → R .correct-replica id ≡ true → Said R x (replica id) (PREPARED id s d) t) → Backed t s d (signerSet entries)
-  shaped-backed t s d entries shape said-it =
+  -- The signers of entries that pass 9, if the correct ones sent it;
+  pub shaped-quorum : (t : ℕ) (message : ReplicaId → Message) (entries : List Entry) → shaped (R .f) entries ≡ true
+      → ((id : ReplicaId) → has (signerSet entries) id ≡ true → R .correct-replica id ≡ true → Said R x (replica id) (message id) t) → SaidByQuorum t message (signerSet entries)
+  shaped-quorum t message entries shape said-it =
       record { exact = shaped-signers (R .f) entries shape; enough = omega (arith, shaped-count (R .f) entries shape); signed = said-it }
 
-  -- The proof's correct signers sent PREPARED with its timestamp and digest, for this register: so it is where its entries are genuine,
-  abbrev SignersSent : ℕ → PreparedProof → Type 0
-  SignersSent t proof =
-      (id : ReplicaId) → has (signerSet (proof .entries)) id ≡ true → R .correct-replica id ≡ true → Sent R (replica id) (body x (PREPARED id (proof .timestamp) (proof .digest))) t
+  -- so they did where each entry of theirs was sent.
+  pub entries-quorum : (t : ℕ) (message : ReplicaId → Message) (entries : List Entry) → ((id : ReplicaId) → R .correct-replica id ≡ true → Legal x (message id)) → shaped (R .f) entries ≡ true
+      → EachSent R t (signedBy x message entries) → SaidByQuorum t message (signerSet entries)
+  entries-quorum t message entries legal shape sent =
+      shaped-quorum t message entries shape (λ id k c. said R (replica id) c x (message id) (legal id c) t (entry-sent R t x message entries sent id (member-listed (signers entries) id k) c))
 
-  entries-sent : (t : ℕ) (proof : PreparedProof) (verdicts : List ℕ) → length (proof .entries) ≤ length verdicts → genuine verdicts ≡ true
-      → TrueVerdicts R t (preparedSignatures x proof) verdicts → SignersSent t proof
-  entries-sent t proof verdicts long ones true-ones id k c =
-      entry-sent R t x (λ id. PREPARED id (proof .timestamp) (proof .digest)) (proof .entries) verdicts long ones true-ones id (member-listed (signers (proof .entries)) id k) c
+  -- They sent PREPARED with this timestamp and digest.
+  abbrev pub Backed : ℕ → ℕ → List ℕ → ReplicaSet → Type 0
+  Backed t s d who = SaidByQuorum t (λ id. PREPARED id s d) who
 
-  -- and then a proof of the right shape is backed.
-  backed-by : (t : ℕ) (proof : PreparedProof) → x .0 < 256 → ProofFits proof → shaped (R .f) (proof .entries) ≡ true → SignersSent t proof
+  backed-by : (t : ℕ) (proof : PreparedProof) → x .0 < 256 → ProofFits proof → shaped (R .f) (proof .entries) ≡ true → EachSent R t (preparedSignatures x proof)
       → Backed t (proof .timestamp) (proof .digest) (signerSet (proof .entries))
-  backed-by t proof small fits shape sent =
-      shaped-backed t (proof .timestamp) (proof .digest) (proof .entries) shape (λ id k c.
-      let range = correct-replica-range R id c in
-      said R (replica id) c x (PREPARED id (proof .timestamp) (proof .digest)) (prepared-legal id (proof .timestamp) (proof .digest) (omega arith) (fits .0) (fits .1) x small) t (sent id k c))
+  backed-by t proof small fits =
+      entries-quorum t (λ id. PREPARED id (proof .timestamp) (proof .digest)) (proof .entries)
+      (λ id c. let range = correct-replica-range R id c in prepared-legal id (proof .timestamp) (proof .digest) (omega arith) (fits .0) (fits .1) x small)
 
   -- The prepared proof of a CARD that a client takes in an operation of this register.
   pub card-backed : Premises R → (id : ClientId) (t : ℕ) (h : Heard R id t) (sender : ReplicaId) (nonce : ℕ) (card : List ℕ) (proof : PreparedProof) (addressed : ClientId)
       → clientAt R id t .register ≡ x → h .message ≡ CARD sender nonce card (some proof) addressed → Passed (R .f) (h .message) (h .verdicts) → Backed t (proof .timestamp) (proof .digest) (signerSet (proof .entries))
-  unfolding Fits oneEach entriesOf
+  unfolding Fits
   card-backed P id t h sender nonce card proof addressed is e passed =
       let m = CARD sender nonce card (some proof) addressed in
       let ok : Passed (R .f) m (h .verdicts) = subst (λ (n : Message). Passed (R .f) n (h .verdicts)) e passed in
       let legal : Legal x m = subst₂ Legal is e (heard-legal R P id t h) in
       let true-ones : TrueVerdicts R t (signaturesOf (h .bytes) (forRegister x m)) (h .verdicts) =
       subst₂ (λ (y : RegisterId) (n : Message). TrueVerdicts R t (signaturesOf (h .bytes) (forRegister y n)) (h .verdicts)) is e (heard-true R P id t h) in
-      let entries-true = front-true R t (preparedSignatures x proof) [] (drop 1 (h .verdicts)) (rest-true R t _ _ (h .verdicts) true-ones) in
-      let each = and-true-both (eqb (length (h .verdicts)) (1 + length (proof .entries ++ []))) (all (λ v. leb v 1) (h .verdicts)) (ok .one-each) in
-      let long : length (h .verdicts) ≡ 1 + length (proof .entries ++ []) = eqb-true (length (h .verdicts)) (1 + length (proof .entries ++ [])) (each .0) in
       backed-by t proof (legal .register-fits) (legal .fits .3) (ok .prepared-shaped)
-      (entries-sent t proof (drop 1 (h .verdicts)) (dropped (h .verdicts) long) (ok .entries-genuine) entries-true)
-    where
-      dropped : (verdicts : List ℕ) → length verdicts ≡ 1 + length (proof .entries ++ []) → length (proof .entries) ≤ length (drop 1 verdicts)
-      dropped [] l = absurd (omega arith)
-      dropped (v ∷ vs) l = let both = length-append (proof .entries) [] in omega arith
+      (sent-front R t (preparedSignatures x proof) [] (inside-sent R (R .f) t (h .bytes) (h .verdicts) x m ok true-ones))
 
   -- A genuine proof is judged entry by entry, and so its correct signers sent PREPARED; it is backed at the end of the list.
   judged-each : (proof : PreparedProof) (g : Genuine R x proof) → length (proof .entries) ≤ length (g .verdicts)
   judged-each proof g = let each = g .one-each in omega arith
 
-  genuine-sent : (proof : PreparedProof) (g : Genuine R x proof) → length (proof .entries) ≤ length (g .verdicts) → genuine (g .verdicts) ≡ true → SignersSent (length (R .events)) proof
-  genuine-sent proof g long ones = entries-sent (length (R .events)) proof (g .verdicts) long ones (g .true-verdicts)
+  genuine-sent : (proof : PreparedProof) (g : Genuine R x proof) → length (proof .entries) ≤ length (g .verdicts) → genuine (g .verdicts) ≡ true
+      → EachSent R (length (R .events)) (preparedSignatures x proof)
+  genuine-sent proof g long ones =
+      each-sent R (length (R .events)) (preparedSignatures x proof) (g .verdicts) (omega (arith, length-signed x (λ id. PREPARED id (proof .timestamp) (proof .digest)) (proof .entries))) ones (g .true-verdicts)
+
+  -- 9 to 11, one by one.
+  genuine-passes : (proof : PreparedProof) (g : Genuine R x proof) → (shaped (R .f) (proof .entries) ≡ true) × (genuine (g .verdicts) ≡ true) × (issued (proof .timestamp) ≡ true)
+  unfolding proofOutcome
+  genuine-passes proof g =
+      let by = signerSet (proof .entries) in
+      let nine = guard-accepted 9 (shaped (R .f) (proof .entries)) (guard 10 (genuine (g .verdicts)) (guard 11 (issued (proof .timestamp)) (accepted by))) by (g .passes) in
+      let ten = guard-accepted 10 (genuine (g .verdicts)) (guard 11 (issued (proof .timestamp)) (accepted by)) by (nine .1) in
+      let eleven = guard-accepted 11 (issued (proof .timestamp)) (accepted by) by (ten .1) in
+      (nine .0, ten .0, eleven .0)
 
   pub genuine-backed : x .0 < 256 → (proof : PreparedProof) → Genuine R x proof → Backed (length (R .events)) (proof .timestamp) (proof .digest) (signerSet (proof .entries))
-  unfolding proofOutcome
   genuine-backed small proof g =
-      let nine = guard-accepted 9 (shaped (R .f) (proof .entries)) (guard 10 (genuine (g .verdicts)) (guard 11 (issued (proof .timestamp)) (accepted (signerSet (proof .entries))))) (signerSet (proof .entries)) (g .passes) in
-      let ten = guard-accepted 10 (genuine (g .verdicts)) (guard 11 (issued (proof .timestamp)) (accepted (signerSet (proof .entries)))) (signerSet (proof .entries)) (nine .1) in
+      let (nine, ten, eleven) = genuine-passes proof g in
       let fits = proof-rewritten (g .bytes) proof (g .are-bytes) (g .reads) .1 in
-      backed-by (length (R .events)) proof small fits (nine .0) (genuine-sent proof g (judged-each proof g) (ten .0))
+      backed-by (length (R .events)) proof small fits nine (genuine-sent proof g (judged-each proof g) ten)
+
+  pub genuine-counted : (proof : PreparedProof) → Genuine R x proof → 1 ≤ proof .timestamp / 256
+  genuine-counted proof g = issued-counted (proof .timestamp) (genuine-passes proof g .2)
 
   -- ---- What the bound on faulty replicas alone gives
 

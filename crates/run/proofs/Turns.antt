@@ -1,29 +1,32 @@
 -- What an event does to a party's record: it is kept, or the party steps, with the step and its facts. Assumes nothing.
 use mathlib.Core.Path.{_≡_, refl, sym, ap, subst, _∙_}
+use mathlib.Core.Logic.{⊎-elim}
 use mathlib.Core.Bool.{Bool, true, false, cond}
 use mathlib.Core.List.{List}
 use mathlib.Core.Option.{Option, none, some}
 use Prim.Native.Nat.{ℕ, zero, suc, _+_, _≤_, _<_}
 use native.Mathlib.Omega.{arith}
+use native.Mathlib.Nat.{eq-or-lt-of-le, le-of-suc-le-suc}
 use borrow.Author.Tests.{eqb-true, eqb-false, eq-eqb}
 use lib.Dec.{eqb}
 use lib.ListN.{length, length-replicate, length-set}
 use Rattle.base.specs.BigEndian.{Bytes}
 use Rattle.base.specs.ClientSet.{nobody}
 use Rattle.base.specs.Outcome.{Outcome, accepted, refused}
-use Rattle.base.specs.Party.{replicaCount, isWriter, registerPlace}
+use Rattle.base.specs.Party.{replicaCount, isWriter, isRegister, registerPlace}
 use Rattle.base.specs.declared.client_set.ClientSet.{ClientSet}
 use Rattle.base.specs.declared.party.ClientId.{ClientId}
 use Rattle.base.specs.declared.party.RegisterId.{RegisterId}
 use Rattle.base.specs.declared.party.ReplicaId.{ReplicaId}
 use Rattle.base.proofs.Apart.{apart}
 use Rattle.base.proofs.Range.{bounds}
-use Rattle.base.proofs.Registers.{place-below}
+use Rattle.base.proofs.Registers.{place-below, place-injective}
 use Rattle.wire.specs.Decode.{registerIn}
 use Rattle.wire.specs.Layout.{signature}
 use Rattle.wire.specs.Message.{Message, READ-STAMP, READ}
 use Rattle.wire.proofs.AdmittedMessage.{Admitted, admitted-then}
 use Rattle.wire.proofs.OneForm.{found-register, decoded-fits, decoded-signature}
+use Rattle.wire.proofs.Tests7To11.{Passed}
 use Rattle.wire.specs.declared.message.Party.the-variants.{Replica as AtReplica, Client as AtClient}
 use Rattle.base.specs.ReplicaSet.{empty}
 use Rattle.base.specs.Timestamp.{start}
@@ -59,6 +62,11 @@ same-replica a b e = ap (λ (n : ℕ). record { 0 = n }) e
 
 pub same-client : (a b : ClientId) → a .0 ≡ b .0 → a ≡ b
 same-client a b e = ap (λ (n : ℕ). record { 0 = n }) e
+
+-- What each event keeps stays from then on.
+pub onwards : {P : ℕ → Type 0} → ((t : ℕ) → P t → P (suc t)) → (u t : ℕ) → u ≤ t → P u → P t
+onwards {P} keeps u zero l h = let z : u ≡ 0 = omega arith in subst P z h
+onwards {P} keeps u (suc t) l h = ⊎-elim (λ z. subst P z h) (λ z. keeps t (onwards keeps u t (le-of-suc-le-suc z) h)) (eq-or-lt-of-le l)
 
 -- What a client makes of a message that 2 to 11 let through, with the message's own signature.
 abbrev pub clientTakes : ClientId → Client → List ℕ → Message → Outcome Turn
@@ -302,6 +310,14 @@ module _ (R : Run) where
     -- with a message for it.
     pub step-register : (id : ReplicaId) (t : ℕ) (s : RegisterStep id t) (message : Message) → Answers id t message → registerIn (s .bytes) ≡ x
     step-register id t s message (at, is, a) = let one : at .0 ≡ to-replica id (s .bytes) (s .verdicts) = cc (at .1, s .event-is) in sym (ap registerOf one) ∙ is
+
+    -- So is every step of what is a register.
+    pub step-for : isRegister x ≡ true → (id : ReplicaId) (t : ℕ) (s : RegisterStep id t) → registerIn (s .bytes) ≡ x
+    step-for registered id t s = place-injective (registerIn (s .bytes)) x (s .admitted .registered) registered (s .placed)
+
+    -- Its message passed with the run's f.
+    pub step-passed : (id : ReplicaId) → R .correct-replica id ≡ true → (t : ℕ) (s : RegisterStep id t) → Passed (R .f) (s .message) (s .verdicts)
+    step-passed id c t s = subst (λ (f : ℕ). Passed f (s .message) (s .verdicts)) (good-bank id c t .f-is) (s .facts .passed)
 
   -- ---- Clients
 

@@ -2,6 +2,7 @@ pub mod Atomicity
 pub mod Calls
 pub mod Claims
 pub mod Handing
+pub mod Lurking
 pub mod Prefix
 pub mod Premises
 pub mod ReadsFrom

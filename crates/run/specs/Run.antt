@@ -16,6 +16,7 @@ use Rattle.lms.specs.Lms.{isPublicKey}
 use Rattle.protocol.specs.Bank.{bankPart, freshBank}
 use Rattle.protocol.specs.Client.{Answer, send, freshClient}
 use Rattle.protocol.specs.Events.{ReplicaEvent, ClientEvent, request-handed, order-handed, write-begun, read-begun, reply-handed, made, proof-handed, replicaEventRegister, clientEventRegister, onReplicaEvent, nextBank, bankAnswer, onClientEvent, nextClient, clientAnswer}
+use Rattle.protocol.specs.RegisterReplica.{heldTimestamp}
 use Rattle.protocol.specs.declared.client.Client.{Client}
 use Rattle.protocol.specs.declared.replica.Bank.{Bank}
 use Rattle.protocol.specs.declared.replica.Register.{Register}
@@ -142,6 +143,10 @@ module _ (R : Run) where
 
   abbrev pub registerAt : RegisterId → ReplicaId → ℕ → Register
   registerAt x id t = registerReplicaAt x id t .register
+
+  -- The timestamp that it holds.
+  abbrev pub held : RegisterId → ReplicaId → ℕ → ℕ
+  held x id t = heldTimestamp (registerAt x id t .held)
 
   -- "one of its earlier events was answered with it": the party said this message, for this register, before event t.
   pub record Said (x : RegisterId) (party : Sender) (message : Message) (t : ℕ) : Type 0 where

@@ -24,9 +24,12 @@ shaped-few f entries e =
     let many = eqb-true (length entries) (quorumSize f) (and-true-both (eqb (length entries) (quorumSize f)) (rising 0 (replicaCount f) (signers entries)) e .0) in
     omega arith
 
--- A timestamp that passes 11 is above 0.0.
+-- A timestamp that passes 11 has a count above 0, and so is above 0.0.
+pub issued-counted : (timestamp : ℕ) → issued timestamp ≡ true → 1 ≤ timestamp / 256
+issued-counted timestamp e = leb-true 1 (timestamp / 256) (and-true-both (leb 1 (timestamp / 256)) (within 1 64 (timestamp % 256)) e .0)
+
 pub issued-positive : (timestamp : ℕ) → issued timestamp ≡ true → 1 ≤ timestamp
-issued-positive timestamp e = let low = leb-true 1 (timestamp / 256) (and-true-both (leb 1 (timestamp / 256)) (within 1 64 (timestamp % 256)) e .0) in omega arith
+issued-positive timestamp e = omega (arith, issued-counted timestamp e)
 
 pub record Passed (f : ℕ) (message : Message) (verdicts : List ℕ) : Type 0 where
   pub one-each : oneEach message verdicts ≡ true
