@@ -6,7 +6,6 @@ use mathlib.Core.Option.{Option, none, some}
 use Prim.Native.Nat.{ℕ, _/_, _≤_}
 use native.Mathlib.Omega.{arith}
 use borrow.Author.Tests.{eq-eqb, ne-eqb, le-leb, lt-ltb, le-ltb}
-use lib.Dec.{leb}
 use Rattle.base.specs.BigEndian.{fromBytes}
 use Rattle.base.specs.ClientSet.{has}
 use Rattle.base.specs.Outcome.{Outcome, accepted, refused, guard, _>>=_}
@@ -104,7 +103,7 @@ module _ (replica : RegisterReplica) (register : RegisterId) (registered : isReg
       let stands = holds .timestamp in
       let is : slotIs two 1·2 b old ≡ false = rw (eq-eqb (slotTimestamp old two) 1·2 stands, holds .digest-is) (same-differ a b apart) in
       let takes : slotTakes two 1·2 (raised 0 old) old ≡ false =
-      rw (ne-eqb (slotCount old two) 0 (omega arith), le-ltb (slotTimestamp old two) 1·2 (omega arith)) (and-false (leb (slotTimestamp old two) (raised 0 old))) in
+      rw (ne-eqb (slotCount old two) 0 (omega arith), le-ltb (slotTimestamp old two) 1·2 (omega arith)) (simp and-false refl) in
       first-answered replica register b (refused 15) registered served (prepare-refused two 1·2 b 0 old is takes)
 
 -- 2.2 is taken where the written timestamp that its PREPARE leaves closes the slot.

@@ -1,7 +1,7 @@
 -- Document 02, #108, of every run and register: of a client that each correct replica has withdrawn, at most one timestamp above S has a genuine
 -- proof. Assumes nothing.
 use mathlib.Core.Path.{_≡_, ap, _∙_, sym}
-use mathlib.Core.Logic.{⊎-elim}
+use mathlib.Core.Logic.{_⊎_, inl, inr, ⊎-elim}
 use mathlib.Core.Bool.{true, _&&_}
 use mathlib.Core.List.{List}
 use Prim.Native.Nat.{ℕ, _≤_, _<_}
@@ -73,7 +73,15 @@ module _ (R : Run) (few : FewFaulty R) (truth : AllTrue R) (x : RegisterId) (reg
           let least = written-held R x i (both .1) t s (b .said-it .signed i (both .0) (both .1)) in
           rw (both .1) (lt-ltb (bar R x t) (held R x i t) (omega arith))
 
-  -- The replica that vouches for both prepared the later one only when the earlier one was written.
+  -- So what is left behind is above every correct replica's written timestamp.
+  left-open : (id : ReplicaId) → R .correct-replica id ≡ true → (s : ℕ) → LeftBehind R x c t s → written R x id t < s
+  left-open id correct s left = ⊎-elim (λ closed. absurd (go closed (written-by R x truth registered id correct t))) (λ below. below) (order s (written R x id t))
+    where
+      go : s ≤ written R x id t → (written R x id t ≡ 0) ⊎ WrittenByQuorum R x t (written R x id t) → ⊥
+      go closed (inl unwritten) = let above = left .1 in omega arith
+      go closed (inr quorum) = let above = left .1 in none-written (written R x id t) (omega arith) quorum
+
+  -- The replica that vouches for both would have prepared the later one only where the earlier one was written.
   not-both : (proof proof′ : PreparedProof) → Genuine R x proof → Genuine R x proof′ → LeftBehind R x c t (proof .timestamp) → LeftBehind R x c t (proof′ .timestamp)
       → proof .timestamp < proof′ .timestamp → ⊥
   not-both proof proof′ g g′ left left′ less =
@@ -87,8 +95,7 @@ module _ (R : Run) (few : FewFaulty R) (truth : AllTrue R) (x : RegisterId) (reg
       let e = before-order id correct (proof .timestamp) (proof .digest) end (left .0) (backed .signed id (common .in-p) correct) in
       let e′ = before-order id correct (proof′ .timestamp) (proof′ .digest) end (left′ .0) (backed′ .signed id (common .in-q) correct) in
       let closed = earlier-closed R x id correct t (proof .timestamp) (proof′ .timestamp) (proof .digest) (proof′ .digest) (genuine-counted R x proof g) less (left .0 ∙ sym (left′ .0)) e e′ in
-      let above = left .1 in
-      ⊎-elim {B = WrittenByQuorum R x t (written R x id t)} (λ z. omega arith) (none-written (written R x id t) (omega arith)) (written-by R x truth registered id correct t)
+      omega (arith, left-open id correct (proof .timestamp) left)
 
   -- Without the premises on digests and nonces.
   at-most-one : (proof proof′ : PreparedProof) → Genuine R x proof → Genuine R x proof′ → LeftBehind R x c t (proof .timestamp) → LeftBehind R x c t (proof′ .timestamp)
