@@ -11,9 +11,9 @@ use Rattle.base.specs.Counting.{one}
 use Rattle.base.specs.Falling.{insert, falling}
 
 -- How many of a list pass a test.
-unfoldable pub passing : (ℕ → Bool) → List ℕ → ℕ
-passing test [] = 0
-passing test (n ∷ ns) = one (test n) + passing test ns
+unfoldable pub howMany : (ℕ → Bool) → List ℕ → ℕ
+howMany test [] = 0
+howMany test (n ∷ ns) = one (test n) + howMany test ns
 
 -- None lies above this one.
 abbrev pub Below : ℕ → List ℕ → Type 0
@@ -28,10 +28,10 @@ pub below-up : (s s′ : ℕ) (a : List ℕ) → s ≤ s′ → Below s a → Be
 below-up s s′ [] l h = tt
 below-up s s′ (n ∷ a) l h = let first = h .0 in (omega arith, below-up s s′ a l (h .1))
 
-pub all-passing : (a : List ℕ) → passing (λ n. true) a ≡ length a
-unfolding passing
-all-passing [] = refl
-all-passing (n ∷ a) = let rest = all-passing a in omega arith
+pub all-counted : (a : List ℕ) → howMany (λ n. true) a ≡ length a
+unfolding howMany
+all-counted [] = refl
+all-counted (n ∷ a) = let rest = all-counted a in omega arith
 
 module _ (v : ℕ) where
   insert-below : (s : ℕ) (a : List ℕ) → v ≤ s → Below s a → Below s (insert v a)
@@ -52,13 +52,13 @@ module _ (v : ℕ) where
       go true e rest = let l = leb-true n v e in ((l, below-up n v a l (h .0)), h)
       go false e rest = let l = leb-false n v e in (insert-below n a (omega arith) (h .0), rest)
 
-  insert-passing : (test : ℕ → Bool) (a : List ℕ) → passing test (insert v a) ≡ one (test v) + passing test a
-  unfolding insert passing
-  insert-passing test [] = refl
-  insert-passing test (n ∷ a) = go (leb n v) (insert-passing test a)
+  insert-adds : (test : ℕ → Bool) (a : List ℕ) → howMany test (insert v a) ≡ one (test v) + howMany test a
+  unfolding insert howMany
+  insert-adds test [] = refl
+  insert-adds test (n ∷ a) = go (leb n v) (insert-adds test a)
     where
-      go : (b : Bool) → passing test (insert v a) ≡ one (test v) + passing test a
-          → passing test (cond b (v ∷ n ∷ a) (n ∷ insert v a)) ≡ one (test v) + (one (test n) + passing test a)
+      go : (b : Bool) → howMany test (insert v a) ≡ one (test v) + howMany test a
+          → howMany test (cond b (v ∷ n ∷ a) (n ∷ insert v a)) ≡ one (test v) + (one (test n) + howMany test a)
       go true rest = refl
       go false rest = omega arith
 
@@ -68,22 +68,22 @@ falling-falls [] = tt
 falling-falls (n ∷ a) = insert-falls n (falling a) (falling-falls a)
 
 -- Each test is passed as often as before: no number is lost, and none is new.
-pub falling-passing : (test : ℕ → Bool) (a : List ℕ) → passing test (falling a) ≡ passing test a
-unfolding falling passing
-falling-passing test [] = refl
-falling-passing test (n ∷ a) = insert-passing n test (falling a) ∙ ap (λ (k : ℕ). one (test n) + k) (falling-passing test a)
+pub falling-keeps : (test : ℕ → Bool) (a : List ℕ) → howMany test (falling a) ≡ howMany test a
+unfolding falling howMany
+falling-keeps test [] = refl
+falling-keeps test (n ∷ a) = insert-adds n test (falling a) ∙ ap (λ (k : ℕ). one (test n) + k) (falling-keeps test a)
 
-none-above : (s : ℕ) (a : List ℕ) → Below s a → passing (λ n. ltb s n) a ≡ 0
-unfolding passing
+none-above : (s : ℕ) (a : List ℕ) → Below s a → howMany (λ n. ltb s n) a ≡ 0
+unfolding howMany
 none-above s [] h = refl
 none-above s (n ∷ a) h = let rest = none-above s a (h .1) in rw (le-ltb s n (h .0)) (omega arith)
 
-pub few-above : (a : List ℕ) (k : ℕ) → Falls a → passing (λ n. ltb (getD a k 0) n) a ≤ k
-unfolding passing
+pub few-above : (a : List ℕ) (k : ℕ) → Falls a → howMany (λ n. ltb (getD a k 0) n) a ≤ k
+unfolding howMany
 few-above [] k h = omega arith
 few-above (n ∷ a) zero h = let rest = none-above n a (h .0) in rw (le-ltb n n (omega arith)) (omega arith)
 few-above (n ∷ a) (suc k) h = go (ltb (getD a k 0) n) (few-above a k (h .1))
   where
-    go : (b : Bool) → passing (λ m. ltb (getD a k 0) m) a ≤ k → one b + passing (λ m. ltb (getD a k 0) m) a ≤ suc k
+    go : (b : Bool) → howMany (λ m. ltb (getD a k 0) m) a ≤ k → one b + howMany (λ m. ltb (getD a k 0) m) a ≤ suc k
     go true rest = omega arith
     go false rest = omega arith

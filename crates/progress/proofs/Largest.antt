@@ -10,17 +10,17 @@ use lib.Dec.{eqb}
 use lib.ListN.{length}
 use Rattle.base.specs.Counting.{one}
 use Rattle.base.proofs.Booleans.{and-true-both}
-use Rattle.base.proofs.Falling.{passing, Below, below-up}
+use Rattle.base.proofs.Falling.{howMany, Below, below-up}
 use Rattle.run.proofs.Slots.{order}
 use Rattle.wire.specs.Checks.{all}
 use Rattle.progress.specs.Counts.{allSame, largest}
 
 -- How many of a list are this one.
 abbrev pub equals : ℕ → List ℕ → ℕ
-equals s a = passing (λ n. eqb n s) a
+equals s a = howMany (λ n. eqb n s) a
 
 pub equals-more : (s : ℕ) (a : List ℕ) (n : ℕ) → equals s (a ++ n ∷ []) ≡ equals s a + one (eqb n s)
-unfolding passing
+unfolding howMany
 equals-more s [] n = omega arith
 equals-more s (m ∷ a) n = let rest = equals-more s a n in omega arith
 
@@ -29,19 +29,19 @@ below-more s [] n h l = (l, tt)
 below-more s (m ∷ a) n h l = (h .0, below-more s a n (h .1) l)
 
 pub none-above : (s s′ : ℕ) (a : List ℕ) → s < s′ → Below s a → equals s′ a ≡ 0
-unfolding passing
+unfolding howMany
 none-above s s′ [] l h = refl
 none-above s s′ (n ∷ a) l h = let first = h .0 in let rest = none-above s s′ a l (h .1) in rw (ne-eqb n s′ (λ z. omega arith)) (omega arith)
 
 all-zero : (a : List ℕ) → Below 0 a → equals 0 a ≡ length a
-unfolding passing
+unfolding howMany
 all-zero [] h = refl
 all-zero (n ∷ a) h = let first = h .0 in let rest = all-zero a (h .1) in rw (eq-eqb n 0 (omega arith)) (omega arith)
 
 -- ---- All are the same
 
 equals-most : (s : ℕ) (a : List ℕ) → equals s a ≤ length a
-unfolding passing
+unfolding howMany
 equals-most s [] = omega arith
 equals-most s (n ∷ a) = go (eqb n s) (equals-most s a)
   where
@@ -50,7 +50,7 @@ equals-most s (n ∷ a) = go (eqb n s) (equals-most s a)
     go false l = omega arith
 
 all-equal : (s : ℕ) (a : List ℕ) → length a ≤ equals s a → all (λ n. eqb n s) a ≡ true
-unfolding passing all
+unfolding howMany all
 all-equal s [] l = refl
 all-equal s (n ∷ a) l = go (eqb n s) l (λ k. all-equal s a k)
   where
@@ -60,7 +60,7 @@ all-equal s (n ∷ a) l = go (eqb n s) l (λ k. all-equal s a k)
 
 -- All are s: then they are counted for s, and none for another.
 equal-all : (s s′ : ℕ) (a : List ℕ) → all (λ n. eqb n s) a ≡ true → (s ≡ s′ → equals s′ a ≡ length a) × ((s ≡ s′ → ⊥) → equals s′ a ≡ 0)
-unfolding passing all
+unfolding howMany all
 equal-all s s′ [] e = ((λ z. refl), (λ other. refl))
 equal-all s s′ (n ∷ a) e =
     let both = and-true-both (eqb n s) (all (λ n. eqb n s) a) e in
@@ -76,7 +76,7 @@ same-if s (n ∷ a) l =
     subst (λ (k : ℕ). all (λ i. eqb i k) a ≡ true) (sym (eqb-true n s (both .0))) (both .1)
 
 pub differ-if : (s : ℕ) (a : List ℕ) → 1 ≤ equals s a → equals s a < length a → allSame a ≡ false
-unfolding passing
+unfolding howMany
 differ-if s [] some-there less = absurd (omega arith)
 differ-if s (n ∷ a) some-there less = go (allSame (n ∷ a)) refl
   where
@@ -121,7 +121,7 @@ largest-most s [] h = omega arith
 largest-most s (n ∷ a) h = let rest = largest-most s a (h .1) in let first = h .0 in omega arith
 
 largest-least : (s : ℕ) (a : List ℕ) → 1 ≤ equals s a → s ≤ largest a
-unfolding passing
+unfolding howMany
 largest-least s [] l = absurd (omega arith)
 largest-least s (n ∷ a) l = go (eqb n s) refl l (λ k. largest-least s a k)
   where

@@ -11,7 +11,7 @@ use Rattle.base.specs.Counting.{replica, one, count}
 use Rattle.base.specs.Party.{replicaCount, quorumSize}
 use Rattle.base.specs.declared.party.RegisterId.{RegisterId}
 use Rattle.base.proofs.Counting.{count-agree}
-use Rattle.base.proofs.Falling.{passing, Falls, all-passing, falling-falls, falling-passing, few-above}
+use Rattle.base.proofs.Falling.{howMany, Falls, all-counted, falling-falls, falling-keeps, few-above}
 use Rattle.base.proofs.Quorum.{correct-quorum}
 use Rattle.base.proofs.Range.{bounds}
 use Rattle.run.specs.Lurking.{heldAmong, heldFalling, bar}
@@ -19,16 +19,16 @@ use Rattle.run.specs.Premises.{FewFaulty}
 use Rattle.run.specs.Run.{Run, held}
 
 module _ (R : Run) (x : RegisterId) (t : ℕ) where
-  among-passing : (test : ℕ → Bool) (n : ℕ) → passing test (heldAmong R x n t) ≡ count n (λ id. R .correct-replica id && test (held R x id t))
-  unfolding heldAmong passing count
-  among-passing test zero = refl
-  among-passing test (suc n) = go (R .correct-replica (replica (suc n))) (among-passing test n)
+  among-counted : (test : ℕ → Bool) (n : ℕ) → howMany test (heldAmong R x n t) ≡ count n (λ id. R .correct-replica id && test (held R x id t))
+  unfolding heldAmong howMany count
+  among-counted test zero = refl
+  among-counted test (suc n) = go (R .correct-replica (replica (suc n))) (among-counted test n)
     where
       here : ℕ
       here = held R x (replica (suc n)) t
 
-      go : (b : Bool) → passing test (heldAmong R x n t) ≡ count n (λ id. R .correct-replica id && test (held R x id t))
-          → passing test (cond b (here ∷ heldAmong R x n t) (heldAmong R x n t)) ≡ one (b && test here) + count n (λ id. R .correct-replica id && test (held R x id t))
+      go : (b : Bool) → howMany test (heldAmong R x n t) ≡ count n (λ id. R .correct-replica id && test (held R x id t))
+          → howMany test (cond b (here ∷ heldAmong R x n t) (heldAmong R x n t)) ≡ one (b && test here) + count n (λ id. R .correct-replica id && test (held R x id t))
       go true rest = omega arith
       go false rest = omega arith
 
@@ -36,18 +36,18 @@ module _ (R : Run) (x : RegisterId) (t : ℕ) where
   held-falls = falling-falls (heldAmong R x (replicaCount (R .f)) t)
 
   -- Each test is passed by as many numbers as there are correct replicas whose held timestamp passes it.
-  pub held-passing : (test : ℕ → Bool) → passing test (heldFalling R x t) ≡ count (replicaCount (R .f)) (λ id. R .correct-replica id && test (held R x id t))
-  held-passing test = falling-passing test (heldAmong R x (replicaCount (R .f)) t) ∙ among-passing test (replicaCount (R .f))
+  pub held-counted : (test : ℕ → Bool) → howMany test (heldFalling R x t) ≡ count (replicaCount (R .f)) (λ id. R .correct-replica id && test (held R x id t))
+  held-counted test = falling-keeps test (heldAmong R x (replicaCount (R .f)) t) ∙ among-counted test (replicaCount (R .f))
 
   -- So each number stands there as often as a correct replica holds it,
-  pub held-each : (s : ℕ) → passing (λ n. eqb n s) (heldFalling R x t) ≡ count (replicaCount (R .f)) (λ id. R .correct-replica id && eqb (held R x id t) s)
-  held-each s = held-passing (λ n. eqb n s)
+  pub held-each : (s : ℕ) → howMany (λ n. eqb n s) (heldFalling R x t) ≡ count (replicaCount (R .f)) (λ id. R .correct-replica id && eqb (held R x id t) s)
+  held-each s = held-counted (λ n. eqb n s)
 
   -- there are as many as correct replicas,
   pub held-long : length (heldFalling R x t) ≡ count (replicaCount (R .f)) (R .correct-replica)
   held-long =
-      sym (all-passing (heldFalling R x t))
-      ∙ held-passing (λ n. true)
+      sym (all-counted (heldFalling R x t))
+      ∙ held-counted (λ n. true)
       ∙ count-agree (replicaCount (R .f)) (λ id. R .correct-replica id && true) (R .correct-replica) (λ i low high. and-true (R .correct-replica (replica i)))
     where
       and-true : (b : Bool) → (b && true) ≡ b
@@ -59,4 +59,4 @@ module _ (R : Run) (x : RegisterId) (t : ℕ) where
   held-enough few = omega (arith, held-long, correct-quorum (R .f) (R .correct-replica) few (bounds 1 5 (R .f) (R .f-in-range) .1))
 
   pub few-above-bar : count (replicaCount (R .f)) (λ id. R .correct-replica id && ltb (bar R x t) (held R x id t)) ≤ R .f
-  few-above-bar = omega (arith, few-above (heldFalling R x t) (R .f) held-falls, held-passing (λ n. ltb (bar R x t) n))
+  few-above-bar = omega (arith, few-above (heldFalling R x t) (R .f) held-falls, held-counted (λ n. ltb (bar R x t) n))

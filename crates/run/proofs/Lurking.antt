@@ -37,7 +37,7 @@ use Rattle.run.proofs.Slots.{order, meet, genuine-backed, genuine-count
 use Rattle.run.proofs.Turns.{register-step}
 use Rattle.run.proofs.Withdrawals.{withdrawals}
 
-module _ (R : Run) (few : FewFaulty R) (truth : AllTrue R) (x : RegisterId) (registered : isRegister x ≡ true) (c : ClientId) (t : ℕ) (withdrawn : WithdrawnEverywhere R x c t) where
+module _ (R : Run) (few : FewFaulty R) (truth : AllTrue R) (x : RegisterId) (registered : isRegister x ≡ true) (c : ClientId) (t : ℕ) (withdrawn : WithdrawnEverywhere R c t) where
   -- What a correct replica sent PREPARED for, at the client's asking, it sent before it took the order.
   before-order : (id : ReplicaId) → R .correct-replica id ≡ true → (s : ℕ) (d : List ℕ) (end : ℕ) → clientOf s ≡ c → Said R x (replica id) (PREPARED id s d) end → Said R x (replica id) (PREPARED id s d) t
   before-order id correct s d end own e =

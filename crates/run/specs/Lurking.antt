@@ -17,6 +17,11 @@ use Rattle.run.specs.Claims.{Genuine}
 use Rattle.run.specs.Run.{Run, held}
 use Rattle.run.specs.Withdrawals.{OrderTaken}
 
+-- "a point where every rule-following holder has carried out the order against desk D": before event t each has taken one, at a time of its own
+-- and maybe another one than the next.
+abbrev pub WithdrawnEverywhere : Run → ClientId → ℕ → Type 0
+WithdrawnEverywhere R c t = (id : ReplicaId) → R .correct-replica id ≡ true → OrderTaken R id c t
+
 module _ (R : Run) (x : RegisterId) where
   -- What the correct replicas among 1 to n hold before event t.
   unfoldable pub heldAmong : ℕ → ℕ → List ℕ
@@ -31,20 +36,17 @@ module _ (R : Run) (x : RegisterId) where
   abbrev pub bar : ℕ → ℕ
   bar t = getD (heldFalling t) (R .f) 0
 
-  -- "a point where every rule-following holder has carried out the order against desk D": each has taken one, at a time of its own, and maybe
-  -- another one than the next.
-  abbrev pub WithdrawnEverywhere : ClientId → ℕ → Type 0
-  WithdrawnEverywhere c t = (id : ReplicaId) → R .correct-replica id ≡ true → OrderTaken R id c t
-
   -- "stamp of D later than S"
   abbrev pub LeftBehind : ClientId → ℕ → ℕ → Type 0
   LeftBehind c t timestamp = (clientOf timestamp ≡ c) × (bar t < timestamp)
 
   -- "over the rest of that run at most one stamp of D later than S ever has a genuine prepared proof for that set, whoever gathers the seals":
-  -- a proof is judged at the end of the list, where all is sent that was ever sent. The register must be one: messages carry the last byte
-  -- of its number, and what is no register has register 1's record.
+  -- a proof is judged at the end of the list, where all is sent that was ever sent.
+  abbrev pub AtMostOne : Type 0
+  AtMostOne =
+      (c : ClientId) (t : ℕ) → WithdrawnEverywhere R c t → (proof proof′ : PreparedProof) → Genuine R x proof → Genuine R x proof′
+      → LeftBehind c t (proof .timestamp) → LeftBehind c t (proof′ .timestamp) → proof .timestamp ≡ proof′ .timestamp
+
+  -- Of each register: messages carry the last byte of a number, while what is no register's has register 1's record.
   abbrev pub Lurking : Type 0
-  Lurking =
-      isRegister x ≡ true → (c : ClientId) (t : ℕ) → WithdrawnEverywhere c t
-      → (proof proof′ : PreparedProof) → Genuine R x proof → Genuine R x proof′ → LeftBehind c t (proof .timestamp) → LeftBehind c t (proof′ .timestamp)
-      → proof .timestamp ≡ proof′ .timestamp
+  Lurking = isRegister x ≡ true → AtMostOne

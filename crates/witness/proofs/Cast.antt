@@ -63,6 +63,9 @@ abbrev pub 1·4 : ℕ
 abbrev pub 2·2 : ℕ
 2·2 = 514
 
+abbrev pub 2·4 : ℕ
+2·4 = 516
+
 abbrev pub 2·5 : ℕ
 2·5 = 517
 
@@ -74,6 +77,9 @@ at-1·1 = record { count = 1; client = client-1 }
 
 abbrev pub at-1·4 : Timestamp
 at-1·4 = record { count = 1; client = client-4 }
+
+abbrev pub at-2·4 : Timestamp
+at-2·4 = record { count = 2; client = client-4 }
 
 -- Sets of replicas as 16 bits, replica 1 lowest: 1, 2 and 3, and 1, 2 and 4.
 abbrev pub by-1-2-3 : ReplicaSet

@@ -12,12 +12,14 @@ pub mod FirstWrite
 pub mod GoodOrder
 pub mod Invoked
 pub mod Judging
+pub mod LeftBehind
 pub mod Meeting
 pub mod MessagesCounted
 pub mod NewLaptop
 pub mod NoncesNeeded
 pub mod NotEmpty
 pub mod OneLaptopNeeded
+pub mod Ordered
 pub mod Replay
 pub mod SameHanded
 pub mod Story

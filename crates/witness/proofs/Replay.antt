@@ -4,11 +4,11 @@ use mathlib.Core.Logic.{_≢_}
 use mathlib.Core.Bool.{Bool, true, false, _&&_, cond}
 use mathlib.Core.List.{List, [], _∷_}
 use mathlib.Core.Option.{Option, some}
-use Prim.Native.Nat.{ℕ, zero, suc, _+_, _<_}
+use Prim.Native.Nat.{ℕ, zero, suc, _+_, _≤_, _<_}
 use native.Mathlib.Omega.{arith}
 use borrow.Author.Tests.{eqb-true, eqb-false, ltb-true}
 use lib.Dec.{eqb, ltb}
-use lib.ListN.{length, getD, getElem?, set, length-set}
+use lib.ListN.{length, getD, getElem?, take, set, length-set}
 use lib.Seq.{getD-set-same, getD-set-other}
 use Rattle.base.proofs.Booleans.{and-true-both}
 use Rattle.base.specs.Outcome.{Outcome}
@@ -75,7 +75,7 @@ no-replica = freshBank 1 (replica-of 0) []
 abbrev no-client : Client
 no-client = freshClient 1 (client-of 0) 1
 
-abbrev replicaIn : Store → ReplicaId → Bank
+abbrev pub replicaIn : Store → ReplicaId → Bank
 replicaIn store id = getD (store .replicas) (id .0) no-replica
 
 abbrev clientIn : Store → ClientId → Client
@@ -122,6 +122,11 @@ playsBy step store (line ∷ lines) =
 unfoldable pub plays : Store → List Line → Bool
 unfolding playsBy
 plays store lines = playsBy onReplicaEvent store lines
+
+-- The store after some lines.
+unfoldable pub storeAfter : Stepping → Store → List Line → Store
+storeAfter step store [] = store
+storeAfter step store (line ∷ lines) = storeAfter step (play step store (line .event) .next) lines
 
 module _ (R : Run) where
   -- The fresh records of replicas 1 to 4 and clients 1 to c; place 0 is no party's.
@@ -202,27 +207,62 @@ module _ (R : Run) where
         ap (λ (f : ℕ). clientAnswer (onClientEvent f id e (clientAt R id t))) (sym (holds .f-is))
         ∙ ap (λ (c : Client). clientAnswer (onClientEvent (store .f) id e c)) (sym (holds .clients (id .0) (ltb-true (id .0) (length (store .clients)) there)))
 
-    each-played : (t : ℕ) (store : Store) (lines : List Line) → ((i : ℕ) → event R (t + i) ≡ getElem? (eventsOf lines) i) → Holds t store → playsBy step store lines ≡ true
-        → Each (λ s line. code (registerOf (line .event)) (answerTo R s (some (line .event))) ≡ code (registerOf (line .event)) (line .answer)) t lines
+    -- From event t on the run's events are those of these lines.
+    abbrev From : ℕ → List Line → Type 0
+    From t lines = (i : ℕ) → event R (t + i) ≡ getElem? (eventsOf lines) i
+
+    -- A line that is played: it is answered as told, and the rest is played with the store that it leaves.
+    record LinePlayed (t : ℕ) (store : Store) (line : Line) (lines : List Line) : Type 0 where
+      answered : code (registerOf (line .event)) (answerTo R t (some (line .event))) ≡ code (registerOf (line .event)) (line .answer)
+      events : From (suc t) lines
+      holds : Holds (suc t) (play step store (line .event) .next)
+      test : playsBy step (play step store (line .event) .next) lines ≡ true
+
+    line-played : (t : ℕ) (store : Store) (line : Line) (lines : List Line) → From t (line ∷ lines) → Holds t store → playsBy step store (line ∷ lines) ≡ true → LinePlayed t store line lines
     unfolding playsBy
-    each-played t store [] events holds test = tt
-    each-played t store (line ∷ lines) events holds test =
+    line-played t store line lines events holds test =
         let x = registerOf (line .event) in
         let both = and-true-both (inStore store (line .event) && same (code x (play step store (line .event) .answer)) (code x (line .answer))) (playsBy step (play step store (line .event) .next) lines) test in
         let here = and-true-both (inStore store (line .event)) (same (code x (play step store (line .event) .answer)) (code x (line .answer))) (both .0) in
         let now : t + 0 ≡ t = omega arith in
-        let found : event R t ≡ some (line .event) = subst (λ (s : ℕ). event R s ≡ some (line .event)) now (events 0) in (
-          ap (code x) (answers-right t store (line .event) found (here .0) holds) ∙ same-equal (code x (play step store (line .event) .answer)) (code x (line .answer)) (here .1),
-          each-played (suc t) (play step store (line .event) .next) lines (λ i. let then : t + suc i ≡ suc t + i = omega arith in subst (λ (s : ℕ). event R s ≡ getElem? (eventsOf lines) i) then (events (suc i)))
-              (still-holds t store (line .event) found (here .0) holds) (both .1),
-        )
-
-    pub playedBy : (c : ℕ) (lines : List Line) → R .events ≡ eventsOf lines → playsBy step (freshStore c) lines ≡ true → Told R lines
-    playedBy c lines told test =
+        let found : event R t ≡ some (line .event) = subst (λ (s : ℕ). event R s ≡ some (line .event)) now (events 0) in
         record {
-          events = told;
-          answers = each-played 0 (freshStore c) lines (λ i. let now : 0 + i ≡ i = omega arith in subst (λ (s : ℕ). event R s ≡ getElem? (eventsOf lines) i) (sym now) (ap (λ (es : List Event). getElem? es i) told)) (fresh-holds c) test;
+          answered = ap (code x) (answers-right t store (line .event) found (here .0) holds) ∙ same-equal (code x (play step store (line .event) .answer)) (code x (line .answer)) (here .1);
+          events = λ i. let then : t + suc i ≡ suc t + i = omega arith in subst (λ (s : ℕ). event R s ≡ getElem? (eventsOf lines) i) then (events (suc i));
+          holds = still-holds t store (line .event) found (here .0) holds;
+          test = both .1;
         }
+
+    each-played : (t : ℕ) (store : Store) (lines : List Line) → From t lines → Holds t store → playsBy step store lines ≡ true
+        → Each (λ s line. code (registerOf (line .event)) (answerTo R s (some (line .event))) ≡ code (registerOf (line .event)) (line .answer)) t lines
+    each-played t store [] events holds test = tt
+    each-played t store (line ∷ lines) events holds test =
+        let it = line-played t store line lines events holds test in
+        (it .answered, each-played (suc t) (play step store (line .event) .next) lines (it .events) (it .holds) (it .test))
+
+    holds-after : (n t : ℕ) (store : Store) (lines : List Line) → n ≤ length lines → From t lines → Holds t store → playsBy step store lines ≡ true → Holds (t + n) (storeAfter step store (take n lines))
+    unfolding storeAfter
+    holds-after zero t store lines l events holds test = let now : t ≡ t + 0 = omega arith in subst (λ (s : ℕ). Holds s store) now holds
+    holds-after (suc n) t store [] l events holds test = absurd (omega arith)
+    holds-after (suc n) t store (line ∷ lines) l events holds test =
+        let it = line-played t store line lines events holds test in
+        let now : suc t + n ≡ t + suc n = omega arith in
+        subst (λ (s : ℕ). Holds s (storeAfter step (play step store (line .event) .next) (take n lines))) now
+        (holds-after n (suc t) (play step store (line .event) .next) lines (omega arith) (it .events) (it .holds) (it .test))
+
+    module _ (c : ℕ) (lines : List Line) (told : R .events ≡ eventsOf lines) (test : playsBy step (freshStore c) lines ≡ true) where
+      from-start : From 0 lines
+      from-start i = let now : 0 + i ≡ i = omega arith in subst (λ (s : ℕ). event R s ≡ getElem? (eventsOf lines) i) (sym now) (ap (λ (es : List Event). getElem? es i) told)
+
+      pub playedBy : Told R lines
+      playedBy = record { events = told; answers = each-played 0 (freshStore c) lines from-start (fresh-holds c) test }
+
+      -- The run's record of a replica before event n, which is that after n lines.
+      pub bank-told : (n : ℕ) → n ≤ length lines → (id : ReplicaId) → id .0 < length (storeAfter step (freshStore c) (take n lines) .replicas)
+          → bankAt R id n ≡ replicaIn (storeAfter step (freshStore c) (take n lines)) id
+      bank-told n l id there =
+          let now : 0 + n ≡ n = omega arith in
+          sym (subst (λ (t : ℕ). Holds t (storeAfter step (freshStore c) (take n lines))) now (holds-after n 0 (freshStore c) lines l from-start (fresh-holds c) test) .replicas (id .0) there)
 
   pub played : (c : ℕ) (lines : List Line) → R .events ≡ eventsOf lines → plays (freshStore c) lines ≡ true → Told R lines
   unfolding plays

@@ -1,8 +1,8 @@
 -- Document 02, #105, is not empty: a run that meets the premises where each correct replica takes an order that withdraws client 4, refuses
 -- its READ and PREPARE with 23, and takes client 5's WRITE of client 4's timestamp and its PREPARE on client 4's prepared proof; client 1,
 -- which is correct, then reads client 4's card. The run is played for any key under which the order is good; `GoodOrder` has one. Assumes nothing.
-use mathlib.Core.Path.{_≡_, refl, sym, ap, ap₂, subst, _∙_}
-use mathlib.Core.Bool.{Bool, true}
+use mathlib.Core.Path.{_≡_, refl}
+use mathlib.Core.Bool.{true}
 use mathlib.Core.List.{List, [], _∷_}
 use mathlib.Core.Option.{none, some}
 use Prim.Native.Nat.{ℕ, zero, suc, _+_, _≤_, _<_}
@@ -10,31 +10,26 @@ use native.Mathlib.Omega.{arith}
 use lib.Dec.{lit<, lit≤}
 use lib.ListN.{getElem?}
 use Rattle.base.proofs.Range.{bounds}
-use Rattle.base.proofs.Same.{same-equal}
 use Rattle.base.specs.BigEndian.{Bytes}
-use Rattle.base.specs.Counting.{count}
-use Rattle.base.specs.Outcome.{Outcome, accepted, refused, _>>=_}
+use Rattle.base.specs.Outcome.{accepted, refused}
 use Rattle.base.specs.Range.{within}
-use Rattle.base.specs.Same.{same}
-use Rattle.base.specs.declared.party.ClientId.{ClientId}
 use Rattle.base.specs.declared.party.ReplicaId.{ReplicaId}
 use Rattle.lms.specs.Lms.{isPublicKey}
 use Rattle.protocol.specs.Client.{send, waits, done}
-use Rattle.protocol.specs.Events.{request-handed, order-handed, orderTurn, onReplicaEvent}
-use Rattle.protocol.specs.Order.{ordered, withdrawing, takeOrder}
-use Rattle.run.proofs.Turns.{good-bank}
+use Rattle.protocol.specs.Order.{ordered}
 use Rattle.run.specs.Premises.{Premises}
-use Rattle.run.specs.Run.{Event, at-replica, at-client, to-replica, order-to, begins-read, to-client, Run, event, bankAt, answerAt}
+use Rattle.run.specs.Run.{Event, to-replica, order-to, begins-read, to-client, Run, event, answerAt}
 use Rattle.run.specs.Withdrawals.{OrderTaken}
 use Rattle.wire.specs.Decode.{registerIn}
 use Rattle.wire.specs.Message.{Message, PREPARE, WRITE, READ, PREPARED, WRITTEN, CARD}
 use Rattle.wire.specs.Proof.{PreparedProof}
-use Rattle.witness.proofs.Answers.{is-accepted}
-use Rattle.witness.proofs.Cast.{replica-1, replica-2, replica-3, register-1, client-1, client-4, client-5, 1·4, 2·5, at-1·4, by-1-2-3, entry, from-replica, from-client, one, four, service, service-digest, lathe-digest, cards, right-digests, different-cards}
-use Rattle.witness.proofs.Computing.{messages, steps, digests}
-use Rattle.witness.proofs.GoodOrder.{order, key, is-key, names, good}
-use Rattle.witness.proofs.Replay.{Stepping, freshStore, playsBy, Rightly, playedBy}
-use Rattle.witness.proofs.Story.{Line, _↝_, _↛_, eventsOf, each, each-tested, lineOf, wellTold, toldUnder, Told, hasBytes, AllTrue, trueVerdicts, newNonces, NoOtherCards, premises-told, Sends, event-told, answer-told, sends-told, done-told, refused-told}
+use Rattle.witness.proofs.Cast.{replica-1, replica-2, replica-3, register-1, client-1, client-4, client-5, 1·4, 2·5, at-1·4, by-1-2-3, entry, from-replica, from-client, one, four, service, service-digest, lathe-digest}
+use Rattle.witness.proofs.Computing.{messages}
+use Rattle.witness.proofs.GoodOrder.{order, key, is-key, good}
+use Rattle.witness.proofs.Checked.{tests}
+use Rattle.witness.proofs.Ordered.{Ordered, runOf, goes-as-told, meets-premises, takes-order}
+use Rattle.witness.proofs.Replay.{playsBy}
+use Rattle.witness.proofs.Story.{Line, _↝_, _↛_, Told, Sends, event-told, sends-told, done-told, refused-told}
 
 -- ---- What happens: replicas 1 to 3 and client 1 are correct; clients 4 and 5 are faulty, and so bound to no rule
 
@@ -83,68 +78,34 @@ story =
     ∷ to-client client-1 (from-replica replica-3 shows) four ↝ done at-1·4 service by-1-2-3
     ∷ [])))))))
 
-well-told : each (wellTold 3 3) 0 story ≡ true
-unfolding story order messages hasBytes
-well-told = refl
-
--- Every order of the story is this one.
-abbrev isIt : Event → Bool
-isIt (at-replica id (request-handed bytes verdicts)) = true
-isIt (at-replica id (order-handed bytes)) = same bytes order
-isIt (at-client id e) = true
-
-all-are : each (λ t line. isIt (line .event)) 0 story ≡ true
-unfolding story order same
-all-are = refl
-
-is-the-order : (t : ℕ) (id : ReplicaId) (bytes : List ℕ) → getElem? (eventsOf story) t ≡ some (order-to id bytes) → bytes ≡ order
-is-the-order t id bytes found =
-    let (line, at, is) = lineOf story t (order-to id bytes) found in
-    same-equal bytes order (subst (λ (e : Event). isIt e ≡ true) is (each-tested (λ s l. isIt (l .event)) t story line all-are at))
-
 -- ---- Played under any key that the order is good under
 
--- The order's outcome as told.
-abbrev step : Stepping
-step (request-handed bytes verdicts) bank = onReplicaEvent (request-handed bytes verdicts) bank
-step (order-handed bytes) bank = orderTurn (accepted (withdrawing client-4 bank))
-
 module _ (key : List ℕ) (is-key : (isPublicKey key ≡ true) × Bytes key) (good : ordered key order ≡ accepted client-4) where
+  checked : Ordered 3 3 story key is-key
+  unfolding story order tests playsBy
+  checked =
+      record {
+        at-most-four = lit≤ tt;
+        at-most-96 = lit≤ tt;
+        well-told = refl;
+        all-are = refl;
+        answers = refl;
+        few-faulty = lit≤ tt;
+        verdicts-true = refl;
+        new-nonces = refl;
+        no-other-cards = refl;
+      }
+
   pub run : Run
-  run = toldUnder 3 3 (lit≤ tt) (lit≤ tt) story well-told key is-key
-
-  rightly : Rightly run step
-  unfolding run takeOrder
-  rightly t id (request-handed bytes verdicts) found = refl
-  rightly t id (order-handed bytes) found =
-      let bank = bankAt run id t in
-      let key-is = good-bank run id (run .at-correct t (order-to id bytes) found) t .key-is in
-      let said : ordered (bank .key) bytes ≡ accepted client-4 = ap₂ ordered key-is (is-the-order t id bytes found) ∙ good in
-      ap (λ (o : Outcome ClientId). orderTurn (o >>= λ client. accepted (withdrawing client bank))) (sym said)
-
-  answers-as-told : playsBy step (freshStore run 3) story ≡ true
-  unfolding run story steps digests playsBy
-  answers-as-told = refl
+  run = runOf checked
 
   as-told : Told run story
   unfolding run
-  as-told = playedBy run step rightly 3 story refl answers-as-told
-
-  verdicts-true : AllTrue run story
-  unfolding run story messages trueVerdicts
-  verdicts-true = refl
-
-  no-makings : newNonces story ≡ true
-  unfolding story newNonces
-  no-makings = refl
-
-  no-other-cards : NoOtherCards run story cards
-  unfolding story messages cards
-  no-other-cards = refl
+  as-told = goes-as-told checked good
 
   premises : Premises run
-  unfolding run count within
-  premises = premises-told run story as-told cards (lit≤ tt) verdicts-true no-makings no-other-cards right-digests different-cards
+  unfolding run
+  premises = meets-premises checked good
 
   read-done : answerAt run 24 ≡ accepted (done at-1·4 service by-1-2-3)
   unfolding story
@@ -163,17 +124,6 @@ module _ (key : List ℕ) (is-key : (isPublicKey key ≡ true) × Bytes key) (go
     pub write-taken : Later (to-replica id write-5 four) (λ t. Sends run register-1 t (WRITTEN id 1·4))
     pub prepare-taken : Later (to-replica id prepare-5 four) (λ t. Sends run register-1 t (PREPARED id 2·5 lathe-digest))
 
-  takes : (t : ℕ) (id : ReplicaId) → t < 6 → getElem? story t ≡ some (order-to id order ↝ waits) → OrderTaken run id client-4 6
-  takes t id before at =
-      record {
-        time = t;
-        earlier = before;
-        order = order;
-        event-is = event-told run story as-told t (order-to id order ↝ waits) at;
-        names = names;
-        taken = is-accepted (record { 0 = 0 }) (answerAt run t) waits (answer-told run story as-told t (order-to id order ↝ waits) at);
-      }
-
   refuses : (t : ℕ) (e : Event) → 6 ≤ t → getElem? story t ≡ some (e ↛ 23) → Later e (λ s. answerAt run s ≡ refused 23)
   refuses t e behind at = (t, behind, event-told run story as-told t (e ↛ 23) at, refused-told run story as-told t e 23 at)
 
@@ -191,10 +141,10 @@ module _ (key : List ℕ) (is-key : (isPublicKey key ≡ true) × Bytes key) (go
       → getElem? story (12 + i) ≡ some (to-replica id write-5 four ↝ send (WRITTEN id 1·4))
       → getElem? story (15 + i) ≡ some (to-replica id prepare-5 four ↝ send (PREPARED id 2·5 lathe-digest))
       → SeenAt id
-  unfolding messages
+  unfolding messages run
   seen-in i id few taken read prepare write after =
       record {
-        order-taken = takes (3 + i) id (omega arith) taken;
+        order-taken = takes-order checked good (3 + i) 6 id (omega arith) taken;
         read-refused = refuses (6 + i) _ (omega arith) read;
         prepare-refused = refuses (9 + i) _ (omega arith) prepare;
         write-taken = sends (12 + i) id write-5 four _ (omega arith) write;

@@ -1,0 +1,265 @@
+-- Document 02, #108, is not empty, and tight: a run that meets the premises where client 4, which is faulty as replica 4 is, has 1.4 written at two
+-- correct replicas and 2.4 prepared before it is withdrawn everywhere. S is 1.4, and the only timestamp of client 4's above it that can be proved
+-- is 2.4, which client 5 then writes and client 1 reads. Above the (f + 2)th there are two. Assumes nothing.
+use mathlib.Core.Path.{_≡_, refl, ap}
+use mathlib.Core.Bool.{true}
+use mathlib.Core.List.{List, [], _∷_}
+use mathlib.Core.Option.{none, some}
+use Prim.Native.Nat.{ℕ, zero, suc, _<_}
+use native.Mathlib.Omega.{arith}
+use lib.Dec.{lit<, lit≤}
+use lib.ListN.{getD, take}
+use Rattle.base.proofs.Range.{bounds}
+use Rattle.base.specs.BigEndian.{Bytes}
+use Rattle.base.specs.Falling.{insert, falling}
+use Rattle.base.specs.Outcome.{accepted}
+use Rattle.base.specs.Party.{registerPlace}
+use Rattle.base.specs.Range.{within}
+use Rattle.base.specs.declared.party.RegisterId.{RegisterId}
+use Rattle.base.specs.declared.party.ReplicaId.{ReplicaId}
+use Rattle.lms.specs.Lms.{isPublicKey}
+use Rattle.protocol.specs.Bank.{bankPart}
+use Rattle.protocol.specs.Client.{send, waits, done}
+use Rattle.protocol.specs.Order.{ordered}
+use Rattle.protocol.specs.RegisterReplica.{heldTimestamp}
+use Rattle.protocol.specs.declared.replica.Bank.{Bank}
+use Rattle.run.proofs.Lurking.{lurking}
+use Rattle.run.specs.Claims.{Genuine}
+use Rattle.run.specs.Lurking.{heldAmong, heldFalling, bar, WithdrawnEverywhere, LeftBehind, AtMostOne}
+use Rattle.run.specs.Premises.{Premises}
+use Rattle.run.specs.Run.{to-replica, order-to, begins-read, to-client, Run, bankAt, held, answerAt}
+use Rattle.run.specs.Withdrawals.{OrderTaken}
+use Rattle.wire.specs.Message.{Message, PREPARE, WRITE, READ, PREPARED, WRITTEN, CARD}
+use Rattle.wire.specs.Proof.{PreparedProof, WrittenProof}
+use Rattle.witness.proofs.Cast.{replica-1, replica-2, replica-3, replica-4, register-2, client-1, client-4, client-5, 1·4, 2·4, at-2·4, by-1-2-4, entry, from-replica-for, from-client-for, one, three, four, seven, service, lathe, service-digest, lathe-digest}
+use Rattle.witness.proofs.Checked.{tests}
+use Rattle.witness.proofs.Computing.{steps, digests}
+use Rattle.witness.proofs.GoodOrder.{order, key, is-key, good}
+use Rattle.witness.proofs.Ordered.{step, Ordered, runOf, goes-as-told, meets-premises, takes-order, record-told}
+use Rattle.witness.proofs.Replay.{freshStore, storeAfter, replicaIn, playsBy}
+use Rattle.witness.proofs.Story.{Line, _↝_, Told, trueVerdicts, allBytes, done-told, genuine-told}
+
+-- ---- What happens: replicas 1 to 3 and client 1 are correct; replica 4 signs all that client 4 likes
+
+abbrev proof-1 : PreparedProof
+proof-1 = record { timestamp = 1·4; digest = service-digest; entries = entry replica-1 ∷ entry replica-2 ∷ entry replica-4 ∷ [] }
+
+abbrev proof-2 : PreparedProof
+proof-2 = record { timestamp = 2·4; digest = lathe-digest; entries = entry replica-1 ∷ entry replica-2 ∷ entry replica-4 ∷ [] }
+
+abbrev written-1 : WrittenProof
+written-1 = record { timestamp = 1·4; digest = []; entries = entry replica-1 ∷ entry replica-2 ∷ entry replica-4 ∷ [] }
+
+abbrev prepare-1 : List ℕ
+prepare-1 = from-client-for register-2 client-4 (PREPARE client-4 1·4 service-digest none none)
+
+abbrev write-1 : List ℕ
+write-1 = from-client-for register-2 client-4 (WRITE client-4 service proof-1)
+
+abbrev prepare-2 : List ℕ
+prepare-2 = from-client-for register-2 client-4 (PREPARE client-4 2·4 lathe-digest (some proof-1) (some written-1))
+
+abbrev write-2 : List ℕ
+write-2 = from-client-for register-2 client-5 (WRITE client-5 lathe proof-2)
+
+abbrev read : Message
+read = READ client-1 1
+
+abbrev shows : ReplicaId → Message
+shows id = CARD id 1 lathe (some proof-2) client-1
+
+unfoldable story : List Line
+story =
+    -- 0 to 3: client 4 has 1.4 prepared and written at replicas 1 and 2.
+    to-replica replica-1 prepare-1 one ↝ send (PREPARED replica-1 1·4 service-digest)
+    ∷ to-replica replica-2 prepare-1 one ↝ send (PREPARED replica-2 1·4 service-digest)
+    ∷ to-replica replica-1 write-1 four ↝ send (WRITTEN replica-1 1·4)
+    ∷ to-replica replica-2 write-1 four ↝ send (WRITTEN replica-2 1·4)
+    -- 4 to 8: the order goes round. Replicas 1 and 2 prepare 2.4 before it reaches them.
+    ∷ order-to replica-3 order ↝ waits
+    ∷ to-replica replica-1 prepare-2 seven ↝ send (PREPARED replica-1 2·4 lathe-digest)
+    ∷ to-replica replica-2 prepare-2 seven ↝ send (PREPARED replica-2 2·4 lathe-digest)
+    ∷ order-to replica-1 order ↝ waits
+    ∷ order-to replica-2 order ↝ waits
+    -- 9 to 11: client 5 writes 2.4.
+    ∷ to-replica replica-1 write-2 four ↝ send (WRITTEN replica-1 2·4)
+    ∷ to-replica replica-2 write-2 four ↝ send (WRITTEN replica-2 2·4)
+    ∷ to-replica replica-3 write-2 four ↝ send (WRITTEN replica-3 2·4)
+    -- 12 to 18: client 1 reads it.
+    ∷ begins-read client-1 register-2 ↝ send read
+    ∷ to-replica replica-1 (from-client-for register-2 client-1 read) one ↝ send (shows replica-1)
+    ∷ to-replica replica-2 (from-client-for register-2 client-1 read) one ↝ send (shows replica-2)
+    ∷ to-replica replica-3 (from-client-for register-2 client-1 read) one ↝ send (shows replica-3)
+    ∷ to-client client-1 (from-replica-for register-2 replica-1 shows) four ↝ waits
+    ∷ to-client client-1 (from-replica-for register-2 replica-2 shows) four ↝ waits
+    ∷ to-client client-1 (from-replica-for register-2 replica-3 shows) four ↝ done at-2·4 lathe by-1-2-4
+    ∷ []
+
+-- Messages carry the last byte of its number, 2, and its place is register 1's.
+abbrev no-register : RegisterId
+no-register = record { 0 = 258 }
+
+-- Of timestamps that lie above this one, one at most has a genuine proof.
+abbrev AboveOne : Run → ℕ → Type 0
+AboveOne R s = (proof proof′ : PreparedProof) → Genuine R register-2 proof → Genuine R register-2 proof′ → s < proof .timestamp → s < proof′ .timestamp → proof .timestamp ≡ proof′ .timestamp
+
+-- ---- Played under any key that the order is good under
+
+module _ (key : List ℕ) (is-key : (isPublicKey key ≡ true) × Bytes key) (good : ordered key order ≡ accepted client-4) where
+  checked : Ordered 3 3 story key is-key
+  unfolding story order tests playsBy
+  checked =
+      record {
+        at-most-four = lit≤ tt;
+        at-most-96 = lit≤ tt;
+        well-told = refl;
+        all-are = refl;
+        answers = refl;
+        few-faulty = lit≤ tt;
+        verdicts-true = refl;
+        new-nonces = refl;
+        no-other-cards = refl;
+      }
+
+  pub run : Run
+  run = runOf checked
+
+  as-told : Told run story
+  unfolding run
+  as-told = goes-as-told checked good
+
+  premises : Premises run
+  unfolding run
+  premises = meets-premises checked good
+
+  -- Each correct replica has taken the order before event 9.
+  withdrawn : WithdrawnEverywhere run client-4 9
+  unfolding run story
+  withdrawn id c = go (id .0) c
+    where
+      go : (n : ℕ) → within 1 3 n ≡ true → OrderTaken (runOf checked) (record { 0 = n }) client-4 9
+      go zero c = let b = bounds 1 3 0 c in absurd (omega arith)
+      go (suc zero) c = takes-order checked good 7 9 replica-1 (lit< tt) refl
+      go (suc (suc zero)) c = takes-order checked good 8 9 replica-2 (lit< tt) refl
+      go (suc (suc (suc zero))) c = takes-order checked good 4 9 replica-3 (lit< tt) refl
+      go (suc (suc (suc (suc n)))) c = let b = bounds 1 3 (suc (suc (suc (suc n)))) c in absurd (omega arith)
+
+  -- ---- What is held then
+
+  abbrev played : ReplicaId → Bank
+  played id = replicaIn (storeAfter step (freshStore (runOf checked) 3) (take 9 story)) id
+
+  abbrev heldIn : RegisterId → Bank → ℕ
+  heldIn x bank = heldTimestamp (bankPart (registerPlace x) bank .register .held)
+
+  played-1 : bankAt run replica-1 9 ≡ played replica-1
+  unfolding run story steps digests storeAfter
+  played-1 = record-told checked good 9 (lit≤ tt) replica-1 (lit< tt)
+
+  played-2 : bankAt run replica-2 9 ≡ played replica-2
+  unfolding run story steps digests storeAfter
+  played-2 = record-told checked good 9 (lit≤ tt) replica-2 (lit< tt)
+
+  played-3 : bankAt run replica-3 9 ≡ played replica-3
+  unfolding run story steps digests storeAfter
+  played-3 = record-told checked good 9 (lit≤ tt) replica-3 (lit< tt)
+
+  held-1 : held run register-2 replica-1 9 ≡ 1·4
+  unfolding story steps digests storeAfter
+  held-1 = ap (heldIn register-2) played-1
+
+  held-2 : held run register-2 replica-2 9 ≡ 1·4
+  unfolding story steps digests storeAfter
+  held-2 = ap (heldIn register-2) played-2
+
+  held-3 : held run register-2 replica-3 9 ≡ 0
+  unfolding story steps digests storeAfter
+  held-3 = ap (heldIn register-2) played-3
+
+  falls : heldFalling run register-2 9 ≡ 1·4 ∷ 1·4 ∷ 0 ∷ []
+  unfolding run heldAmong within falling insert
+  falls i = falling (held-3 i ∷ held-2 i ∷ held-1 i ∷ [])
+
+  bar-is : bar run register-2 9 ≡ 1·4
+  unfolding run
+  bar-is = ap (λ (falling : List ℕ). getD falling 1 0) falls
+
+  -- ---- Both timestamps have genuine proofs
+
+  genuine-1 : Genuine run register-2 proof-1
+  unfolding run story steps allBytes trueVerdicts
+  genuine-1 = genuine-told run story as-told register-2 proof-1 three refl refl refl refl refl
+
+  genuine-2 : Genuine run register-2 proof-2
+  unfolding run story steps allBytes trueVerdicts
+  genuine-2 = genuine-told run story as-told register-2 proof-2 three refl refl refl refl refl
+
+  left : LeftBehind run register-2 client-4 9 2·4
+  left = (refl, rw bar-is (lit< tt))
+
+  only-one : (proof : PreparedProof) → Genuine run register-2 proof → LeftBehind run register-2 client-4 9 (proof .timestamp) → proof .timestamp ≡ 2·4
+  unfolding within
+  only-one proof g other = lurking run premises register-2 refl client-4 9 withdrawn proof proof-2 g genuine-2 other left
+
+  read-done : answerAt run 18 ≡ accepted (done at-2·4 lathe by-1-2-4)
+  unfolding story
+  read-done = done-told run story as-told 18 _ at-2·4 lathe by-1-2-4 refl
+
+  -- ---- What is false
+
+  -- Of what lies above the (f + 2)th.
+  next-too-low : AboveOne run (getD (heldFalling run register-2 9) 2 0) → ⊥
+  next-too-low claim =
+      let is : getD (heldFalling run register-2 9) 2 0 ≡ 0 = ap (λ (numbers : List ℕ). getD numbers 2 0) falls in
+      let same : 1·4 ≡ 2·4 = claim proof-1 proof-2 genuine-1 genuine-2 (rw is (lit< tt)) (rw is (lit< tt)) in
+      omega arith
+
+  -- Of what is no register, whose record is register 1's.
+  there-1 : Genuine run no-register proof-1
+  unfolding run story steps allBytes trueVerdicts
+  there-1 = genuine-told run story as-told no-register proof-1 three refl refl refl refl refl
+
+  there-2 : Genuine run no-register proof-2
+  unfolding run story steps allBytes trueVerdicts
+  there-2 = genuine-told run story as-told no-register proof-2 three refl refl refl refl refl
+
+  bar-there : bar run no-register 9 ≡ 0
+  unfolding run story steps digests storeAfter heldAmong within falling insert
+  bar-there i = getD (falling (heldIn no-register (played-3 i) ∷ heldIn no-register (played-2 i) ∷ heldIn no-register (played-1 i) ∷ [])) 1 0
+
+  register-needed : AtMostOne run no-register → ⊥
+  register-needed claim =
+      let same : 1·4 ≡ 2·4 = claim client-4 9 withdrawn proof-1 proof-2 there-1 there-2 (refl, rw bar-there (lit< tt)) (refl, rw bar-there (lit< tt)) in
+      omega arith
+
+-- ---- Under the key that `key-for` gives
+
+abbrev pub the-run : Run
+the-run = run key is-key good
+
+pub record OneLeft : Type 0 where
+  pub premises : Premises the-run
+  pub withdrawn : WithdrawnEverywhere the-run client-4 9
+  pub falls : heldFalling the-run register-2 9 ≡ 1·4 ∷ 1·4 ∷ 0 ∷ []
+  -- One is left, which is proved; "none" would be false.
+  pub provable : Genuine the-run register-2 proof-2
+  pub left : LeftBehind the-run register-2 client-4 9 2·4
+  pub only-one : (proof : PreparedProof) → Genuine the-run register-2 proof → LeftBehind the-run register-2 client-4 9 (proof .timestamp) → proof .timestamp ≡ 2·4
+  -- Above the (f + 2)th there are two, and so above a bar that is read from register 1's record for another's number.
+  pub next-too-low : AboveOne the-run (getD (heldFalling the-run register-2 9) 2 0) → ⊥
+  pub register-needed : AtMostOne the-run no-register → ⊥
+  -- It surfaces: client 1 reads it, when client 5 has written it.
+  pub read-done : answerAt the-run 18 ≡ accepted (done at-2·4 lathe by-1-2-4)
+
+pub one-left : OneLeft
+one-left = record {
+  premises = premises key is-key good;
+  withdrawn = withdrawn key is-key good;
+  falls = falls key is-key good;
+  provable = genuine-2 key is-key good;
+  left = left key is-key good;
+  only-one = only-one key is-key good;
+  next-too-low = next-too-low key is-key good;
+  register-needed = register-needed key is-key good;
+  read-done = read-done key is-key good;
+}
