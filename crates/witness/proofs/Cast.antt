@@ -1,9 +1,10 @@
 -- Who takes part in the runs of this crate, their signatures, verdicts and cards. Assumes nothing.
-use mathlib.Core.Path.{_≡_, refl}
+use mathlib.Core.Path.{_≡_, refl, sym, subst}
 use mathlib.Core.Bool.{true}
 use mathlib.Core.List.{List, [], _∷_, _++_}
 use mathlib.Core.Option.{none}
-use Prim.Native.Nat.{ℕ, _+_}
+use Prim.Native.Nat.{ℕ, zero, suc, _+_, _≤_}
+use native.Mathlib.Omega.{arith}
 use lib.ListN.{replicate}
 use Rattle.base.specs.declared.party.ClientId.{ClientId}
 use Rattle.base.specs.declared.party.RegisterId.{RegisterId}
@@ -11,6 +12,7 @@ use Rattle.base.specs.declared.party.ReplicaId.{ReplicaId}
 use Rattle.base.specs.declared.replica_set.ReplicaSet.{ReplicaSet}
 use Rattle.base.specs.declared.timestamp.Timestamp.{Timestamp}
 use Rattle.protocol.specs.Parts.{startCard}
+use Rattle.run.proofs.Turns.{same-replica}
 use Rattle.wire.specs.Message.{Message, CARD, encode}
 use Rattle.wire.specs.Proof.{Entry}
 use Rattle.witness.proofs.Cards.{Known, rightDigests, differentDigests}
@@ -27,6 +29,17 @@ replica-3 = record { 0 = 3 }
 
 abbrev pub replica-4 : ReplicaId
 replica-4 = record { 0 = 4 }
+
+-- One of three.
+pub of-three : (P : ReplicaId → Type 0) (id : ReplicaId) → 1 ≤ id .0 → id .0 ≤ 3 → P replica-1 → P replica-2 → P replica-3 → P id
+of-three P id low high a b c = go (id .0) refl low high
+  where
+    go : (n : ℕ) → id .0 ≡ n → 1 ≤ n → n ≤ 3 → P id
+    go zero e l h = absurd (omega arith)
+    go (suc zero) e l h = subst P (sym (same-replica id replica-1 e)) a
+    go (suc (suc zero)) e l h = subst P (sym (same-replica id replica-2 e)) b
+    go (suc (suc (suc zero))) e l h = subst P (sym (same-replica id replica-3 e)) c
+    go (suc (suc (suc (suc n)))) e l h = absurd (omega arith)
 
 abbrev pub register-1 : RegisterId
 register-1 = record { 0 = 1 }

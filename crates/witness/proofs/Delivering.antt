@@ -25,7 +25,6 @@ use Rattle.progress.specs.Operations.{Invocation, Sends, Over}
 use Rattle.protocol.specs.Client.{send, waits, done}
 use Rattle.protocol.specs.Parts.{startCard}
 use Rattle.run.proofs.Slots.{order}
-use Rattle.run.proofs.Turns.{same-replica}
 use Rattle.run.specs.Premises.{Premises}
 use Rattle.run.specs.Run.{begins-read, to-replica, to-client, Run, registerOf, event, answerAt, At}
 use Rattle.wire.specs.Acceptance.{client}
@@ -33,7 +32,7 @@ use Rattle.wire.specs.Checks.{all}
 use Rattle.wire.specs.Message.{Message, READ, body}
 use Rattle.wire.specs.Signatures.{signaturesTo}
 use Rattle.witness.proofs.Answers.{code}
-use Rattle.witness.proofs.Cast.{replica-1, replica-2, replica-3, register-2, client-1, signature, from-replica-for, from-client-for, stale, one}
+use Rattle.witness.proofs.Cast.{of-three, replica-1, replica-2, replica-3, register-2, client-1, signature, from-replica-for, from-client-for, stale, one}
 use Rattle.witness.proofs.Computing.{messages}
 use Rattle.witness.proofs.Invoked.{same-bytes, not-withdrawn, one-laptop, invoked}
 use Rattle.witness.proofs.Judging.{passing, AllFair, asBoxes, Made, judged-told}
@@ -91,17 +90,6 @@ begun-at = refl
 
 abbrev pub operation : Invocation run register-2
 operation = invoked run story as-told register-2 client-1 0 _ _ begun-at false refl
-
--- One of three.
-pub of-three : (P : ReplicaId → Type 0) (id : ReplicaId) → 1 ≤ id .0 → id .0 ≤ 3 → P replica-1 → P replica-2 → P replica-3 → P id
-of-three P id low high a b c = go (id .0) refl low high
-  where
-    go : (n : ℕ) → id .0 ≡ n → 1 ≤ n → n ≤ 3 → P id
-    go zero e l h = absurd (omega arith)
-    go (suc zero) e l h = subst P (sym (same-replica id replica-1 e)) a
-    go (suc (suc zero)) e l h = subst P (sym (same-replica id replica-2 e)) b
-    go (suc (suc (suc zero))) e l h = subst P (sym (same-replica id replica-3 e)) c
-    go (suc (suc (suc (suc n)))) e l h = absurd (omega arith)
 
 module _ (m : Message) (answered : answerAt run 0 ≡ accepted (send m)) where
   asked : body register-2 m ≡ body register-2 asks

@@ -29,9 +29,8 @@ use Rattle.wire.specs.Checks.{all}
 use Rattle.wire.specs.Message.{Message, READ, WRITE, body, encode}
 use Rattle.wire.specs.Signatures.{Signature, signaturesTo}
 use Rattle.witness.proofs.Answers.{no-test, code}
-use Rattle.witness.proofs.Cast.{replica-1, replica-2, replica-3, register-1, client-1, client-2, signature, from-replica, from-client, stale, one, four, service}
+use Rattle.witness.proofs.Cast.{of-three, replica-1, replica-2, replica-3, register-1, client-1, client-2, signature, from-replica, from-client, stale, one, four, service}
 use Rattle.witness.proofs.Computing.{messages}
-use Rattle.witness.proofs.Delivering.{of-three}
 use Rattle.witness.proofs.FirstWrite.{proof, write, written, shows, write-under-way, write-done}
 use Rattle.witness.proofs.Invoked.{same-bytes, one-laptop, invoked, lasts-told}
 use Rattle.witness.proofs.Judging.{passing, AllFair, asBoxes, Made, judged-told}

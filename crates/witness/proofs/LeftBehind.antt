@@ -5,7 +5,7 @@ use mathlib.Core.Path.{_≡_, refl, ap}
 use mathlib.Core.Bool.{true}
 use mathlib.Core.List.{List, [], _∷_}
 use mathlib.Core.Option.{none, some}
-use Prim.Native.Nat.{ℕ, zero, suc, _<_}
+use Prim.Native.Nat.{ℕ, _<_}
 use native.Mathlib.Omega.{arith}
 use lib.Dec.{lit<, lit≤}
 use lib.ListN.{getD, take}
@@ -31,7 +31,7 @@ use Rattle.run.specs.Run.{to-replica, order-to, begins-read, to-client, Run, ba
 use Rattle.run.specs.Withdrawals.{OrderTaken}
 use Rattle.wire.specs.Message.{Message, PREPARE, WRITE, READ, PREPARED, WRITTEN, CARD}
 use Rattle.wire.specs.Proof.{PreparedProof, WrittenProof}
-use Rattle.witness.proofs.Cast.{replica-1, replica-2, replica-3, replica-4, register-2, client-1, client-4, client-5, 1·4, 2·4, at-2·4, by-1-2-4, entry, from-replica-for, from-client-for, one, three, four, seven, service, lathe, service-digest, lathe-digest}
+use Rattle.witness.proofs.Cast.{of-three, replica-1, replica-2, replica-3, replica-4, register-2, client-1, client-4, client-5, 1·4, 2·4, at-2·4, by-1-2-4, entry, from-replica-for, from-client-for, one, three, four, seven, service, lathe, service-digest, lathe-digest}
 use Rattle.witness.proofs.Checked.{tests}
 use Rattle.witness.proofs.Computing.{steps, digests}
 use Rattle.witness.proofs.GoodOrder.{order, key, is-key, good}
@@ -135,14 +135,10 @@ module _ (key : List ℕ) (is-key : (isPublicKey key ≡ true) × Bytes key) (go
   -- Each correct replica has taken the order before event 9.
   withdrawn : WithdrawnEverywhere run client-4 9
   unfolding run story
-  withdrawn id c = go (id .0) c
-    where
-      go : (n : ℕ) → within 1 3 n ≡ true → OrderTaken (runOf checked) (record { 0 = n }) client-4 9
-      go zero c = let b = bounds 1 3 0 c in absurd (omega arith)
-      go (suc zero) c = takes-order checked good 7 9 replica-1 (lit< tt) refl
-      go (suc (suc zero)) c = takes-order checked good 8 9 replica-2 (lit< tt) refl
-      go (suc (suc (suc zero))) c = takes-order checked good 4 9 replica-3 (lit< tt) refl
-      go (suc (suc (suc (suc n)))) c = let b = bounds 1 3 (suc (suc (suc (suc n)))) c in absurd (omega arith)
+  withdrawn id c =
+      let range = bounds 1 3 (id .0) c in
+      of-three (λ id. OrderTaken (runOf checked) id client-4 9) id (range .0) (range .1)
+      (takes-order checked good 7 9 replica-1 (lit< tt) refl) (takes-order checked good 8 9 replica-2 (lit< tt) refl) (takes-order checked good 4 9 replica-3 (lit< tt) refl)
 
   -- ---- What is held then
 
@@ -152,29 +148,21 @@ module _ (key : List ℕ) (is-key : (isPublicKey key ≡ true) × Bytes key) (go
   abbrev heldIn : RegisterId → Bank → ℕ
   heldIn x bank = heldTimestamp (bankPart (registerPlace x) bank .register .held)
 
-  played-1 : bankAt run replica-1 9 ≡ played replica-1
+  played-so : (id : ReplicaId) → id .0 < 5 → bankAt run id 9 ≡ played id
   unfolding run story steps digests storeAfter
-  played-1 = record-told checked good 9 (lit≤ tt) replica-1 (lit< tt)
-
-  played-2 : bankAt run replica-2 9 ≡ played replica-2
-  unfolding run story steps digests storeAfter
-  played-2 = record-told checked good 9 (lit≤ tt) replica-2 (lit< tt)
-
-  played-3 : bankAt run replica-3 9 ≡ played replica-3
-  unfolding run story steps digests storeAfter
-  played-3 = record-told checked good 9 (lit≤ tt) replica-3 (lit< tt)
+  played-so id there = record-told checked good 9 (lit≤ tt) id there
 
   held-1 : held run register-2 replica-1 9 ≡ 1·4
   unfolding story steps digests storeAfter
-  held-1 = ap (heldIn register-2) played-1
+  held-1 = ap (heldIn register-2) (played-so replica-1 (lit< tt))
 
   held-2 : held run register-2 replica-2 9 ≡ 1·4
   unfolding story steps digests storeAfter
-  held-2 = ap (heldIn register-2) played-2
+  held-2 = ap (heldIn register-2) (played-so replica-2 (lit< tt))
 
   held-3 : held run register-2 replica-3 9 ≡ 0
   unfolding story steps digests storeAfter
-  held-3 = ap (heldIn register-2) played-3
+  held-3 = ap (heldIn register-2) (played-so replica-3 (lit< tt))
 
   falls : heldFalling run register-2 9 ≡ 1·4 ∷ 1·4 ∷ 0 ∷ []
   unfolding run heldAmong within falling insert
@@ -225,7 +213,10 @@ module _ (key : List ℕ) (is-key : (isPublicKey key ≡ true) × Bytes key) (go
 
   bar-there : bar run no-register 9 ≡ 0
   unfolding run story steps digests storeAfter heldAmong within falling insert
-  bar-there i = getD (falling (heldIn no-register (played-3 i) ∷ heldIn no-register (played-2 i) ∷ heldIn no-register (played-1 i) ∷ [])) 1 0
+  bar-there i = getD (falling (there replica-3 (lit< tt) i ∷ there replica-2 (lit< tt) i ∷ there replica-1 (lit< tt) i ∷ [])) 1 0
+    where
+      there : (id : ReplicaId) (known : id .0 < 5) → held run no-register id 9 ≡ heldIn no-register (played id)
+      there id known = ap (heldIn no-register) (played-so id known)
 
   register-needed : AtMostOne run no-register → ⊥
   register-needed claim =

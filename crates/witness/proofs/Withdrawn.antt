@@ -5,14 +5,13 @@ use mathlib.Core.Path.{_≡_, refl}
 use mathlib.Core.Bool.{true}
 use mathlib.Core.List.{List, [], _∷_}
 use mathlib.Core.Option.{none, some}
-use Prim.Native.Nat.{ℕ, zero, suc, _+_, _≤_, _<_}
+use Prim.Native.Nat.{ℕ, _+_, _≤_, _<_}
 use native.Mathlib.Omega.{arith}
 use lib.Dec.{lit<, lit≤}
 use lib.ListN.{getElem?}
 use Rattle.base.proofs.Range.{bounds}
 use Rattle.base.specs.BigEndian.{Bytes}
 use Rattle.base.specs.Outcome.{accepted, refused}
-use Rattle.base.specs.Range.{within}
 use Rattle.base.specs.declared.party.ReplicaId.{ReplicaId}
 use Rattle.lms.specs.Lms.{isPublicKey}
 use Rattle.protocol.specs.Client.{send, waits, done}
@@ -23,7 +22,7 @@ use Rattle.run.specs.Withdrawals.{OrderTaken}
 use Rattle.wire.specs.Decode.{registerIn}
 use Rattle.wire.specs.Message.{Message, PREPARE, WRITE, READ, PREPARED, WRITTEN, CARD}
 use Rattle.wire.specs.Proof.{PreparedProof}
-use Rattle.witness.proofs.Cast.{replica-1, replica-2, replica-3, register-1, client-1, client-4, client-5, 1·4, 2·5, at-1·4, by-1-2-3, entry, from-replica, from-client, one, four, service, service-digest, lathe-digest}
+use Rattle.witness.proofs.Cast.{of-three, replica-1, replica-2, replica-3, register-1, client-1, client-4, client-5, 1·4, 2·5, at-1·4, by-1-2-3, entry, from-replica, from-client, one, four, service, service-digest, lathe-digest}
 use Rattle.witness.proofs.Computing.{messages}
 use Rattle.witness.proofs.GoodOrder.{order, key, is-key, good}
 use Rattle.witness.proofs.Checked.{tests}
@@ -153,14 +152,10 @@ module _ (key : List ℕ) (is-key : (isPublicKey key ≡ true) × Bytes key) (go
 
   seen : (id : ReplicaId) → run .correct-replica id ≡ true → SeenAt id
   unfolding run story
-  seen id c = go (id .0) c
-    where
-      go : (n : ℕ) → within 1 3 n ≡ true → SeenAt (record { 0 = n })
-      go zero c = let b = bounds 1 3 0 c in absurd (omega arith)
-      go (suc zero) c = seen-in 0 replica-1 (lit< tt) refl refl refl refl refl
-      go (suc (suc zero)) c = seen-in 1 replica-2 (lit< tt) refl refl refl refl refl
-      go (suc (suc (suc zero))) c = seen-in 2 replica-3 (lit< tt) refl refl refl refl refl
-      go (suc (suc (suc (suc n)))) c = let b = bounds 1 3 (suc (suc (suc (suc n)))) c in absurd (omega arith)
+  seen id c =
+      let range = bounds 1 3 (id .0) c in
+      of-three SeenAt id (range .0) (range .1) (seen-in 0 replica-1 (lit< tt) refl refl refl refl refl)
+      (seen-in 1 replica-2 (lit< tt) refl refl refl refl refl) (seen-in 2 replica-3 (lit< tt) refl refl refl refl refl)
 
 -- ---- Under the key that `key-for` gives
 
