@@ -98,18 +98,28 @@ pub fn bad_card(random: &mut Random) -> Vec<u8> {
     card
 }
 
-/// `number` replicas in rising order, with signatures of the forger's making.
-pub fn entries(random: &mut Random, number: usize, f: u8) -> Vec<Entry> {
-    let mut ids: Vec<u8> = (1..=replicas(f)).collect();
-    while ids.len() > number {
-        ids.remove(random.below(ids.len()));
+/// So many of these, in the order in which they stand.
+pub fn some_of<T>(random: &mut Random, mut all: Vec<T>, number: usize) -> Vec<T> {
+    while all.len() > number {
+        all.remove(random.below(all.len()));
     }
+    all
+}
+
+/// Entries of these replicas, with signatures of the forger's making.
+pub fn entries_of(random: &mut Random, ids: impl IntoIterator<Item = u8>) -> Vec<Entry> {
     ids.into_iter()
         .map(|replica| Entry {
             replica,
             signature: random.bytes(),
         })
         .collect()
+}
+
+/// Entries of so many replicas, in rising order.
+pub fn entries(random: &mut Random, number: usize, f: u8) -> Vec<Entry> {
+    let ids = some_of(random, (1..=replicas(f)).collect(), number);
+    entries_of(random, ids)
 }
 
 pub fn prepared_proof(
@@ -339,12 +349,7 @@ fn lengthen_proofs(random: &mut Random, message: &mut Message, _: u8) -> bool {
 
 /// Entries of replicas 1 to `number`, whether or not there are so many.
 pub fn rising(random: &mut Random, number: u8) -> Vec<Entry> {
-    (1..=number)
-        .map(|replica| Entry {
-            replica,
-            signature: random.bytes(),
-        })
-        .collect()
+    entries_of(random, 1..=number)
 }
 
 fn spoil_timestamp(random: &mut Random, message: &mut Message, _: u8) -> bool {

@@ -1,5 +1,6 @@
 //! Scripts of random runs. The model plays each line as it is made, so that the next one can build on its answer.
 mod handings;
+mod withdrawals;
 
 use crate::forge::*;
 use crate::model::card::STARTING_CARD;
@@ -15,6 +16,14 @@ use crate::tally::{
 };
 use handings::{every_handing, outlasting, Written};
 use std::collections::{BTreeMap, BTreeSet};
+use withdrawals::Withdrawal;
+
+/// So many runs out of `Office::one_in` are about withdrawals: fewer where fewer orders are wanted. They have less than a tenth of
+/// the calls.
+const WITHDRAWALS: usize = 45;
+
+/// The numbers of a run's writers: few, so that their slots meet.
+const WRITER_IDS: [[u8; 3]; 4] = [[1, 2, 64], [3, 5, 4], [63, 64, 1], [7, 62, 33]];
 
 /// One action in so many makes a client again: with more of them few operations would finish.
 const MADE_AGAIN_IN: usize = 500;
@@ -303,7 +312,11 @@ struct Run<'a> {
 pub fn script(random: &mut Random, office: &Office) -> Script {
     let mut script = Script::default();
     while !script.is_full() {
-        Run::new(random, &mut script, office).play();
+        if random.below(office.one_in) < WITHDRAWALS {
+            Withdrawal::new(random, &mut script, office).play();
+        } else {
+            Run::new(random, &mut script, office).play();
+        }
     }
     script
 }
@@ -331,11 +344,16 @@ fn every_sender(random: &mut Random, key: &[u8], orders: &[Vec<u8>]) -> Script {
     script
 }
 
-fn hand_read(script: &mut Script, sender: u8) {
-    let request = Message {
+/// A READ with nonce 1.
+fn first_read(sender: u8, register: u8) -> Message {
+    Message {
         nonce: Some(1),
-        ..Message::new(READ, sender, 1)
-    };
+        ..Message::new(READ, sender, register)
+    }
+}
+
+fn hand_read(script: &mut Script, sender: u8) {
+    let request = first_read(sender, 1);
     script.add(format!("to-replica 1 {} +", hex(&request.encode())));
 }
 
@@ -465,8 +483,7 @@ impl<'a> Run<'a> {
             .into_iter()
             .nth(random.weighted(&[10, 20, 25, 25, 20]))
             .unwrap();
-        let ids = [[1, 2, 64], [3, 5, 4], [63, 64, 1], [7, 62, 33]];
-        let ids = random.pick(&ids)[..1 + random.below(3)].to_vec();
+        let ids = random.pick(&WRITER_IDS)[..1 + random.below(3)].to_vec();
         let viewers = [[65, 96], [66, 65], [96, 95], [80, 77]];
         let viewers = &random.pick(&viewers)[..random.below(3)];
         let all = ids.iter().chain(viewers);

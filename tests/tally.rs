@@ -62,6 +62,14 @@ pub const BAD_KEY: &str = "16, key";
 /// Orders taken against a client that is withdrawn already, or against a viewing client.
 pub const AGAIN: &str = "again";
 pub const SCREEN: &str = "a viewer's";
+/// Registers, once for each client that all correct replicas have withdrawn, by how many of its timestamps ever have a genuine
+/// prepared proof and are above the (f + 1)th that these replicas held then (document 02, #108); more than one cannot occur.
+pub const AHEAD: [&str; 2] = ["none ahead", "one ahead"];
+pub const TOO_FAR: &str = "more ahead";
+/// Those with two or more above the (f + 2)th, which would be too small a bound; and those whose one above the (f + 1)th no correct
+/// replica held then, and one holds at the end.
+pub const PAST_NEXT: &str = "past f + 2";
+pub const SURFACED: &str = "surfaced";
 /// Requests refused with 23, by kind, and those of viewing clients.
 const SHUT_OUT: [&str; 5] = [
     "23, R-STAMP",
@@ -149,7 +157,9 @@ const COLUMNS: [Column; 11] = [
     Column {
         name: ORDER,
         is_call: true,
-        rows: &[TAKEN, AGAIN, SCREEN],
+        rows: &[
+            TAKEN, AGAIN, SCREEN, AHEAD[0], AHEAD[1], PAST_NEXT, SURFACED,
+        ],
         refusals: &[21, 22],
     },
     Column {
@@ -289,6 +299,8 @@ fn rows() -> Vec<String> {
         names(&SIGNERS),
         names(&SENT),
         names(&[MISCOUNTED, "ended", TAKEN, AGAIN, SCREEN]),
+        names(&AHEAD),
+        names(&[TOO_FAR, PAST_NEXT, SURFACED]),
         names(&[NEWER, OLDER, USED_UP]),
         REFUSALS.map(refusal_row).collect(),
         names(&[BUSY, HAS_OWN, BEFORE_17]),
@@ -566,7 +578,7 @@ impl Tally {
         let others = REFUSALS.filter(|refusal| !column.refusals.contains(refusal));
         others
             .map(refusal_row)
-            .chain([MISCOUNTED.to_string()])
+            .chain([MISCOUNTED, TOO_FAR].map(String::from))
             .filter(|row| self.times(column, row) > 0)
             .map(|row| format!("impossible: {}, {row}", column.name))
             .collect()

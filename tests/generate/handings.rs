@@ -246,13 +246,11 @@ impl Run<'_> {
             return None;
         }
         let (&(register, timestamp), said) = self.random.pick(&full);
-        let mut entries: Vec<Entry> = said
+        let said: Vec<Entry> = said
             .iter()
             .map(|(&replica, &signature)| Entry { replica, signature })
             .collect();
-        while entries.len() > quorum {
-            entries.remove(self.random.below(entries.len()));
-        }
+        let entries = some_of(self.random, said, quorum);
         let gathered = Written {
             register,
             proof: WrittenProof { timestamp, entries },

@@ -97,14 +97,13 @@ module _ (R : Run) (few : FewFaulty R) (truth : AllTrue R) (x : RegisterId) (reg
       let closed = earlier-closed R x id correct t (proof .timestamp) (proof′ .timestamp) (proof .digest) (proof′ .digest) (genuine-counted R x proof g) less (left .0 ∙ sym (left′ .0)) e e′ in
       omega (arith, left-open id correct (proof .timestamp) left)
 
-  one-left : (proof proof′ : PreparedProof) → Genuine R x proof → Genuine R x proof′ → LeftBehind R x c t (proof .timestamp) → LeftBehind R x c t (proof′ .timestamp)
-      → proof .timestamp ≡ proof′ .timestamp
-  one-left proof proof′ g g′ left left′ =
-      three-ways (proof .timestamp) (proof′ .timestamp) (λ l. absurd (not-both proof proof′ g g′ left left′ l)) (λ e. e) (λ l. absurd (not-both proof′ proof g′ g left′ left l))
-
 -- Whatever the cards and the nonces.
 pub at-most-one : (R : Run) → FewFaulty R → AllTrue R → (x : RegisterId) → Lurking R x
-at-most-one R few truth x registered c t withdrawn = one-left R few truth x registered c t withdrawn
+at-most-one R few truth x registered c t withdrawn proof proof′ g g′ left left′ =
+    three-ways (proof .timestamp) (proof′ .timestamp)
+    (λ l. absurd (not-both R few truth x registered c t withdrawn proof proof′ g g′ left left′ l))
+    (λ e. e)
+    (λ l. absurd (not-both R few truth x registered c t withdrawn proof′ proof g′ g left′ left l))
 
 pub lurking : (R : Run) → Premises R → (x : RegisterId) → Lurking R x
 lurking R P x = at-most-one R (P .few-faulty) (P .true-verdicts) x
