@@ -13,21 +13,17 @@ use Rattle.base.proofs.Range.{bounds}
 use Rattle.base.specs.BigEndian.{Bytes}
 use Rattle.base.specs.Falling.{insert, falling}
 use Rattle.base.specs.Outcome.{accepted}
-use Rattle.base.specs.Party.{registerPlace}
 use Rattle.base.specs.Range.{within}
 use Rattle.base.specs.declared.party.RegisterId.{RegisterId}
 use Rattle.base.specs.declared.party.ReplicaId.{ReplicaId}
 use Rattle.lms.specs.Lms.{isPublicKey}
-use Rattle.protocol.specs.Bank.{bankPart}
 use Rattle.protocol.specs.Client.{send, waits, done}
 use Rattle.protocol.specs.Order.{ordered}
-use Rattle.protocol.specs.RegisterReplica.{heldTimestamp}
-use Rattle.protocol.specs.declared.replica.Bank.{Bank}
 use Rattle.run.proofs.Lurking.{lurking}
 use Rattle.run.specs.Claims.{Genuine}
 use Rattle.run.specs.Lurking.{heldAmong, heldFalling, bar, WithdrawnEverywhere, LeftBehind, AtMostOne}
 use Rattle.run.specs.Premises.{Premises}
-use Rattle.run.specs.Run.{to-replica, order-to, begins-read, to-client, Run, bankAt, held, answerAt}
+use Rattle.run.specs.Run.{to-replica, order-to, begins-read, to-client, Run, held, answerAt}
 use Rattle.run.specs.Withdrawals.{OrderTaken}
 use Rattle.wire.specs.Message.{Message, PREPARE, WRITE, READ, PREPARED, WRITTEN, CARD}
 use Rattle.wire.specs.Proof.{PreparedProof, WrittenProof}
@@ -35,13 +31,13 @@ use Rattle.witness.proofs.Cast.{of-three, replica-1, replica-2, replica
 use Rattle.witness.proofs.Checked.{tests}
 use Rattle.witness.proofs.Computing.{steps, digests}
 use Rattle.witness.proofs.GoodOrder.{order, key, is-key, good}
-use Rattle.witness.proofs.Ordered.{step, Ordered, runOf, goes-as-told, meets-premises, takes-order, record-told}
+use Rattle.witness.proofs.Ordered.{step, Ordered, runOf, goes-as-told, heldIn, meets-premises, takes-order, held-told}
 use Rattle.witness.proofs.Replay.{freshStore, storeAfter, replicaIn, playsBy}
 use Rattle.witness.proofs.Story.{Line, _↝_, Told, trueVerdicts, allBytes, done-told, genuine-told}
 
 -- ---- What happens: replicas 1 to 3 and client 1 are correct; replica 4 signs all that client 4 likes
 
-abbrev proof-1 : PreparedProof
+abbrev pub proof-1 : PreparedProof
 proof-1 = record { timestamp = 1·4; digest = service-digest; entries = entry replica-1 ∷ entry replica-2 ∷ entry replica-4 ∷ [] }
 
 abbrev proof-2 : PreparedProof
@@ -50,13 +46,13 @@ proof-2 = record { timestamp = 2·4; digest = lathe-digest; entries = entry repl
 abbrev written-1 : WrittenProof
 written-1 = record { timestamp = 1·4; digest = []; entries = entry replica-1 ∷ entry replica-2 ∷ entry replica-4 ∷ [] }
 
-abbrev prepare-1 : List ℕ
+abbrev pub prepare-1 : List ℕ
 prepare-1 = from-client-for register-2 client-4 (PREPARE client-4 1·4 service-digest none none)
 
 abbrev write-1 : List ℕ
 write-1 = from-client-for register-2 client-4 (WRITE client-4 service proof-1)
 
-abbrev prepare-2 : List ℕ
+abbrev pub prepare-2 : List ℕ
 prepare-2 = from-client-for register-2 client-4 (PREPARE client-4 2·4 lathe-digest (some proof-1) (some written-1))
 
 abbrev write-2 : List ℕ
@@ -142,27 +138,21 @@ module _ (key : List ℕ) (is-key : (isPublicKey key ≡ true) × Bytes key) (go
 
   -- ---- What is held then
 
-  abbrev played : ReplicaId → Bank
-  played id = replicaIn (storeAfter step (freshStore (runOf checked) 3) (take 9 story)) id
-
-  abbrev heldIn : RegisterId → Bank → ℕ
-  heldIn x bank = heldTimestamp (bankPart (registerPlace x) bank .register .held)
-
-  played-so : (id : ReplicaId) → id .0 < 5 → bankAt run id 9 ≡ played id
+  holds : (x : RegisterId) (id : ReplicaId) → id .0 < 5 → held run x id 9 ≡ heldIn x (replicaIn (storeAfter step (freshStore (runOf checked) 3) (take 9 story)) id)
   unfolding run story steps digests storeAfter
-  played-so id there = record-told checked good 9 (lit≤ tt) id there
+  holds x id there = held-told checked good x 9 (lit≤ tt) id there
 
   held-1 : held run register-2 replica-1 9 ≡ 1·4
   unfolding story steps digests storeAfter
-  held-1 = ap (heldIn register-2) (played-so replica-1 (lit< tt))
+  held-1 = holds register-2 replica-1 (lit< tt)
 
   held-2 : held run register-2 replica-2 9 ≡ 1·4
   unfolding story steps digests storeAfter
-  held-2 = ap (heldIn register-2) (played-so replica-2 (lit< tt))
+  held-2 = holds register-2 replica-2 (lit< tt)
 
   held-3 : held run register-2 replica-3 9 ≡ 0
   unfolding story steps digests storeAfter
-  held-3 = ap (heldIn register-2) (played-so replica-3 (lit< tt))
+  held-3 = holds register-2 replica-3 (lit< tt)
 
   falls : heldFalling run register-2 9 ≡ 1·4 ∷ 1·4 ∷ 0 ∷ []
   unfolding run heldAmong within falling insert
@@ -213,10 +203,7 @@ module _ (key : List ℕ) (is-key : (isPublicKey key ≡ true) × Bytes key) (go
 
   bar-there : bar run no-register 9 ≡ 0
   unfolding run story steps digests storeAfter heldAmong within falling insert
-  bar-there i = getD (falling (there replica-3 (lit< tt) i ∷ there replica-2 (lit< tt) i ∷ there replica-1 (lit< tt) i ∷ [])) 1 0
-    where
-      there : (id : ReplicaId) (known : id .0 < 5) → held run no-register id 9 ≡ heldIn no-register (played id)
-      there id known = ap (heldIn no-register) (played-so id known)
+  bar-there i = getD (falling (holds no-register replica-3 (lit< tt) i ∷ holds no-register replica-2 (lit< tt) i ∷ holds no-register replica-1 (lit< tt) i ∷ [])) 1 0
 
   register-needed : AtMostOne run no-register → ⊥
   register-needed claim =

@@ -8,6 +8,7 @@ pub mod Checked
 pub mod Computing
 pub mod Delivering
 pub mod DeliveryNeeded
+pub mod EveryNeeded
 pub mod FirstWrite
 pub mod GoodOrder
 pub mod Invoked

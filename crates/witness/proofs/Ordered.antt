@@ -9,16 +9,21 @@ use lib.ListN.{length, getElem?, take}
 use Rattle.base.proofs.Same.{same-equal}
 use Rattle.base.specs.BigEndian.{Bytes}
 use Rattle.base.specs.Outcome.{Outcome, accepted, _>>=_}
+use Rattle.base.specs.Party.{registerPlace}
 use Rattle.base.specs.Same.{same}
 use Rattle.base.specs.declared.party.ClientId.{ClientId}
+use Rattle.base.specs.declared.party.RegisterId.{RegisterId}
 use Rattle.base.specs.declared.party.ReplicaId.{ReplicaId}
 use Rattle.lms.specs.Lms.{isPublicKey}
+use Rattle.protocol.specs.Bank.{bankPart}
 use Rattle.protocol.specs.Client.{waits}
 use Rattle.protocol.specs.Events.{request-handed, order-handed, orderTurn, onReplicaEvent}
 use Rattle.protocol.specs.Order.{ordered, withdrawing, takeOrder}
+use Rattle.protocol.specs.RegisterReplica.{heldTimestamp}
+use Rattle.protocol.specs.declared.replica.Bank.{Bank}
 use Rattle.run.proofs.Turns.{good-bank}
 use Rattle.run.specs.Premises.{FewFaulty, Premises}
-use Rattle.run.specs.Run.{Event, at-replica, at-client, order-to, Run, bankAt, answerAt}
+use Rattle.run.specs.Run.{Event, at-replica, at-client, order-to, Run, bankAt, held, answerAt}
 use Rattle.run.specs.Withdrawals.{OrderTaken}
 use Rattle.witness.proofs.Answers.{is-accepted}
 use Rattle.witness.proofs.Cast.{client-4, cards, right-digests, different-cards}
@@ -36,6 +41,9 @@ isIt (at-client id e) = true
 abbrev pub step : Stepping
 step (request-handed bytes verdicts) bank = onReplicaEvent (request-handed bytes verdicts) bank
 step (order-handed bytes) bank = orderTurn (accepted (withdrawing client-4 bank))
+
+abbrev pub heldIn : RegisterId → Bank → ℕ
+heldIn x bank = heldTimestamp (bankPart (registerPlace x) bank .register .held)
 
 -- Replicas 1 to r and clients 1 to c are correct, and all replicas have this key.
 pub record Ordered (r c : ℕ) (story : List Line) (key : List ℕ) (is-key : (isPublicKey key ≡ true) × Bytes key) : Type 0 where
@@ -87,7 +95,7 @@ module _ {r c : ℕ} {story : List Line} {key : List ℕ} {is-key : (isPublicKey
           taken = is-accepted (record { 0 = 0 }) (answerAt runOf t) waits (answer-told runOf story goes-as-told t (order-to id order ↝ waits) at);
         }
 
-    -- A replica's record before event n, as it is played.
-    pub record-told : (n : ℕ) → n ≤ length story → (id : ReplicaId) → id .0 < length (storeAfter step (freshStore runOf c) (take n story) .replicas)
-        → bankAt runOf id n ≡ replicaIn (storeAfter step (freshStore runOf c) (take n story)) id
-    record-told = bank-told runOf step rightly c story refl (it .answers)
+    -- What a replica holds in a register before event n is what it holds when n lines are played.
+    pub held-told : (x : RegisterId) (n : ℕ) → n ≤ length story → (id : ReplicaId) → id .0 < length (storeAfter step (freshStore runOf c) (take n story) .replicas)
+        → held runOf x id n ≡ heldIn x (replicaIn (storeAfter step (freshStore runOf c) (take n story)) id)
+    held-told x n l id there = ap (heldIn x) (bank-told runOf step rightly c story refl (it .answers) n l id there)
