@@ -78,8 +78,8 @@ module _ (R : Run) (few : FewFaulty R) (truth : AllTrue R) (x : RegisterId) (reg
   left-open id correct s left = ⊎-elim (λ closed. absurd (go closed (written-by R x truth registered id correct t))) (λ below. below) (order s (written R x id t))
     where
       go : s ≤ written R x id t → (written R x id t ≡ 0) ⊎ WrittenByQuorum R x t (written R x id t) → ⊥
-      go closed (inl unwritten) = let above = left .1 in omega arith
-      go closed (inr quorum) = let above = left .1 in none-written (written R x id t) (omega arith) quorum
+      go closed (inr quorum) = none-written (written R x id t) (omega (arith, left .1)) quorum
+      go closed (inl unwritten) = omega (arith, left .1)
 
   -- The replica that vouches for both would have prepared the later one only where the earlier one was written.
   not-both : (proof proof′ : PreparedProof) → Genuine R x proof → Genuine R x proof′ → LeftBehind R x c t (proof .timestamp) → LeftBehind R x c t (proof′ .timestamp)
