@@ -74,12 +74,12 @@ module _ (R : Run) (few : FewFaulty R) (truth : AllTrue R) (x : RegisterId) (reg
           rw (both .1) (lt-ltb (bar R x t) (held R x i t) (omega arith))
 
   -- So what is left behind is above every correct replica's written timestamp.
-  left-open : (id : ReplicaId) → R .correct-replica id ≡ true → (s : ℕ) → LeftBehind R x c t s → written R x id t < s
-  left-open id correct s left = ⊎-elim (λ closed. absurd (go closed (written-by R x truth registered id correct t))) (λ below. below) (order s (written R x id t))
+  left-open : (id : ReplicaId) → R .correct-replica id ≡ true → (s : ℕ) → 1 ≤ s → LeftBehind R x c t s → written R x id t < s
+  left-open id correct s positive left = ⊎-elim (λ closed. absurd (go closed (written-by R x truth registered id correct t))) (λ below. below) (order s (written R x id t))
     where
       go : s ≤ written R x id t → (written R x id t ≡ 0) ⊎ WrittenByQuorum R x t (written R x id t) → ⊥
+      go closed (inl unwritten) = omega arith
       go closed (inr quorum) = none-written (written R x id t) (omega (arith, left .1)) quorum
-      go closed (inl unwritten) = omega (arith, left .1)
 
   -- The replica that vouches for both would have prepared the later one only where the earlier one was written.
   not-both : (proof proof′ : PreparedProof) → Genuine R x proof → Genuine R x proof′ → LeftBehind R x c t (proof .timestamp) → LeftBehind R x c t (proof′ .timestamp)
@@ -94,8 +94,9 @@ module _ (R : Run) (few : FewFaulty R) (truth : AllTrue R) (x : RegisterId) (reg
       let correct = common .in-r in
       let e = before-order id correct (proof .timestamp) (proof .digest) end (left .0) (backed .signed id (common .in-p) correct) in
       let e′ = before-order id correct (proof′ .timestamp) (proof′ .digest) end (left′ .0) (backed′ .signed id (common .in-q) correct) in
-      let closed = earlier-closed R x id correct t (proof .timestamp) (proof′ .timestamp) (proof .digest) (proof′ .digest) (genuine-counted R x proof g) less (left .0 ∙ sym (left′ .0)) e e′ in
-      omega (arith, left-open id correct (proof .timestamp) left)
+      let counted = genuine-counted R x proof g in
+      let closed = earlier-closed R x id correct t (proof .timestamp) (proof′ .timestamp) (proof .digest) (proof′ .digest) counted less (left .0 ∙ sym (left′ .0)) e e′ in
+      omega (arith, left-open id correct (proof .timestamp) (omega arith) left)
 
 -- Whatever the cards and the nonces.
 pub at-most-one : (R : Run) → FewFaulty R → AllTrue R → (x : RegisterId) → Lurking R x
