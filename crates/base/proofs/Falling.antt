@@ -9,6 +9,7 @@ use lib.Dec.{leb, ltb}
 use lib.ListN.{length, getD}
 use Rattle.base.specs.Counting.{one}
 use Rattle.base.specs.Falling.{insert, falling}
+use Rattle.base.proofs.Each.{EachOf, each-then}
 
 -- How many of a list pass a test.
 unfoldable pub howMany : (ℕ → Bool) → List ℕ → ℕ
@@ -17,16 +18,14 @@ howMany test (n ∷ ns) = one (test n) + howMany test ns
 
 -- None lies above this one.
 abbrev pub Below : ℕ → List ℕ → Type 0
-Below s [] = Unit {0}
-Below s (n ∷ ns) = (n ≤ s) × Below s ns
+Below s a = EachOf (λ n. n ≤ s) a
 
 abbrev pub Falls : List ℕ → Type 0
 Falls [] = Unit {0}
 Falls (n ∷ ns) = Below n ns × Falls ns
 
 pub below-up : (s s′ : ℕ) (a : List ℕ) → s ≤ s′ → Below s a → Below s′ a
-below-up s s′ [] l h = tt
-below-up s s′ (n ∷ a) l h = let first = h .0 in (omega arith, below-up s s′ a l (h .1))
+below-up s s′ a l = each-then (λ n. n ≤ s) (λ n. n ≤ s′) (λ n first. omega arith) a
 
 pub all-counted : (a : List ℕ) → howMany (λ n. true) a ≡ length a
 unfolding howMany

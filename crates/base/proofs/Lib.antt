@@ -5,6 +5,7 @@ pub mod ClientSet
 pub mod Counting
 pub mod Cuts
 pub mod Digits
+pub mod Each
 pub mod Falling
 pub mod Filling
 pub mod Listed

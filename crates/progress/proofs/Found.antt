@@ -1,7 +1,7 @@
 -- Signatures that were judged genuine before an event, and by M3 are so from then on. Assumes nothing.
 use mathlib.Core.Path.{_≡_, refl, ap}
 use mathlib.Core.Bool.{true}
-use mathlib.Core.List.{List, [], _∷_, _++_}
+use mathlib.Core.List.{List, [], _∷_}
 use mathlib.Core.Option.{some}
 use Prim.Native.Nat.{ℕ, suc, _≤_, _<_}
 use native.Mathlib.Omega.{arith}
@@ -9,6 +9,7 @@ use borrow.Author.Tests.{eqb-true, eq-eqb}
 use lib.Dec.{eqb}
 use lib.ListN.{length}
 use Rattle.base.proofs.Booleans.{and-true-both}
+use Rattle.base.proofs.Each.{EachOf}
 use Rattle.run.specs.Run.{Run}
 use Rattle.wire.specs.Checks.{all, genuine}
 use Rattle.wire.specs.Signatures.{Signature}
@@ -20,27 +21,10 @@ module _ (R : Run) where
   Found t s = (u : ℕ) × (u < t) × SignedAt R u s 1
 
   abbrev pub EachFound : ℕ → List Signature → Type 0
-  EachFound t [] = Unit {0}
-  EachFound t (s ∷ ss) = Found t s × EachFound t ss
+  EachFound t ss = EachOf (Found t) ss
 
   pub found-later : (t t′ : ℕ) (s : Signature) → t ≤ t′ → Found t s → Found t′ s
   found-later t t′ s l (u, before, at) = (u, omega arith, at)
-
-  pub each-later : (t t′ : ℕ) (ss : List Signature) → t ≤ t′ → EachFound t ss → EachFound t′ ss
-  each-later t t′ [] l h = tt
-  each-later t t′ (s ∷ ss) l h = (found-later t t′ s l (h .0), each-later t t′ ss l (h .1))
-
-  pub each-front : (t : ℕ) (a b : List Signature) → EachFound t (a ++ b) → EachFound t a
-  each-front t [] b h = tt
-  each-front t (s ∷ a) b h = (h .0, each-front t a b (h .1))
-
-  pub each-back : (t : ℕ) (a b : List Signature) → EachFound t (a ++ b) → EachFound t b
-  each-back t [] b h = h
-  each-back t (s ∷ a) b h = each-back t a b (h .1)
-
-  pub each-both : (t : ℕ) (a b : List Signature) → EachFound t a → EachFound t b → EachFound t (a ++ b)
-  each-both t [] b ha hb = hb
-  each-both t (s ∷ a) b ha hb = (ha .0, each-both t a b (ha .1) hb)
 
   module _ (t : ℕ) where
     -- What stands beside one another in these lists does so at event t.

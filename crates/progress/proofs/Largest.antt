@@ -10,6 +10,7 @@ use lib.Dec.{eqb}
 use lib.ListN.{length}
 use Rattle.base.specs.Counting.{one}
 use Rattle.base.proofs.Booleans.{and-true-both}
+use Rattle.base.proofs.Each.{each-both}
 use Rattle.base.proofs.Falling.{howMany, Below, below-up}
 use Rattle.run.proofs.Slots.{order}
 use Rattle.wire.specs.Checks.{all}
@@ -25,8 +26,7 @@ equals-more s [] n = omega arith
 equals-more s (m ∷ a) n = let rest = equals-more s a n in omega arith
 
 below-more : (s : ℕ) (a : List ℕ) (n : ℕ) → Below s a → n ≤ s → Below s (a ++ n ∷ [])
-below-more s [] n h l = (l, tt)
-below-more s (m ∷ a) n h l = (h .0, below-more s a n (h .1) l)
+below-more s a n h l = each-both (λ m. m ≤ s) a (n ∷ []) h (l, tt)
 
 pub none-above : (s s′ : ℕ) (a : List ℕ) → s < s′ → Below s a → equals s′ a ≡ 0
 unfolding howMany

@@ -15,6 +15,7 @@ use Rattle.base.specs.declared.party.RegisterId.{RegisterId}
 use Rattle.base.specs.declared.party.ReplicaId.{ReplicaId}
 use Rattle.base.proofs.Apart.{apart}
 use Rattle.base.proofs.Booleans.{and-true-both}
+use Rattle.base.proofs.Each.{each-front, each-back, each-both, each-then}
 use Rattle.protocol.specs.Parts.{cardStands}
 use Rattle.protocol.specs.RegisterReplica.{isTimestamp}
 use Rattle.run.specs.Run.{to-replica, to-client, Run, event, Correct, Sent}
@@ -30,7 +31,7 @@ use Rattle.wire.specs.declared.message.Party.the-variants.{Replica as AtReplica
 use Rattle.wire.proofs.MessageSignatures.{length-signatures}
 use Rattle.wire.proofs.Tests7To11.{Passed}
 use Rattle.progress.specs.Verdicts.{signaturesAt, verdictsAt, Judged}
-use Rattle.progress.proofs.Found.{Found, EachFound, each-later, each-front, each-back, each-both, Among, all-found, all-ones}
+use Rattle.progress.proofs.Found.{Found, EachFound, found-later, Among, all-found, all-ones}
 
 -- 13 and 14, of the message alone.
 abbrev pub Stands : Message → Type 0
@@ -72,7 +73,7 @@ module _ (R : Run) where
   none-sound = record { shape = refl; is = refl; found = tt }
 
   pub proof-later : {d : ℕ} {signatures : Proof d → List Signature} (t t′ : ℕ) (proof : Option (Proof d)) → t ≤ t′ → ProofSound signatures t proof → ProofSound signatures t′ proof
-  proof-later {signatures = signatures} t t′ proof l s = record { shape = s .shape; is = s .is; found = each-later R t t′ (signaturesIfThere signatures proof) l (s .found) }
+  proof-later {signatures = signatures} t t′ proof l s = record { shape = s .shape; is = s .is; found = each-then (Found R t) (Found R t′) (λ signature. found-later R t t′ signature l) (signaturesIfThere signatures proof) (s .found) }
 
   -- A message for a register passes 9 to 14 where all verdicts are 1, and its entries were found genuine, for this register, before event t.
   pub record Sound (x : RegisterId) (t : ℕ) (m : Message) : Type 0 where
@@ -123,8 +124,8 @@ module _ (R : Run) where
         let size = dropped verdicts (length (entrySignatures x m)) (long (p .one-each)) in
         let found = all-found R t (entrySignatures x m) (drop 1 verdicts) entries-among (omega arith) (p .entries-genuine) in
         record {
-          prepared = record { shape = p .prepared-shaped; is = p .prepared-issued; found = each-front R (suc t) (preparedEntries x m) (writtenEntries x m) found };
-          written = record { shape = p .written-shaped; is = p .written-issued; found = each-back R (suc t) (preparedEntries x m) (writtenEntries x m) found };
+          prepared = record { shape = p .prepared-shaped; is = p .prepared-issued; found = each-front (Found R (suc t)) (preparedEntries x m) (writtenEntries x m) found };
+          written = record { shape = p .written-shaped; is = p .written-issued; found = each-back (Found R (suc t)) (preparedEntries x m) (writtenEntries x m) found };
           field-issued = p .field-issued;
           stands = stands;
         }
@@ -155,7 +156,7 @@ module _ (R : Run) where
 
       pub passes : Sound x t m → Correct R (senderOf m) → Sent R (senderOf m) (take (length bytes - 64) bytes) t → Made (ownSignature bytes m) → Passed (R .f) m verdicts
       passes sound c sent made =
-          let found = each-both R t (preparedEntries x m) (writtenEntries x m) (sound .prepared .found) (sound .written .found) in
+          let found = each-both (Found R t) (preparedEntries x m) (writtenEntries x m) (sound .prepared .found) (sound .written .found) in
           record {
             one-each = each;
             own = own-genuine c sent made;

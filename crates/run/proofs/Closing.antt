@@ -13,6 +13,7 @@ use Rattle.base.specs.declared.party.RegisterId.{RegisterId}
 use Rattle.base.specs.declared.party.ReplicaId.{ReplicaId}
 use Rattle.base.specs.declared.replica_set.ReplicaSet.{ReplicaSet}
 use Rattle.base.proofs.Apart.{apart}
+use Rattle.base.proofs.Each.{each-back}
 use Rattle.base.proofs.Range.{bounds}
 use Rattle.base.proofs.Registers.{place-below}
 use Rattle.protocol.specs.RegisterReplica.{slotCount, freshRegister}
@@ -31,7 +32,7 @@ use Rattle.wire.specs.declared.message.Party.the-variants.{Replica as AtReplica
 use Rattle.wire.proofs.OneForm.{decoded-fits}
 use Rattle.run.specs.Premises.{TrueVerdicts}
 use Rattle.run.specs.Run.{to-replica, Run, bankAt, registerAt, Said}
-use Rattle.run.proofs.SentMessages.{AllTrue, EachSent, sent-back, inside-sent, step-true}
+use Rattle.run.proofs.SentMessages.{AllTrue, WasSent, EachSent, inside-sent, step-true}
 use Rattle.run.proofs.Slots.{prepared-left, SaidByQuorum, quorum-later, entries-quorum}
 use Rattle.run.proofs.Turns.{onwards, correct-replica-range, RegisterTurn, rests, steps, register-turn, RegisterStep, step-for, step-passed}
 
@@ -115,7 +116,7 @@ module _ (R : Run) (x : RegisterId) where
         let small = written-small (s .message) last (decoded-fits AtReplica (s .bytes) (registerIn (s .bytes)) (s .message) (s .admitted .decodes) bytes) e in
         let true-ones = subst (λ (y : RegisterId). TrueVerdicts R t (signaturesOf (s .bytes) (forRegister y (s .message))) (s .verdicts)) (step-for R x registered id t s) (step-true R truth x id t s) in
         let inside = inside-sent R (R .f) t (s .bytes) (s .verdicts) x (s .message) passed true-ones in
-        let entries = sent-back R t (signaturesIfThere (preparedSignatures x) (preparedOf (s .message))) (signaturesIfThere (writtenSignatures x) (writtenOf (s .message))) inside in
+        let entries = each-back (WasSent R t) (signaturesIfThere (preparedSignatures x) (preparedOf (s .message))) (signaturesIfThere (writtenSignatures x) (writtenOf (s .message))) inside in
         record {
           who = signerSet (last .entries);
           said-it =

@@ -17,6 +17,7 @@ use Rattle.base.specs.declared.party.RegisterId.{RegisterId}
 use Rattle.base.specs.declared.party.ReplicaId.{ReplicaId}
 use Rattle.base.proofs.Apart.{apart}
 use Rattle.base.proofs.Booleans.{and-true-both, or-true}
+use Rattle.base.proofs.Each.{EachOf}
 use Rattle.base.proofs.Range.{bounds}
 use Rattle.wire.specs.Checks.{preparedOf, writtenOf, entriesOf, all, oneEach, ownGenuine, genuine}
 use Rattle.wire.specs.Decode.{forRegister, decode, registerIn}
@@ -95,18 +96,12 @@ module _ (R : Run) where
   own-sent t s ss [] e h c = apart (cc)
   own-sent t s ss (v ∷ vs) e h c = h .0 (eqb-true v 1 e) c
 
-  -- Each of these signatures that is a correct party's is of a message that it sent before event t.
+  -- A signature, if it is a correct party's, is of a message that the party sent before event t.
+  abbrev pub WasSent : ℕ → Signature → Type 0
+  WasSent t s = Correct R (s .signer) → Sent R (s .signer) (s .covers) t
+
   abbrev pub EachSent : ℕ → List Signature → Type 0
-  EachSent t [] = Unit {0}
-  EachSent t (s ∷ ss) = (Correct R (s .signer) → Sent R (s .signer) (s .covers) t) × EachSent t ss
-
-  pub sent-front : (t : ℕ) (a b : List Signature) → EachSent t (a ++ b) → EachSent t a
-  sent-front t [] b h = tt
-  sent-front t (s ∷ a) b h = (h .0, sent-front t a b (h .1))
-
-  pub sent-back : (t : ℕ) (a b : List Signature) → EachSent t (a ++ b) → EachSent t b
-  sent-back t [] b h = h
-  sent-back t (s ∷ a) b h = sent-back t a b (h .1)
+  EachSent t ss = EachOf (WasSent t) ss
 
   -- So it is where true verdicts are all 1,
   pub each-sent : (t : ℕ) (ss : List Signature) (vs : List ℕ) → length ss ≤ length vs → genuine vs ≡ true → TrueVerdicts R t ss vs → EachSent t ss

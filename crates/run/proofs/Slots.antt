@@ -21,6 +21,7 @@ use Rattle.base.specs.declared.party.ClientId.{ClientId}
 use Rattle.base.specs.declared.party.RegisterId.{RegisterId}
 use Rattle.base.specs.declared.party.ReplicaId.{ReplicaId}
 use Rattle.base.specs.declared.replica_set.ReplicaSet.{ReplicaSet}
+use Rattle.base.proofs.Each.{each-front}
 use Rattle.base.proofs.Listed.{member-listed}
 use Rattle.base.proofs.Outcome.{guard-accepted}
 use Rattle.base.proofs.Quorum.{Common, quorums-meet}
@@ -43,7 +44,7 @@ use Rattle.run.specs.Premises.{TrueVerdicts, FewFaulty, Premises}
 use Rattle.wire.specs.Acceptance.{replica}
 use Rattle.run.specs.Run.{Run, registerAt, clientAt, answerAt, Said}
 use Rattle.run.proofs.Turns.{correct-replica-range, Answers, RegisterTurn, rests, steps, register-turn, RegisterStep, register-step, Heard}
-use Rattle.run.proofs.SentMessages.{said-later, said-answers, said, EachSent, sent-front, each-sent, inside-sent, entry-sent, heard-true, heard-legal}
+use Rattle.run.proofs.SentMessages.{said-later, said-answers, said, WasSent, EachSent, each-sent, inside-sent, entry-sent, heard-true, heard-legal}
 
 -- An event before the next one is this one or an earlier one.
 pub split-last : {P : Type 0} (u t : ℕ) → u < suc t → (u ≡ t → P) → (u < t → P) → P
@@ -178,7 +179,7 @@ module _ (R : Run) (x : RegisterId) where
       let true-ones : TrueVerdicts R t (signaturesOf (h .bytes) (forRegister x m)) (h .verdicts) =
       subst₂ (λ (y : RegisterId) (n : Message). TrueVerdicts R t (signaturesOf (h .bytes) (forRegister y n)) (h .verdicts)) is e (heard-true R P id t h) in
       backed-by t proof (legal .register-fits) (legal .fits .3) (ok .prepared-shaped)
-      (sent-front R t (preparedSignatures x proof) [] (inside-sent R (R .f) t (h .bytes) (h .verdicts) x m ok true-ones))
+      (each-front (WasSent R t) (preparedSignatures x proof) [] (inside-sent R (R .f) t (h .bytes) (h .verdicts) x m ok true-ones))
 
   -- A genuine proof is judged entry by entry, and so its correct signers sent PREPARED; it is backed at the end of the list.
   judged-each : (proof : PreparedProof) (g : Genuine R x proof) → length (proof .entries) ≤ length (g .verdicts)

@@ -1,5 +1,5 @@
--- A withdrawal order of client 4, and a key under which it is good: the law `key-for` gives it, so that no hash of the check is computed.
--- Assumes nothing.
+-- A withdrawal order of client 4, and a key under which it is good: the law `key-for` gives it, and it stays a name, so that no hash of the check is
+-- computed. Assumes nothing.
 use mathlib.Core.Path.{_≡_, refl}
 use mathlib.Core.Bool.{true}
 use mathlib.Core.List.{List, _∷_, _++_}
@@ -31,20 +31,21 @@ I = replicate 16 0
 abbrev T : List ℕ
 T = Tc I (leafNumber (orderSignature order)) (orderCovered order) (orderSignature order)
 
-abbrev pub key : List ℕ
+unfoldable pub key : List ℕ
 key = publicKey I T
 
 long : length T ≡ 32
 long = length-Tc I (leafNumber (orderSignature order)) (orderCovered order) (orderSignature order)
 
 key-bytes : Bytes key
-unfolding publicKey
+unfolding key publicKey
 key-bytes =
     bytes-append (u32str LMS_SHA256_M32_H5) _ (bytes-toBytes 4 LMS_SHA256_M32_H5)
     (bytes-append (u32str LMOTS_SHA256_N32_W8) _ (bytes-toBytes 4 LMOTS_SHA256_N32_W8)
     (bytes-append I T (bytes-zeros 16) (bytes-Tc I (leafNumber (orderSignature order)) (orderCovered order) (orderSignature order))))
 
 pub is-key : (isPublicKey key ≡ true) × Bytes key
+unfolding key
 is-key = (public-key-is I T refl long, key-bytes)
 
 -- ---- The order is good under it
@@ -78,5 +79,5 @@ unfolding order
 names = refl
 
 pub good : ordered key order ≡ accepted client-4
-unfolding ordered guard
+unfolding key ordered guard
 good = rw (is-order, key-for I (orderCovered order) (orderSignature order) refl sized one-time tree (let first = leaf in omega arith) short, names)

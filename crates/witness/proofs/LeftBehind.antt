@@ -2,37 +2,33 @@
 -- correct replicas and 2.4 prepared before it is withdrawn everywhere. S is 1.4, and the only timestamp of client 4's above it that can be proved
 -- is 2.4, which client 5 then writes and client 1 reads. Above the (f + 2)th there are two. Assumes nothing.
 use mathlib.Core.Path.{_≡_, refl, ap}
-use mathlib.Core.Bool.{true}
 use mathlib.Core.List.{List, [], _∷_}
 use mathlib.Core.Option.{none, some}
 use Prim.Native.Nat.{ℕ, _<_}
 use native.Mathlib.Omega.{arith}
 use lib.Dec.{lit<, lit≤}
-use lib.ListN.{getD, take}
+use lib.ListN.{getD}
 use Rattle.base.proofs.Range.{bounds}
-use Rattle.base.specs.BigEndian.{Bytes}
 use Rattle.base.specs.Falling.{insert, falling}
 use Rattle.base.specs.Outcome.{accepted}
 use Rattle.base.specs.Range.{within}
 use Rattle.base.specs.declared.party.RegisterId.{RegisterId}
 use Rattle.base.specs.declared.party.ReplicaId.{ReplicaId}
-use Rattle.lms.specs.Lms.{isPublicKey}
 use Rattle.protocol.specs.Client.{send, waits, done}
-use Rattle.protocol.specs.Order.{ordered}
 use Rattle.run.proofs.Lurking.{lurking}
 use Rattle.run.specs.Claims.{Genuine}
-use Rattle.run.specs.Lurking.{heldAmong, heldFalling, bar, WithdrawnEverywhere, LeftBehind, AtMostOne}
+use Rattle.run.specs.Lurking.{heldFalling, bar, WithdrawnEverywhere, LeftBehind, AtMostOne}
 use Rattle.run.specs.Premises.{Premises}
-use Rattle.run.specs.Run.{to-replica, order-to, begins-read, to-client, Run, held, answerAt}
+use Rattle.run.specs.Run.{to-replica, order-to, begins-read, to-client, Run, answerAt}
 use Rattle.run.specs.Withdrawals.{OrderTaken}
 use Rattle.wire.specs.Message.{Message, PREPARE, WRITE, READ, PREPARED, WRITTEN, CARD}
 use Rattle.wire.specs.Proof.{PreparedProof, WrittenProof}
 use Rattle.witness.proofs.Cast.{of-three, replica-1, replica-2, replica-3, replica-4, register-2, client-1, client-4, client-5, 1·4, 2·4, at-2·4, by-1-2-4, entry, from-replica-for, from-client-for, one, three, four, seven, service, lathe, service-digest, lathe-digest}
 use Rattle.witness.proofs.Checked.{tests}
 use Rattle.witness.proofs.Computing.{steps, digests}
-use Rattle.witness.proofs.GoodOrder.{order, key, is-key, good}
-use Rattle.witness.proofs.Ordered.{step, Ordered, runOf, goes-as-told, heldIn, meets-premises, takes-order, held-told}
-use Rattle.witness.proofs.Replay.{freshStore, storeAfter, replicaIn, playsBy}
+use Rattle.witness.proofs.GoodOrder.{order}
+use Rattle.witness.proofs.Ordered.{Ordered, runOf, goes-as-told, meets-premises, takes-order, falls-told}
+use Rattle.witness.proofs.Replay.{storeAfter, playsBy}
 use Rattle.witness.proofs.Story.{Line, _↝_, Told, trueVerdicts, allBytes, done-told, genuine-told}
 
 -- ---- What happens: replicas 1 to 3 and client 1 are correct; replica 4 signs all that client 4 likes
@@ -99,145 +95,86 @@ no-register = record { 0 = 258 }
 abbrev AboveOne : Run → ℕ → Type 0
 AboveOne R s = (proof proof′ : PreparedProof) → Genuine R register-2 proof → Genuine R register-2 proof′ → s < proof .timestamp → s < proof′ .timestamp → proof .timestamp ≡ proof′ .timestamp
 
--- ---- Played under any key that the order is good under
+checked : Ordered 3 3 story
+unfolding story order tests playsBy
+checked = record { at-most-four = lit≤ tt; at-most-96 = lit≤ tt; well-told = refl; all-are = refl; answers = refl; few-faulty = lit≤ tt; verdicts-true = refl; new-nonces = refl; no-other-cards = refl }
 
-module _ (key : List ℕ) (is-key : (isPublicKey key ≡ true) × Bytes key) (good : ordered key order ≡ accepted client-4) where
-  checked : Ordered 3 3 story key is-key
-  unfolding story order tests playsBy
-  checked =
-      record {
-        at-most-four = lit≤ tt;
-        at-most-96 = lit≤ tt;
-        well-told = refl;
-        all-are = refl;
-        answers = refl;
-        few-faulty = lit≤ tt;
-        verdicts-true = refl;
-        new-nonces = refl;
-        no-other-cards = refl;
-      }
+pub run : Run
+run = runOf checked
 
-  pub run : Run
-  run = runOf checked
+as-told : Told run story
+unfolding run
+as-told = goes-as-told checked
 
-  as-told : Told run story
-  unfolding run
-  as-told = goes-as-told checked good
+pub premises : Premises run
+unfolding run
+premises = meets-premises checked
 
-  premises : Premises run
-  unfolding run
-  premises = meets-premises checked good
+-- Each correct replica has taken the order before event 9.
+pub withdrawn : WithdrawnEverywhere run client-4 9
+unfolding run story
+withdrawn id c =
+    let range = bounds 1 3 (id .0) c in
+    of-three (λ id. OrderTaken (runOf checked) id client-4 9) id (range .0) (range .1)
+    (takes-order checked 7 9 replica-1 (lit< tt) refl) (takes-order checked 8 9 replica-2 (lit< tt) refl) (takes-order checked 4 9 replica-3 (lit< tt) refl)
 
-  -- Each correct replica has taken the order before event 9.
-  withdrawn : WithdrawnEverywhere run client-4 9
-  unfolding run story
-  withdrawn id c =
-      let range = bounds 1 3 (id .0) c in
-      of-three (λ id. OrderTaken (runOf checked) id client-4 9) id (range .0) (range .1)
-      (takes-order checked good 7 9 replica-1 (lit< tt) refl) (takes-order checked good 8 9 replica-2 (lit< tt) refl) (takes-order checked good 4 9 replica-3 (lit< tt) refl)
+-- ---- What is held then
 
-  -- ---- What is held then
+pub falls : heldFalling run register-2 9 ≡ 1·4 ∷ 1·4 ∷ 0 ∷ []
+unfolding run story steps digests storeAfter falling insert
+falls = falls-told checked register-2 9 (lit≤ tt) refl
 
-  holds : (x : RegisterId) (id : ReplicaId) → id .0 < 5 → held run x id 9 ≡ heldIn x (replicaIn (storeAfter step (freshStore (runOf checked) 3) (take 9 story)) id)
-  unfolding run story steps digests storeAfter
-  holds x id there = held-told checked good x 9 (lit≤ tt) id there
+bar-is : bar run register-2 9 ≡ 1·4
+unfolding run
+bar-is = ap (λ (numbers : List ℕ). getD numbers 1 0) falls
 
-  held-1 : held run register-2 replica-1 9 ≡ 1·4
-  unfolding story steps digests storeAfter
-  held-1 = holds register-2 replica-1 (lit< tt)
+-- ---- Both timestamps have genuine proofs
 
-  held-2 : held run register-2 replica-2 9 ≡ 1·4
-  unfolding story steps digests storeAfter
-  held-2 = holds register-2 replica-2 (lit< tt)
+pub genuine-1 : Genuine run register-2 proof-1
+unfolding run story steps allBytes trueVerdicts
+genuine-1 = genuine-told run story as-told register-2 proof-1 three refl refl refl refl refl
 
-  held-3 : held run register-2 replica-3 9 ≡ 0
-  unfolding story steps digests storeAfter
-  held-3 = holds register-2 replica-3 (lit< tt)
+pub genuine-2 : Genuine run register-2 proof-2
+unfolding run story steps allBytes trueVerdicts
+genuine-2 = genuine-told run story as-told register-2 proof-2 three refl refl refl refl refl
 
-  falls : heldFalling run register-2 9 ≡ 1·4 ∷ 1·4 ∷ 0 ∷ []
-  unfolding run heldAmong within falling insert
-  falls i = falling (held-3 i ∷ held-2 i ∷ held-1 i ∷ [])
+-- One is left, which is proved: "none" would be false.
+pub left : LeftBehind run register-2 client-4 9 2·4
+left = (refl, rw bar-is (lit< tt))
 
-  bar-is : bar run register-2 9 ≡ 1·4
-  unfolding run
-  bar-is = ap (λ (falling : List ℕ). getD falling 1 0) falls
+-- And no other is.
+pub only-one : (proof : PreparedProof) → Genuine run register-2 proof → LeftBehind run register-2 client-4 9 (proof .timestamp) → proof .timestamp ≡ 2·4
+unfolding within
+only-one proof g other = lurking run premises register-2 refl client-4 9 withdrawn proof proof-2 g genuine-2 other left
 
-  -- ---- Both timestamps have genuine proofs
+-- It surfaces: when client 5 has written it, client 1 reads it.
+pub read-done : answerAt run 18 ≡ accepted (done at-2·4 lathe by-1-2-4)
+unfolding story
+read-done = done-told run story as-told 18 _ at-2·4 lathe by-1-2-4 refl
 
-  genuine-1 : Genuine run register-2 proof-1
-  unfolding run story steps allBytes trueVerdicts
-  genuine-1 = genuine-told run story as-told register-2 proof-1 three refl refl refl refl refl
+-- ---- What is false
 
-  genuine-2 : Genuine run register-2 proof-2
-  unfolding run story steps allBytes trueVerdicts
-  genuine-2 = genuine-told run story as-told register-2 proof-2 three refl refl refl refl refl
+-- Of what lies above the (f + 2)th.
+pub next-too-low : AboveOne run (getD (heldFalling run register-2 9) 2 0) → ⊥
+next-too-low claim =
+    let is : getD (heldFalling run register-2 9) 2 0 ≡ 0 = ap (λ (numbers : List ℕ). getD numbers 2 0) falls in
+    let same : 1·4 ≡ 2·4 = claim proof-1 proof-2 genuine-1 genuine-2 (rw is (lit< tt)) (rw is (lit< tt)) in
+    omega arith
 
-  left : LeftBehind run register-2 client-4 9 2·4
-  left = (refl, rw bar-is (lit< tt))
+-- Of what is no register, whose record is register 1's.
+there-1 : Genuine run no-register proof-1
+unfolding run story steps allBytes trueVerdicts
+there-1 = genuine-told run story as-told no-register proof-1 three refl refl refl refl refl
 
-  only-one : (proof : PreparedProof) → Genuine run register-2 proof → LeftBehind run register-2 client-4 9 (proof .timestamp) → proof .timestamp ≡ 2·4
-  unfolding within
-  only-one proof g other = lurking run premises register-2 refl client-4 9 withdrawn proof proof-2 g genuine-2 other left
+there-2 : Genuine run no-register proof-2
+unfolding run story steps allBytes trueVerdicts
+there-2 = genuine-told run story as-told no-register proof-2 three refl refl refl refl refl
 
-  read-done : answerAt run 18 ≡ accepted (done at-2·4 lathe by-1-2-4)
-  unfolding story
-  read-done = done-told run story as-told 18 _ at-2·4 lathe by-1-2-4 refl
+bar-there : bar run no-register 9 ≡ 0
+unfolding run story steps digests storeAfter falling insert
+bar-there = ap (λ (numbers : List ℕ). getD numbers 1 0) (falls-told checked no-register 9 (lit≤ tt) refl)
 
-  -- ---- What is false
-
-  -- Of what lies above the (f + 2)th.
-  next-too-low : AboveOne run (getD (heldFalling run register-2 9) 2 0) → ⊥
-  next-too-low claim =
-      let is : getD (heldFalling run register-2 9) 2 0 ≡ 0 = ap (λ (numbers : List ℕ). getD numbers 2 0) falls in
-      let same : 1·4 ≡ 2·4 = claim proof-1 proof-2 genuine-1 genuine-2 (rw is (lit< tt)) (rw is (lit< tt)) in
-      omega arith
-
-  -- Of what is no register, whose record is register 1's.
-  there-1 : Genuine run no-register proof-1
-  unfolding run story steps allBytes trueVerdicts
-  there-1 = genuine-told run story as-told no-register proof-1 three refl refl refl refl refl
-
-  there-2 : Genuine run no-register proof-2
-  unfolding run story steps allBytes trueVerdicts
-  there-2 = genuine-told run story as-told no-register proof-2 three refl refl refl refl refl
-
-  bar-there : bar run no-register 9 ≡ 0
-  unfolding run story steps digests storeAfter heldAmong within falling insert
-  bar-there i = getD (falling (holds no-register replica-3 (lit< tt) i ∷ holds no-register replica-2 (lit< tt) i ∷ holds no-register replica-1 (lit< tt) i ∷ [])) 1 0
-
-  register-needed : AtMostOne run no-register → ⊥
-  register-needed claim =
-      let same : 1·4 ≡ 2·4 = claim client-4 9 withdrawn proof-1 proof-2 there-1 there-2 (refl, rw bar-there (lit< tt)) (refl, rw bar-there (lit< tt)) in
-      omega arith
-
--- ---- Under the key that `key-for` gives
-
-abbrev pub the-run : Run
-the-run = run key is-key good
-
-pub record OneLeft : Type 0 where
-  pub premises : Premises the-run
-  pub withdrawn : WithdrawnEverywhere the-run client-4 9
-  pub falls : heldFalling the-run register-2 9 ≡ 1·4 ∷ 1·4 ∷ 0 ∷ []
-  -- One is left, which is proved; "none" would be false.
-  pub provable : Genuine the-run register-2 proof-2
-  pub left : LeftBehind the-run register-2 client-4 9 2·4
-  pub only-one : (proof : PreparedProof) → Genuine the-run register-2 proof → LeftBehind the-run register-2 client-4 9 (proof .timestamp) → proof .timestamp ≡ 2·4
-  -- Above the (f + 2)th there are two, and so above a bar that is read from register 1's record for another's number.
-  pub next-too-low : AboveOne the-run (getD (heldFalling the-run register-2 9) 2 0) → ⊥
-  pub register-needed : AtMostOne the-run no-register → ⊥
-  -- It surfaces: client 1 reads it, when client 5 has written it.
-  pub read-done : answerAt the-run 18 ≡ accepted (done at-2·4 lathe by-1-2-4)
-
-pub one-left : OneLeft
-one-left = record {
-  premises = premises key is-key good;
-  withdrawn = withdrawn key is-key good;
-  falls = falls key is-key good;
-  provable = genuine-2 key is-key good;
-  left = left key is-key good;
-  only-one = only-one key is-key good;
-  next-too-low = next-too-low key is-key good;
-  register-needed = register-needed key is-key good;
-  read-done = read-done key is-key good;
-}
+pub register-needed : AtMostOne run no-register → ⊥
+register-needed claim =
+    let same : 1·4 ≡ 2·4 = claim client-4 9 withdrawn proof-1 proof-2 there-1 there-2 (refl, rw bar-there (lit< tt)) (refl, rw bar-there (lit< tt)) in
+    omega arith

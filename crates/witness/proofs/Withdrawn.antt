@@ -10,12 +10,9 @@ use native.Mathlib.Omega.{arith}
 use lib.Dec.{lit<, lit≤}
 use lib.ListN.{getElem?}
 use Rattle.base.proofs.Range.{bounds}
-use Rattle.base.specs.BigEndian.{Bytes}
 use Rattle.base.specs.Outcome.{accepted, refused}
 use Rattle.base.specs.declared.party.ReplicaId.{ReplicaId}
-use Rattle.lms.specs.Lms.{isPublicKey}
 use Rattle.protocol.specs.Client.{send, waits, done}
-use Rattle.protocol.specs.Order.{ordered}
 use Rattle.run.specs.Premises.{Premises}
 use Rattle.run.specs.Run.{Event, to-replica, order-to, begins-read, to-client, Run, event, answerAt}
 use Rattle.run.specs.Withdrawals.{OrderTaken}
@@ -24,7 +21,7 @@ use Rattle.wire.specs.Message.{Message, PREPARE, WRITE, READ, PREPARED, WRITTEN
 use Rattle.wire.specs.Proof.{PreparedProof}
 use Rattle.witness.proofs.Cast.{of-three, replica-1, replica-2, replica-3, register-1, client-1, client-4, client-5, 1·4, 2·5, at-1·4, by-1-2-3, entry, from-replica, from-client, one, four, service, service-digest, lathe-digest}
 use Rattle.witness.proofs.Computing.{messages}
-use Rattle.witness.proofs.GoodOrder.{order, key, is-key, good}
+use Rattle.witness.proofs.GoodOrder.{order}
 use Rattle.witness.proofs.Checked.{tests}
 use Rattle.witness.proofs.Ordered.{Ordered, runOf, goes-as-told, meets-premises, takes-order}
 use Rattle.witness.proofs.Replay.{playsBy}
@@ -77,95 +74,68 @@ story =
     ∷ to-client client-1 (from-replica replica-3 shows) four ↝ done at-1·4 service by-1-2-3
     ∷ [])))))))
 
--- ---- Played under any key that the order is good under
+checked : Ordered 3 3 story
+unfolding story order tests playsBy
+checked = record { at-most-four = lit≤ tt; at-most-96 = lit≤ tt; well-told = refl; all-are = refl; answers = refl; few-faulty = lit≤ tt; verdicts-true = refl; new-nonces = refl; no-other-cards = refl }
 
-module _ (key : List ℕ) (is-key : (isPublicKey key ≡ true) × Bytes key) (good : ordered key order ≡ accepted client-4) where
-  checked : Ordered 3 3 story key is-key
-  unfolding story order tests playsBy
-  checked =
-      record {
-        at-most-four = lit≤ tt;
-        at-most-96 = lit≤ tt;
-        well-told = refl;
-        all-are = refl;
-        answers = refl;
-        few-faulty = lit≤ tt;
-        verdicts-true = refl;
-        new-nonces = refl;
-        no-other-cards = refl;
-      }
+pub run : Run
+run = runOf checked
 
-  pub run : Run
-  run = runOf checked
+as-told : Told run story
+unfolding run
+as-told = goes-as-told checked
 
-  as-told : Told run story
-  unfolding run
-  as-told = goes-as-told checked good
+pub premises : Premises run
+unfolding run
+premises = meets-premises checked
 
-  premises : Premises run
-  unfolding run
-  premises = meets-premises checked good
+pub read-done : answerAt run 24 ≡ accepted (done at-1·4 service by-1-2-3)
+unfolding story
+read-done = done-told run story as-told 24 _ at-1·4 service by-1-2-3 refl
 
-  read-done : answerAt run 24 ≡ accepted (done at-1·4 service by-1-2-3)
-  unfolding story
-  read-done = done-told run story as-told 24 _ at-1·4 service by-1-2-3 refl
+-- ---- What is seen at a replica
 
-  -- ---- What is seen at a replica
+-- Some event behind the orders is this one, and so answered.
+abbrev pub Later : Event → (ℕ → Type 0) → Type 0
+Later e answered = (t : ℕ) × (6 ≤ t) × (event run t ≡ some e) × answered t
 
-  -- Some event behind the orders is this one, and so answered.
-  abbrev pub Later : Event → (ℕ → Type 0) → Type 0
-  Later e answered = (t : ℕ) × (6 ≤ t) × (event run t ≡ some e) × answered t
+pub record SeenAt (id : ReplicaId) : Type 0 where
+  pub order-taken : OrderTaken run id client-4 6
+  pub read-refused : Later (to-replica id read-4 one) (λ t. answerAt run t ≡ refused 23)
+  pub prepare-refused : Later (to-replica id prepare-4 one) (λ t. answerAt run t ≡ refused 23)
+  pub write-taken : Later (to-replica id write-5 four) (λ t. Sends run register-1 t (WRITTEN id 1·4))
+  pub prepare-taken : Later (to-replica id prepare-5 four) (λ t. Sends run register-1 t (PREPARED id 2·5 lathe-digest))
 
-  pub record SeenAt (id : ReplicaId) : Type 0 where
-    pub order-taken : OrderTaken run id client-4 6
-    pub read-refused : Later (to-replica id read-4 one) (λ t. answerAt run t ≡ refused 23)
-    pub prepare-refused : Later (to-replica id prepare-4 one) (λ t. answerAt run t ≡ refused 23)
-    pub write-taken : Later (to-replica id write-5 four) (λ t. Sends run register-1 t (WRITTEN id 1·4))
-    pub prepare-taken : Later (to-replica id prepare-5 four) (λ t. Sends run register-1 t (PREPARED id 2·5 lathe-digest))
+refuses : (t : ℕ) (e : Event) → 6 ≤ t → getElem? story t ≡ some (e ↛ 23) → Later e (λ s. answerAt run s ≡ refused 23)
+refuses t e behind at = (t, behind, event-told run story as-told t (e ↛ 23) at, refused-told run story as-told t e 23 at)
 
-  refuses : (t : ℕ) (e : Event) → 6 ≤ t → getElem? story t ≡ some (e ↛ 23) → Later e (λ s. answerAt run s ≡ refused 23)
-  refuses t e behind at = (t, behind, event-told run story as-told t (e ↛ 23) at, refused-told run story as-told t e 23 at)
+sends : (t : ℕ) (id : ReplicaId) (bytes verdicts : List ℕ) (message : Message) → 6 ≤ t → getElem? story t ≡ some (to-replica id bytes verdicts ↝ send message)
+    → Later (to-replica id bytes verdicts) (λ s. Sends run (registerIn bytes) s message)
+sends t id bytes verdicts message behind at =
+    let line = to-replica id bytes verdicts ↝ send message in
+    (t, behind, event-told run story as-told t line at, sends-told run story as-told t (to-replica id bytes verdicts) message at)
 
-  sends : (t : ℕ) (id : ReplicaId) (bytes verdicts : List ℕ) (message : Message) → 6 ≤ t → getElem? story t ≡ some (to-replica id bytes verdicts ↝ send message)
-      → Later (to-replica id bytes verdicts) (λ s. Sends run (registerIn bytes) s message)
-  sends t id bytes verdicts message behind at =
-      let line = to-replica id bytes verdicts ↝ send message in
-      (t, behind, event-told run story as-told t line at, sends-told run story as-told t (to-replica id bytes verdicts) message at)
+-- The lines of the i-th of the three.
+seen-in : (i : ℕ) (id : ReplicaId) → i < 3
+    → getElem? story (3 + i) ≡ some (order-to id order ↝ waits)
+    → getElem? story (6 + i) ≡ some (to-replica id read-4 one ↛ 23)
+    → getElem? story (9 + i) ≡ some (to-replica id prepare-4 one ↛ 23)
+    → getElem? story (12 + i) ≡ some (to-replica id write-5 four ↝ send (WRITTEN id 1·4))
+    → getElem? story (15 + i) ≡ some (to-replica id prepare-5 four ↝ send (PREPARED id 2·5 lathe-digest))
+    → SeenAt id
+unfolding messages run
+seen-in i id few taken read prepare write after =
+    record {
+      order-taken = takes-order checked (3 + i) 6 id (omega arith) taken;
+      read-refused = refuses (6 + i) _ (omega arith) read;
+      prepare-refused = refuses (9 + i) _ (omega arith) prepare;
+      write-taken = sends (12 + i) id write-5 four _ (omega arith) write;
+      prepare-taken = sends (15 + i) id prepare-5 four _ (omega arith) after;
+    }
 
-  -- The lines of the i-th of the three.
-  seen-in : (i : ℕ) (id : ReplicaId) → i < 3
-      → getElem? story (3 + i) ≡ some (order-to id order ↝ waits)
-      → getElem? story (6 + i) ≡ some (to-replica id read-4 one ↛ 23)
-      → getElem? story (9 + i) ≡ some (to-replica id prepare-4 one ↛ 23)
-      → getElem? story (12 + i) ≡ some (to-replica id write-5 four ↝ send (WRITTEN id 1·4))
-      → getElem? story (15 + i) ≡ some (to-replica id prepare-5 four ↝ send (PREPARED id 2·5 lathe-digest))
-      → SeenAt id
-  unfolding messages run
-  seen-in i id few taken read prepare write after =
-      record {
-        order-taken = takes-order checked good (3 + i) 6 id (omega arith) taken;
-        read-refused = refuses (6 + i) _ (omega arith) read;
-        prepare-refused = refuses (9 + i) _ (omega arith) prepare;
-        write-taken = sends (12 + i) id write-5 four _ (omega arith) write;
-        prepare-taken = sends (15 + i) id prepare-5 four _ (omega arith) after;
-      }
-
-  seen : (id : ReplicaId) → run .correct-replica id ≡ true → SeenAt id
-  unfolding run story
-  seen id c =
-      let range = bounds 1 3 (id .0) c in
-      of-three SeenAt id (range .0) (range .1) (seen-in 0 replica-1 (lit< tt) refl refl refl refl refl)
-      (seen-in 1 replica-2 (lit< tt) refl refl refl refl refl) (seen-in 2 replica-3 (lit< tt) refl refl refl refl refl)
-
--- ---- Under the key that `key-for` gives
-
-abbrev pub the-run : Run
-the-run = run key is-key good
-
-pub record Withdrawn : Type 0 where
-  pub premises : Premises the-run
-  pub seen : (id : ReplicaId) → the-run .correct-replica id ≡ true → SeenAt key is-key good id
-  pub read-done : answerAt the-run 24 ≡ accepted (done at-1·4 service by-1-2-3)
-
-pub withdrawn-run : Withdrawn
-withdrawn-run = record { premises = premises key is-key good; seen = seen key is-key good; read-done = read-done key is-key good }
+pub seen : (id : ReplicaId) → run .correct-replica id ≡ true → SeenAt id
+unfolding run story
+seen id c =
+    let range = bounds 1 3 (id .0) c in
+    of-three SeenAt id (range .0) (range .1) (seen-in 0 replica-1 (lit< tt) refl refl refl refl refl)
+    (seen-in 1 replica-2 (lit< tt) refl refl refl refl refl) (seen-in 2 replica-3 (lit< tt) refl refl refl refl refl)
