@@ -1,5 +1,6 @@
 -- What holds of each member of a list. Assumes nothing.
-use mathlib.Core.List.{List, [], _∷_, _++_}
+use mathlib.Core.Path.{sym, subst}
+use mathlib.Core.List.{List, [], _∷_, _++_, List·Memᴰ as In, List·Memᴰ·head as here, List·Memᴰ·tail as there}
 
 abbrev pub EachOf : {A : Type 0} → (A → Type 0) → List A → Type 0
 EachOf P [] = Unit {0}
@@ -21,3 +22,7 @@ module _ {A : Type 0} (P : A → Type 0) where
   pub each-then : (Q : A → Type 0) → ((x : A) → P x → Q x) → (a : List A) → EachOf P a → EachOf Q a
   each-then Q then [] h = tt
   each-then Q then (x ∷ a) h = (then x (h .0), each-then Q then a (h .1))
+
+  pub each-in : {x : A} {a : List A} → In x a → EachOf P a → P x
+  each-in (here e) h = subst P (sym e) (h .0)
+  each-in (there m) h = each-in m (h .1)

@@ -86,3 +86,11 @@ put-front bytes old n new c =
         let h = leb-true (length bytes) (length old) e in
         take-all (fitting old 0 bytes) bytes (omega arith) ∙ sym (take-all (length old) bytes h)
     go false e = let h = leb-false (length bytes) (length old) e in let same : fitting old 0 bytes ≡ length old = omega arith in rw same
+
+-- Bytes that fit stand in front, with the old ones behind.
+pub put-all : {old bytes new : List ℕ} {end : ℕ} → length bytes ≤ length old → Puts old 0 bytes end new → (end ≡ length bytes) × (new ≡ bytes ++ drop (length bytes) old)
+unfolding written
+put-all {old} {bytes} room p =
+    let count : fitting old 0 bytes ≡ length bytes = omega arith in
+    let place : 0 + length bytes ≡ length bytes = omega arith in
+    (p .ends ∙ omega arith, p .is ∙ rw (count, place, take-length bytes))

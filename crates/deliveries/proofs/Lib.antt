@@ -1,0 +1,11 @@
+pub mod Digits
+pub mod Factorials
+pub mod Listing
+pub mod Lists
+pub mod Order
+pub mod Others
+pub mod Pairwise
+pub mod Places
+pub mod Runs
+pub mod Texts
+pub mod Whole
