@@ -5,7 +5,8 @@ use Prim.Native.Nat.{ℕ, zero, suc, _+_, _-_, _*_, _/_, _%_, _<_}
 use native.Mathlib.Omega.{arith}
 use lib.ListN.{length, getD, take, drop}
 use Rattle.deliveries.specs.ShortRuns.{Delivery}
-use Rattle.deliveries.specs.Writing.{deliveryOf, deliveriesIn, digitAt, withoutDigit}
+use Rattle.deliveries.specs.Writing.{deliveryOf, deliveriesIn, digitAt, withoutDigit, Takes}
+use Rattle.deliveries.specs.declared.Taken.{Taken}
 
 pub length-in : (count n : ℕ) → length (deliveriesIn count n) ≡ count
 unfolding deliveriesIn
@@ -31,21 +32,18 @@ removed (suc count) n (suc place) h =
 
 -- ---- Digit by digit, as the code has it
 
-module _ (n : ℕ) where
-  pub last-digit : (place : ℕ) → place ≡ 0 → n % 8 ≡ digitAt n place
-  unfolding digitAt
-  last-digit place e = rw e
+pub takes-last : (n place : ℕ) → place ≡ 0 → Takes n place (record { number = n % 8; others = n / 8 })
+unfolding digitAt withoutDigit
+takes-last n place last = record { number-is = rw last; one-digit = omega arith; others-are = rw last; no-more = omega arith }
 
-  pub earlier-digit : (place : ℕ) → 0 < place → digitAt (n / 8) (place - 1) ≡ digitAt n place
-  unfolding digitAt
-  earlier-digit zero some = absurd (omega arith)
-  earlier-digit (suc place) some = let e : suc place - 1 ≡ place = omega arith in rw e
-
-  pub without-last : (place : ℕ) → place ≡ 0 → n / 8 ≡ withoutDigit n place
-  unfolding withoutDigit
-  without-last place e = rw e
-
-  pub without-earlier : (place : ℕ) → 0 < place → withoutDigit (n / 8) (place - 1) * 8 + n % 8 ≡ withoutDigit n place
-  unfolding withoutDigit
-  without-earlier zero some = absurd (omega arith)
-  without-earlier (suc place) some = let e : suc place - 1 ≡ place = omega arith in rw e
+pub takes-earlier : {n place : ℕ} {taken : Taken} → 0 < place → Takes (n / 8) (place - 1) taken → Takes n place (record { number = taken .number; others = taken .others * 8 + n % 8 })
+unfolding digitAt withoutDigit
+takes-earlier {place = zero} some t = absurd (omega arith)
+takes-earlier {n = n} {place = suc place} {taken = taken} some t =
+    let less : suc place - 1 ≡ place = omega arith in
+    record {
+      number-is = rw less at (t .number-is);
+      one-digit = t .one-digit;
+      others-are = ap (λ (front : ℕ). front * 8 + n % 8) (rw less at (t .others-are));
+      no-more = omega (arith, t .no-more);
+    }

@@ -1,4 +1,5 @@
 pub mod Digits
+pub mod Examples
 pub mod Factorials
 pub mod Listing
 pub mod Lists
@@ -6,6 +7,7 @@ pub mod Order
 pub mod Others
 pub mod Pairwise
 pub mod Places
+pub mod ReadBack
 pub mod Runs
 pub mod Texts
 pub mod Whole

@@ -8,6 +8,7 @@ use Prim.Native.Nat.{ℕ, zero, suc, _+_, _*_, _/_, _%_, _≤_, _<_}
 use lib.Dec.{leb}
 use lib.ListN.{length, getD, drop}
 use Rattle.deliveries.specs.ShortRuns.{Delivery, Pairwise, fallingFactorial, delivery, runsOf, deliveryLine, printed}
+use Rattle.deliveries.specs.declared.Taken.{Taken}
 use Rattle.deliveries.specs.declared.Written.{Written}
 use Rattle.deliveries.specs.declared.Written.the-variants.{Length, TooShort}
 
@@ -28,6 +29,13 @@ digitAt n (suc place) = digitAt (n / 8) place
 unfoldable pub withoutDigit : ℕ → ℕ → ℕ
 withoutDigit n zero = n / 8
 withoutDigit n (suc place) = withoutDigit (n / 8) place * 8 + n % 8
+
+-- A digit taken out. The second and the last follow, for callers that go on with it.
+pub record Takes (n place : ℕ) (taken : Taken) : Type 0 where
+  pub number-is : taken .number ≡ digitAt n place
+  pub one-digit : taken .number < 8
+  pub others-are : taken .others ≡ withoutDigit n place
+  pub no-more : taken .others ≤ n
 
 -- ---- A run by its place
 

@@ -5,7 +5,7 @@ ghost use mathlib.Core.List.{flatMap};
 ghost use Prim.Native.Nat.{_≤_, _<_};
 ghost use Rattle.text.specs.Put.{Puts};
 ghost use Rattle.deliveries.specs.ShortRuns.{fallingFactorial, deliveries, runAt, deliveryLine, runText, textOf};
-ghost use Rattle.deliveries.specs.Writing.{deliveryOf, deliveriesIn, digitAt, withoutDigit, linesAt, IsPlace, WritesAll};
+ghost use Rattle.deliveries.specs.Writing.{deliveryOf, deliveriesIn, Takes, linesAt, IsPlace, WritesAll};
 
 // How much was written: all runs, or nothing into an output that is shorter.
 pub enum Written {
@@ -23,22 +23,26 @@ fn all() -> u32
     0o76543210
 }
 
-fn digit(unused: u32, place: u32) -> u8
-    ensures { λ r. ⌜ (r ≡ digitAt unused place) × (r < 8) ⌝ }
-{
-    if place == 0 {
-        return (unused % 8) as u8;
-    }
-    digit(unused / 8, place - 1)
+// A delivery's number, and those of the others.
+struct Taken {
+    number: u8,
+    others: u32,
 }
 
-fn without(unused: u32, place: u32) -> u32
-    ensures { λ r. ⌜ (r ≡ withoutDigit unused place) × (r ≤ unused) ⌝ }
+fn take(unused: u32, place: u32) -> Taken
+    ensures { λ r. ⌜ Takes unused place r ⌝ }
 {
     if place == 0 {
-        return unused / 8;
+        return Taken {
+            number: (unused % 8) as u8,
+            others: unused / 8,
+        };
     }
-    without(unused / 8, place - 1) * 8 + unused % 8
+    let taken = take(unused / 8, place - 1);
+    Taken {
+        number: taken.number,
+        others: taken.others * 8 + unused % 8,
+    }
 }
 
 // n · (n − 1) · …, so many factors: the runs of k out of n deliveries.
@@ -70,9 +74,9 @@ fn put_deliveries(out: &mut [u8], at: usize, k: u32, count: u32, unused: u32, be
         return at;
     }
     let size = falling_factorial(count - 1, k - 1);
-    let place = before / size;
-    let next = put_delivery(out, at, digit(unused, place));
-    put_deliveries(out, next, k - 1, count - 1, without(unused, place), before % size)
+    let taken = take(unused, before / size);
+    let next = put_delivery(out, at, taken.number);
+    put_deliveries(out, next, k - 1, count - 1, taken.others, before % size)
 }
 
 fn put_run(out: &mut [u8], at: usize, k: u32, before: u32) -> usize
