@@ -25,20 +25,28 @@ alike-itself : (d : Delivery) → alike d d ≡ true
 unfolding alike
 alike-itself d = rw (eq-eqb (d .message) (d .message) refl, eq-eqb (d .replica .0) (d .replica .0) refl)
 
--- The first of a list is the one left out, or it stays: what holds in both cases holds.
-first : (P : List Delivery → Type 0) (d e : Delivery) (l : List Delivery) → (d ≡ e → P (others d l)) → (d ≢ e → P (e ∷ others d l)) → P (others d (e ∷ l))
-unfolding others
-first P d e l out stays = go (alike d e) refl
-  where
-    go : (b : Bool) → alike d e ≡ b → P (cond b (others d l) (e ∷ others d l))
-    go true h = out (alike-same d e h)
-    go false h = stays (λ same. let both : true ≡ false = sym (alike-itself d) ∙ (ap (alike d) same ∙ h) in apart (cc))
+module _ (d e : Delivery) (l : List Delivery) where
+  left-out : alike d e ≡ true → others d (e ∷ l) ≡ others d l
+  unfolding others
+  left-out h = rw h
+
+  stays : alike d e ≡ false → others d (e ∷ l) ≡ e ∷ others d l
+  unfolding others
+  stays h = rw h
+
+  -- The first of a list is the one left out, or it stays: what holds in both cases holds.
+  first : (P : List Delivery → Type 0) → (d ≡ e → P (others d l)) → (d ≢ e → P (e ∷ others d l)) → P (others d (e ∷ l))
+  first P same other = go (alike d e) refl
+    where
+      go : (b : Bool) → alike d e ≡ b → P (others d (e ∷ l))
+      go true h = subst P (sym (left-out h)) (same (alike-same d e h))
+      go false h = subst P (sym (stays h)) (other (λ k. let both : true ≡ false = sym (alike-itself d) ∙ (ap (alike d) k ∙ h) in apart (cc)))
 
 pub of-others : {d e : Delivery} (l : List Delivery) → In e (others d l) → In e l × (d ≢ e)
 unfolding others
 of-others [] m = absurd (List·Memᴰ·not-nil m)
 of-others {d} {e} (x ∷ l) m =
-    first (λ rest. In e rest → In e (x ∷ l) × (d ≢ e)) d x l
+    first d x l (λ rest. In e rest → In e (x ∷ l) × (d ≢ e))
     (λ out h. let r = of-others l h in (there (r .0), r .1))
     (λ stays h. go stays (of-others l) (List·Memᴰ·cases-cons h))
     m
@@ -51,7 +59,7 @@ pub into-others : {d e : Delivery} (l : List Delivery) → In e l → d ≢ e �
 unfolding others
 into-others [] m other = absurd (List·Memᴰ·not-nil m)
 into-others {d} {e} (x ∷ l) m other =
-    first (λ rest. In e rest) d x l
+    first d x l (λ rest. In e rest)
     (λ out. gone out (λ h. into-others l h other) (List·Memᴰ·cases-cons m))
     (λ stays. kept (λ h. into-others l h other) (List·Memᴰ·cases-cons m))
   where
@@ -68,21 +76,21 @@ unfolding others
 others-pairwise R d [] p = tt
 others-pairwise R d (x ∷ l) p =
     let rest = others-pairwise R d l (p .1) in
-    first (Pairwise R) d x l (λ out. rest) (λ stays. (λ e m. p .0 e (of-others l m .0), rest))
+    first d x l (Pairwise R) (λ out. rest) (λ stays. (λ e m. p .0 e (of-others l m .0), rest))
 
 -- Who is not there is not left out.
 absent : (d : Delivery) (l : List Delivery) → ((e : Delivery) → In e l → d ≢ e) → others d l ≡ l
 unfolding others
 absent d [] none = refl
 absent d (x ∷ l) none =
-    first (λ rest. rest ≡ x ∷ l) d x l (λ out. absurd (none x (here refl) out)) (λ stays. ap (λ (rest : List Delivery). x ∷ rest) (absent d l (λ e m. none e (there m))))
+    first d x l (λ rest. rest ≡ x ∷ l) (λ out. absurd (none x (here refl) out)) (λ stays. ap (λ (rest : List Delivery). x ∷ rest) (absent d l (λ e m. none e (there m))))
 
 -- ---- Of different deliveries
 
 pub fewer : {d : Delivery} (l : List Delivery) → Pairwise _≢_ l → In d l → suc (length (others d l)) ≡ length l
 fewer [] p m = absurd (List·Memᴰ·not-nil m)
 fewer {d} (x ∷ l) p m =
-    first (λ rest. suc (length rest) ≡ suc (length l)) d x l
+    first d x l (λ rest. suc (length rest) ≡ suc (length l))
     (λ out. ap (λ (rest : List Delivery). suc (length rest)) (absent d l (λ e h same. p .0 e h (sym out ∙ same))))
     (λ stays. ap suc (go stays (fewer l (p .1)) (List·Memᴰ·cases-cons m)))
   where
@@ -93,9 +101,9 @@ fewer {d} (x ∷ l) p m =
 pub others-at : (l : List Delivery) → Pairwise _≢_ l → (d : Delivery) (q : ℕ) → q < length l → others (getD l q d) l ≡ take q l ++ drop (suc q) l
 others-at [] p d q h = absurd (omega arith)
 others-at (x ∷ l) p d zero h =
-    first (λ rest. rest ≡ l) x x l (λ out. absent x l (p .0)) (λ stays. absurd (stays refl))
+    first x x l (λ rest. rest ≡ l) (λ out. absent x l (p .0)) (λ stays. absurd (stays refl))
 others-at (x ∷ l) p d (suc q) h =
     let e = getD l q d in
-    first (λ rest. rest ≡ x ∷ (take q l ++ drop (suc q) l)) e x l
+    first e x l (λ rest. rest ≡ x ∷ (take q l ++ drop (suc q) l))
     (λ out. absurd (p .0 e (in-at d l q (omega arith)) (sym out)))
     (λ stays. ap (λ (rest : List Delivery). x ∷ rest) (others-at l (p .1) d q (omega arith)))

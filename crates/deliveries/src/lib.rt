@@ -4,7 +4,7 @@ ghost use mathlib.Core.Path.{_≡_};
 ghost use mathlib.Core.List.{flatMap};
 ghost use Prim.Native.Nat.{_≤_, _<_};
 ghost use Rattle.text.specs.Put.{Puts};
-ghost use Rattle.deliveries.specs.ShortRuns.{fallingFactorial, deliveries, runAt, deliveryLine, runText, textOf};
+ghost use Rattle.deliveries.specs.ShortRuns.{fallingFactorial, deliveries, runAt, deliveryLine, runText, textOf, printed};
 ghost use Rattle.deliveries.specs.Writing.{deliveryOf, deliveriesIn, Takes, linesAt, IsPlace, WritesAll};
 
 // How much was written: all runs, or nothing into an output that is shorter.
@@ -101,6 +101,15 @@ fn put_runs(out: &mut [u8], at: usize, k: u32) -> usize
     next
 }
 
+fn put_all(out: &mut [u8]) -> usize
+    ensures { λ r. ⌜ Puts (now (out .entry)) 0 printed r (now (out .exit)) ⌝ }
+{
+    let one = put_runs(out, 0, 1);
+    let two = put_runs(out, one, 2);
+    let three = put_runs(out, two, 3);
+    put_runs(out, three, 4)
+}
+
 // All short runs in front of the output, and its old bytes behind them.
 pub fn write(out: &mut [u8]) -> Written
     ensures { λ r. ⌜ WritesAll (now (out .entry)) r (now (out .exit)) ⌝ }
@@ -108,8 +117,5 @@ pub fn write(out: &mut [u8]) -> Written
     if out.len() < LENGTH {
         return Written::TooShort;
     }
-    let one = put_runs(out, 0, 1);
-    let two = put_runs(out, one, 2);
-    let three = put_runs(out, two, 3);
-    Written::Length(put_runs(out, three, 4))
+    Written::Length(put_all(out))
 }
