@@ -1,6 +1,6 @@
 //! An independent model of the registers, written from the specification and not from the proved code: replicas, clients,
-//! viewing clients, messages, cards, digests and withdrawal orders, and what a script of calls prints. The comparisons in tests/
-//! and the bench rest on it.
+//! viewing clients, messages, cards, digests and withdrawal orders, what a script of calls prints, and all short runs. The
+//! comparisons in tests/ and the bench rest on it.
 pub mod asker;
 pub mod card;
 pub mod client;
@@ -11,4 +11,5 @@ pub mod random;
 pub mod replica;
 pub mod script;
 pub mod sha256;
+pub mod short_runs;
 pub mod viewer;
