@@ -10,6 +10,7 @@ mod player;
 
 use model::short_runs::{runs, text};
 use player::{printed, HEADER};
+use std::io::{self, Write};
 use std::process::ExitCode;
 
 /// Each line sends a message, and so message i is line i's.
@@ -26,6 +27,11 @@ fn main() -> ExitCode {
         eprint!("short-runs: the model answers this run otherwise:\n{run}");
         return ExitCode::FAILURE;
     }
-    print!("{}", texts.concat());
-    ExitCode::SUCCESS
+    match io::stdout().write_all(texts.concat().as_bytes()) {
+        Ok(()) => ExitCode::SUCCESS,
+        Err(error) => {
+            eprintln!("short-runs: {error}");
+            ExitCode::FAILURE
+        }
+    }
 }
