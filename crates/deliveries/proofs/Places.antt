@@ -6,11 +6,11 @@ use mathlib.Core.List.{List, [], _∷_, _++_, flatMap}
 use Prim.Native.Nat.{ℕ, zero, suc, _+_, _-_, _*_, _/_, _%_, _≤_, _<_}
 use native.Mathlib.Nat.{div-add-mod', mod-lt, div-lt-iff-lt-mul}
 use native.Mathlib.Omega.{arith}
-use lib.ListN.{length, getD, take, drop, length-map}
+use lib.ListN.{length, getD, length-map}
 use Rattle.deliveries.specs.ShortRuns.{Delivery, Pairwise, fallingFactorial, delivery, deliveries, others, runsOf, runAt, deliveryLine}
 use Rattle.deliveries.specs.Writing.{deliveryOf, deliveriesIn, digitAt, withoutDigit, linesAt, IsPlace}
 use Rattle.deliveries.proofs.Digits.{length-in, at-place, removed}
-use Rattle.deliveries.proofs.Factorials.{factorial-some, factorial-step}
+use Rattle.deliveries.proofs.Factorials.{factorial-some}
 use Rattle.deliveries.proofs.Lists.{at-flat, at-map, in-at}
 use Rattle.deliveries.proofs.Others.{others-at, others-pairwise}
 use Rattle.deliveries.proofs.Runs.{beginning, how-many-begin, all-different}

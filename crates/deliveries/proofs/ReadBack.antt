@@ -7,6 +7,7 @@ use borrow.Author.Tests.{ne-eqb}
 use lib.ListN.{getD}
 use Rattle.base.specs.Counting.{replica}
 use Rattle.base.specs.Range.{within}
+use Rattle.base.proofs.Apart.{apart}
 use Rattle.base.proofs.Range.{inside}
 use Rattle.text.specs.Line.{lines}
 use Rattle.wire.specs.Checks.{all}
@@ -21,6 +22,7 @@ use Rattle.play.specs.declared.grammar.Command.the-variants.{ToReplica}
 use Rattle.play.specs.declared.log.Log.{Log}
 use Rattle.deliveries.specs.ShortRuns.{Delivery, Possible, Legal, runs, opening, deliveryLine, runText, textOf, printed}
 use Rattle.deliveries.specs.ReadBack.{asks, commands}
+use Rattle.deliveries.proofs.Others.{same-delivery}
 use Rattle.deliveries.proofs.Runs.{sound}
 use Rattle.deliveries.proofs.Texts.{six}
 
@@ -91,6 +93,20 @@ runs-read k (run ∷ l) legal = reads-both (run-read k run (legal run (here refl
 
 pub read-back : (k : ℕ) (run : List Delivery) → Legal k run → map command (lines (runText run)) ≡ commands run
 read-back k run legal = reads-whole (run-read k run legal)
+
+same-deliveries : (a b : List Delivery) → map asks a ≡ map asks b → a ≡ b
+same-deliveries [] [] same = refl
+same-deliveries [] (e ∷ b) same = apart (cc)
+same-deliveries (d ∷ a) [] same = apart (cc)
+same-deliveries (d ∷ a) (e ∷ b) same =
+    let first : d ≡ e = same-delivery d e (cc) (cc) in
+    ap₂ (λ (x : Delivery) (run : List Delivery). x ∷ run) first (same-deliveries a b (cc))
+
+-- Different runs have different texts.
+pub one-text : (j k : ℕ) (a b : List Delivery) → Legal j a → Legal k b → runText a ≡ runText b → a ≡ b
+one-text j k a b la lb same =
+    let read : commands a ≡ commands b = sym (read-back j a la) ∙ (ap (λ (text : List ℕ). map command (lines text)) same ∙ read-back k b lb) in
+    same-deliveries a b (cc)
 
 -- The write begins with the card `00 00`, whoever begins it and whatever was sent before.
 pub card-read : (run : List Delivery) (client : Client) (log : Log) (store : List ℕ)

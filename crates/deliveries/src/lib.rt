@@ -1,7 +1,6 @@
 // All short runs (document 02, #109): every order of up to four deliveries behind one write and one read.
 use text::buffer::put;
 ghost use mathlib.Core.Path.{_≡_};
-ghost use mathlib.Core.List.{flatMap};
 ghost use Prim.Native.Nat.{_≤_, _<_};
 ghost use Rattle.text.specs.Put.{Puts};
 ghost use Rattle.deliveries.specs.ShortRuns.{fallingFactorial, deliveries, runAt, deliveryLine, runText, textOf, printed};
