@@ -1,11 +1,16 @@
 -- Lists that are made piece by piece: what is in them, how long they are, and what stands at a place. Assumes nothing.
-use mathlib.Core.Path.{_≡_, refl, subst, _∙_}
+use mathlib.Core.Path.{_≡_, refl, sym, subst, _∙_}
 use mathlib.Core.Logic.{_⊎_, inl, inr}
 use mathlib.Core.List.{List, [], _∷_, map, flatMap, List·Memᴰ as In, List·Memᴰ·head as here, List·Memᴰ·tail as there, List·Memᴰ·not-nil, List·Memᴰ·append-cases, Memᴰ·append-left, Memᴰ·append-right}
 use Prim.Native.Nat.{ℕ, zero, suc, _+_, _*_, _<_}
 use native.Mathlib.Omega.{arith}
 use lib.ListN.{length, getD, length-append, List·getD-append}
 use lib.Seq.{getD-append-add}
+
+-- What holds of the first one and of each behind it.
+pub first-and-rest : {A : Type 0} (P : A → Type 0) {x : A} {l : List A} → P x → ((a : A) → In a l → P a) → (a : A) → In a (x ∷ l) → P a
+first-and-rest P first rest a (here e) = subst P (sym e) first
+first-and-rest P first rest a (there m) = rest a m
 
 module _ {A B : Type 0} (f : A → List B) where
   pub in-flat : {b : B} {a : A} {l : List A} → In a l → In b (f a) → In b (flatMap f l)

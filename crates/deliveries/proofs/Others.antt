@@ -1,8 +1,8 @@
 -- All but one of some deliveries: who is there, in what order, how many, and where. Assumes nothing.
 use mathlib.Core.Path.{_≡_, refl, sym, ap, subst, _∙_}
 use mathlib.Core.Bool.{Bool, true, false}
-use mathlib.Core.Logic.{_⊎_, inl, inr, _≢_}
-use mathlib.Core.List.{List, [], _∷_, _++_, List·Memᴰ as In, List·Memᴰ·head as here, List·Memᴰ·tail as there, List·Memᴰ·not-nil, List·Memᴰ·cases-cons}
+use mathlib.Core.Logic.{_≢_}
+use mathlib.Core.List.{List, [], _∷_, _++_, List·Memᴰ as In, List·Memᴰ·head as here, List·Memᴰ·tail as there, List·Memᴰ·not-nil}
 use Prim.Native.Nat.{ℕ, zero, suc, _<_}
 use native.Mathlib.Omega.{arith}
 use borrow.Author.Tests.{eqb-true, eq-eqb}
@@ -10,7 +10,7 @@ use lib.ListN.{length, getD, take, drop}
 use Rattle.base.proofs.Apart.{apart}
 use Rattle.base.proofs.Booleans.{and-true-both}
 use Rattle.deliveries.specs.ShortRuns.{Delivery, Pairwise, alike, others}
-use Rattle.deliveries.proofs.Lists.{in-at}
+use Rattle.deliveries.proofs.Lists.{first-and-rest, in-at}
 
 pub same-delivery : (d e : Delivery) → d .message ≡ e .message → d .replica .0 ≡ e .replica .0 → d ≡ e
 same-delivery d e m r = λ i. record { message = m i; replica = record { 0 = r i } }
@@ -42,41 +42,23 @@ module _ (d e : Delivery) (l : List Delivery) where
       go true h = subst P (sym (left-out h)) (same (alike-same d e h))
       go false h = subst P (sym (stays h)) (other (λ k. let both : true ≡ false = sym (alike-itself d) ∙ (ap (alike d) k ∙ h) in apart (cc)))
 
-pub of-others : {d e : Delivery} (l : List Delivery) → In e (others d l) → In e l × (d ≢ e)
+pub of-others : {d : Delivery} (l : List Delivery) (e : Delivery) → In e (others d l) → In e l × (d ≢ e)
 unfolding others
-of-others [] m = absurd (List·Memᴰ·not-nil m)
-of-others {d} {e} (x ∷ l) m =
-    first d x l (λ rest. In e rest → In e (x ∷ l) × (d ≢ e))
-    (λ out h. let r = of-others l h in (there (r .0), r .1))
-    (λ stays h. go stays (of-others l) (List·Memᴰ·cases-cons h))
-    m
-  where
-    go : d ≢ x → (In e (others d l) → In e l × (d ≢ e)) → (e ≡ x) ⊎ In e (others d l) → In e (x ∷ l) × (d ≢ e)
-    go stays rest (inl same) = (here same, λ k. stays (k ∙ same))
-    go stays rest (inr h) = let r = rest h in (there (r .0), r .1)
+of-others [] e = λ m. absurd (List·Memᴰ·not-nil m)
+of-others {d} (x ∷ l) e =
+    let behind : (b : Delivery) → In b (others d l) → In b (x ∷ l) × (d ≢ b) = λ b m. let r = of-others l b m in (there (r .0), r .1) in
+    first d x l (λ rest. In e rest → In e (x ∷ l) × (d ≢ e)) (λ out. behind e) (λ stays. first-and-rest (λ b. In b (x ∷ l) × (d ≢ b)) (here refl, stays) behind e)
 
-pub into-others : {d e : Delivery} (l : List Delivery) → In e l → d ≢ e → In e (others d l)
-unfolding others
-into-others [] m other = absurd (List·Memᴰ·not-nil m)
-into-others {d} {e} (x ∷ l) m other =
-    first d x l (λ rest. In e rest)
-    (λ out. gone out (λ h. into-others l h other) (List·Memᴰ·cases-cons m))
-    (λ stays. kept (λ h. into-others l h other) (List·Memᴰ·cases-cons m))
-  where
-    gone : d ≡ x → (In e l → In e (others d l)) → (e ≡ x) ⊎ In e l → In e (others d l)
-    gone out rest (inl same) = absurd (other (out ∙ sym same))
-    gone out rest (inr h) = rest h
-
-    kept : (In e l → In e (others d l)) → (e ≡ x) ⊎ In e l → In e (x ∷ others d l)
-    kept rest (inl same) = here same
-    kept rest (inr h) = there (rest h)
+pub into-others : {d e : Delivery} {l : List Delivery} → In e l → d ≢ e → In e (others d l)
+into-others {d} {e} (here {x = x} {xs = l} same) other = first d x l (In e) (λ out. absurd (other (out ∙ sym same))) (λ stays. here same)
+into-others {d} {e} (there {x = x} {xs = l} m) other = let rest = into-others m other in first d x l (In e) (λ out. rest) (λ stays. there rest)
 
 pub others-pairwise : (R : Delivery → Delivery → Type 0) (d : Delivery) (l : List Delivery) → Pairwise R l → Pairwise R (others d l)
 unfolding others
 others-pairwise R d [] p = tt
 others-pairwise R d (x ∷ l) p =
     let rest = others-pairwise R d l (p .1) in
-    first d x l (Pairwise R) (λ out. rest) (λ stays. (λ e m. p .0 e (of-others l m .0), rest))
+    first d x l (Pairwise R) (λ out. rest) (λ stays. (λ e m. p .0 e (of-others l e m .0), rest))
 
 -- Who is not there is not left out.
 absent : (d : Delivery) (l : List Delivery) → ((e : Delivery) → In e l → d ≢ e) → others d l ≡ l
@@ -87,16 +69,12 @@ absent d (x ∷ l) none =
 
 -- ---- Of different deliveries
 
-pub fewer : {d : Delivery} (l : List Delivery) → Pairwise _≢_ l → In d l → suc (length (others d l)) ≡ length l
-fewer [] p m = absurd (List·Memᴰ·not-nil m)
-fewer {d} (x ∷ l) p m =
-    first d x l (λ rest. suc (length rest) ≡ suc (length l))
-    (λ out. ap (λ (rest : List Delivery). suc (length rest)) (absent d l (λ e h same. p .0 e h (sym out ∙ same))))
-    (λ stays. ap suc (go stays (fewer l (p .1)) (List·Memᴰ·cases-cons m)))
-  where
-    go : d ≢ x → (In d l → suc (length (others d l)) ≡ length l) → (d ≡ x) ⊎ In d l → suc (length (others d l)) ≡ length l
-    go stays rest (inl same) = absurd (stays same)
-    go stays rest (inr h) = rest h
+pub fewer : {d : Delivery} {l : List Delivery} → In d l → Pairwise _≢_ l → suc (length (others d l)) ≡ length l
+fewer {d} (here {x = x} {xs = l} same) p =
+    let all = absent d l (λ e m k. p .0 e m (sym same ∙ k)) in
+    first d x l (λ rest. suc (length rest) ≡ suc (length l)) (λ out. ap (λ (rest : List Delivery). suc (length rest)) all) (λ stays. absurd (stays same))
+fewer {d} (there {x = x} {xs = l} m) p =
+    first d x l (λ rest. suc (length rest) ≡ suc (length l)) (λ out. absurd (p .0 d m (sym out))) (λ stays. ap suc (fewer m (p .1)))
 
 pub others-at : (l : List Delivery) → Pairwise _≢_ l → (d : Delivery) (q : ℕ) → q < length l → others (getD l q d) l ≡ take q l ++ drop (suc q) l
 others-at [] p d q h = absurd (omega arith)

@@ -1,12 +1,12 @@
 -- Lists in which the one in front stands so to each one behind. Assumes nothing.
 use mathlib.Core.Path.{_≡_, refl, sym, ap₂, subst, _∙_}
 use mathlib.Core.Logic.{_⊎_, inl, inr, _≢_}
-use mathlib.Core.List.{List, [], _∷_, _++_, map, flatMap, List·Memᴰ as In, List·Memᴰ·head as here, List·Memᴰ·tail as there, List·Memᴰ·not-nil, List·Memᴰ·cases-cons, List·Memᴰ·append-cases, Memᴰ·of-map}
+use mathlib.Core.List.{List, [], _∷_, _++_, map, flatMap, List·Memᴰ as In, List·Memᴰ·head as here, List·Memᴰ·tail as there, List·Memᴰ·not-nil, List·Memᴰ·append-cases, Memᴰ·of-map}
 use Prim.Native.Nat.{ℕ, zero, suc, _<_}
 use native.Mathlib.Omega.{arith}
 use lib.ListN.{length, getD}
 use Rattle.deliveries.specs.ShortRuns.{Pairwise}
-use Rattle.deliveries.proofs.Lists.{of-flat, in-at}
+use Rattle.deliveries.proofs.Lists.{first-and-rest, of-flat, in-at}
 
 module _ {A : Type 0} (R : A → A → Type 0) where
   pub pairwise-then : (S : A → A → Type 0) → ((a b : A) → R a b → S a b) → (l : List A) → Pairwise R l → Pairwise S l
@@ -55,20 +55,23 @@ module _ {A : Type 0} (R : A → A → Type 0) where
     pub from-steps : (l : List A) → Steps l → Pairwise R l
     from-steps [] s = tt
     from-steps (a ∷ []) s = (λ b m. absurd (List·Memᴰ·not-nil m), tt)
-    from-steps (a ∷ b ∷ l) s = let later = from-steps (b ∷ l) (s .1) in (λ c m. go (later .0) c (List·Memᴰ·cases-cons m), later)
-      where
-        go : ((c : A) → In c l → R b c) → (c : A) → (c ≡ b) ⊎ In c l → R a c
-        go later c (inl same) = subst (R a) (sym same) (s .0)
-        go later c (inr m) = transitive a b c (s .0) (later c m)
+    from-steps (a ∷ b ∷ l) s =
+        let later = from-steps (b ∷ l) (s .1) in
+        (first-and-rest (R a) (s .0) (λ c m. transitive a b c (s .0) (later .0 c m)), later)
 
     module _ (irreflexive : (a : A) → R a a → ⊥) where
-      -- Who is in the list but does not stand first stands behind.
-      behind : {a b : A} {l : List A} → b ≢ a → (b ≡ a) ⊎ In b l → In b l
-      behind other (inl e) = absurd (other e)
-      behind other (inr m) = m
+      -- Who is there but not first is behind.
+      behind : {a b : A} {l : List A} → b ≢ a → In b (a ∷ l) → In b l
+      behind other (here e) = absurd (other e)
+      behind other (there m) = m
 
       later-other : {a b : A} {l : List A} → Pairwise R (a ∷ l) → In b l → b ≢ a
       later-other {a} {b} p m e = irreflexive a (subst (R a) e (p .0 b m))
+
+      same-first : {a b : A} {x y : List A} → Pairwise R (a ∷ x) → Pairwise R (b ∷ y) → In a (b ∷ y) → In b (a ∷ x) → a ≡ b
+      same-first px py (here e) n = e
+      same-first px py (there m) (here e) = sym e
+      same-first {a} {b} px py (there m) (there n) = absurd (irreflexive a (transitive a b a (px .0 b n) (py .0 a m)))
 
       -- Two lists in order that have the same members are one.
       pub same-members : (x y : List A) → Pairwise R x → Pairwise R y → ((a : A) → In a x → In a y) → ((a : A) → In a y → In a x) → x ≡ y
@@ -76,13 +79,8 @@ module _ {A : Type 0} (R : A → A → Type 0) where
       same-members [] (b ∷ y) px py to from = absurd (List·Memᴰ·not-nil (from b (here refl)))
       same-members (a ∷ x) [] px py to from = absurd (List·Memᴰ·not-nil (to a (here refl)))
       same-members (a ∷ x) (b ∷ y) px py to from =
-          let first = heads (List·Memᴰ·cases-cons (to a (here refl))) (List·Memᴰ·cases-cons (from b (here refl))) in
+          let first = same-first px py (to a (here refl)) (from b (here refl)) in
           ap₂ (λ (c : A) (l : List A). c ∷ l) first
           (same-members x y (px .1) (py .1)
-          (λ c m. behind (λ e. later-other px m (e ∙ sym first)) (List·Memᴰ·cases-cons (to c (there m))))
-          (λ c m. behind (λ e. later-other py m (e ∙ first)) (List·Memᴰ·cases-cons (from c (there m)))))
-        where
-          heads : (a ≡ b) ⊎ In a y → (b ≡ a) ⊎ In b x → a ≡ b
-          heads (inl e) other = e
-          heads (inr m) (inl e) = sym e
-          heads (inr m) (inr n) = absurd (irreflexive a (transitive a b a (px .0 b n) (py .0 a m)))
+          (λ c m. behind (λ e. later-other px m (e ∙ sym first)) (to c (there m)))
+          (λ c m. behind (λ e. later-other py m (e ∙ first)) (from c (there m))))

@@ -1,13 +1,13 @@
 -- Document 02, #109: each legal run occurs, a single time, no other does, and they rise; how many there are. Assumes nothing.
 use mathlib.Core.Path.{_≡_, refl, sym, ap, subst, _∙_}
 use mathlib.Core.Logic.{_⊎_, inl, inr, _≢_}
-use mathlib.Core.List.{List, [], _∷_, _++_, map, List·Memᴰ as In, List·Memᴰ·head as here, List·Memᴰ·tail as there, List·Memᴰ·not-nil, List·Memᴰ·cases-cons, List·Memᴰ·eq-of-singleton, Memᴰ·append-left, Memᴰ·append-right, Memᴰ·cast, Memᴰ·map, Memᴰ·of-map}
+use mathlib.Core.List.{List, [], _∷_, _++_, map, List·Memᴰ as In, List·Memᴰ·head as here, List·Memᴰ·tail as there, List·Memᴰ·not-nil, List·Memᴰ·eq-of-singleton, Memᴰ·append-left, Memᴰ·append-right, Memᴰ·map, Memᴰ·of-map}
 use Prim.Native.Nat.{ℕ, zero, suc, _-_, _≤_, _<_}
 use native.Mathlib.Omega.{arith}
 use lib.ListN.{length, length-map}
 use Rattle.base.proofs.Each.{EachOf, each-in}
 use Rattle.deliveries.specs.ShortRuns.{Delivery, Possible, Pairwise, Legal, Earlier, Before, fallingFactorial, delivery, toEach, deliveries, others, runsOf, runs, runAt}
-use Rattle.deliveries.proofs.Lists.{in-flat, of-flat, length-flat}
+use Rattle.deliveries.proofs.Lists.{first-and-rest, in-flat, of-flat, length-flat}
 use Rattle.deliveries.proofs.Others.{of-others, into-others, others-pairwise, fewer}
 use Rattle.deliveries.proofs.Order.{not-itself, earlier-still, compared, irreflexive, transitive}
 use Rattle.deliveries.proofs.Pairwise.{pairwise-then, pairwise-at, pairwise-map, pairwise-flat, from-steps, same-members}
@@ -26,7 +26,7 @@ complete-of (suc k) l [] long inside different = absurd (omega arith)
 complete-of (suc k) l (d ∷ run) long inside different =
     in-flat (beginning k l) (inside d (here refl))
     (Memᴰ·map (λ (later : List Delivery). d ∷ later)
-    (complete-of k (others d l) run (omega arith) (λ e m. into-others l (inside e (there m)) (different .0 e m)) (different .1)))
+    (complete-of k (others d l) run (omega arith) (λ e m. into-others (inside e (there m)) (different .0 e m)) (different .1)))
 
 -- What a run is of the deliveries that it is made of.
 record MadeOf (k : ℕ) (l run : List Delivery) : Type 0 where
@@ -47,13 +47,9 @@ sound-of (suc k) l run m =
     in-front d later first made =
         record {
           so-many = ap suc (made .so-many);
-          inside = λ e h. go e (List·Memᴰ·cases-cons h);
-          different = (λ e h. of-others l (made .inside e h) .1, made .different);
+          inside = first-and-rest (λ e. In e l) first (λ e h. of-others l e (made .inside e h) .0);
+          different = (λ e h. of-others l e (made .inside e h) .1, made .different);
         }
-      where
-        go : (e : Delivery) → (e ≡ d) ⊎ In e later → In e l
-        go e (inl same) = Memᴰ·cast same first
-        go e (inr h) = of-others l (made .inside e h) .0
 
 rising-of : (k : ℕ) (l : List Delivery) → Pairwise Earlier l → Pairwise Before (runsOf k l)
 unfolding runsOf
@@ -72,7 +68,7 @@ rising-of (suc k) l rises =
 begins : (k : ℕ) (l : List Delivery) → Pairwise _≢_ l → (d : Delivery) → In d l → length (runsOf k (others d l)) ≡ fallingFactorial (length (others d l)) k
     → length (beginning k l d) ≡ fallingFactorial (length l - 1) k
 begins k l different d m rest =
-    let less = fewer l different m in
+    let less = fewer m different in
     let left : length (others d l) ≡ length l - 1 = omega arith in
     length-map (runsOf k (others d l)) (λ (later : List Delivery). d ∷ later) ∙ (rest ∙ ap (λ (n : ℕ). fallingFactorial n k) left)
 

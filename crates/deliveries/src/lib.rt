@@ -15,7 +15,7 @@ pub enum Written {
 // 8 runs of 19 bytes, 56 of 25, 336 of 31 and 1,680 of 37.
 pub const LENGTH: usize = 74_128;
 
-// The numbers of all deliveries, 0 to 7: an octal digit each, the last digit first.
+// The numbers of all deliveries, 0 to 7, an octal digit each: the last digit is the first delivery's.
 fn all() -> u32
     ensures { λ r. ⌜ deliveriesIn 8 r ≡ deliveries ⌝ }
 {
@@ -28,6 +28,7 @@ struct Taken {
     others: u32,
 }
 
+// The delivery at a place among the unused ones.
 fn take(unused: u32, place: u32) -> Taken
     ensures { λ r. ⌜ Takes unused place r ⌝ }
 {
@@ -60,11 +61,18 @@ fn put_delivery(out: &mut [u8], at: usize, number: u8) -> usize
     requires { ⌜ number < 8 ⌝ }
     ensures { λ r. ⌜ Puts (now (out .entry)) at (deliveryLine (deliveryOf number)) r (now (out .exit)) ⌝ }
 {
-    let line = [b'h', b' ', 49 + number % 4, b' ', 49 + number / 4, 10];
+    let line = [
+        b'h',
+        b' ',
+        b'1' + number % 4,
+        b' ',
+        b'1' + number / 4,
+        b'\n',
+    ];
     put(out, at, &line)
 }
 
-// The run that has so many others before it, of k out of `count` unused deliveries: as many begin with each of these.
+// The lines of the run that has so many others before it, of k out of `count` unused deliveries: as many runs begin with each of these.
 fn put_deliveries(out: &mut [u8], at: usize, k: u32, count: u32, unused: u32, before: u32) -> usize
     requires { ⌜ IsPlace k count unused before ⌝ }
     ensures { λ r. ⌜ Puts (now (out .entry)) at (linesAt k count unused before) r (now (out .exit)) ⌝ }
@@ -78,6 +86,7 @@ fn put_deliveries(out: &mut [u8], at: usize, k: u32, count: u32, unused: u32, be
     put_deliveries(out, next, k - 1, count - 1, taken.others, before % size)
 }
 
+// The run that has so many others before it, of those with k deliveries.
 fn put_run(out: &mut [u8], at: usize, k: u32, before: u32) -> usize
     requires { ⌜ (k ≤ 8) × (before < fallingFactorial 8 k) ⌝ }
     ensures { λ r. ⌜ Puts (now (out .entry)) at (runText (runAt k before)) r (now (out .exit)) ⌝ }
@@ -86,6 +95,7 @@ fn put_run(out: &mut [u8], at: usize, k: u32, before: u32) -> usize
     put_deliveries(out, opened, k, 8, all(), before)
 }
 
+// All runs with k deliveries.
 fn put_runs(out: &mut [u8], at: usize, k: u32) -> usize
     requires { ⌜ k ≤ 8 ⌝ }
     ensures { λ r. ⌜ Puts (now (out .entry)) at (textOf k) r (now (out .exit)) ⌝ }
