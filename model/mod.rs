@@ -11,5 +11,6 @@ pub mod random;
 pub mod replica;
 pub mod script;
 pub mod sha256;
+#[allow(dead_code)] // tests/short_runs.rs alone asks for them
 pub mod short_runs;
 pub mod viewer;
