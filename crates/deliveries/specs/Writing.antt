@@ -53,11 +53,11 @@ pub record IsPlace (k count unused before : ℕ) : Type 0 where
 -- ---- The answer
 
 -- How much an answer says was written, if anything was.
-abbrev pub lengthOf : Written → Option ℕ
-lengthOf (Length n) = some n
-lengthOf TooShort = none
+abbrev pub writtenLength : Written → Option ℕ
+writtenLength (Length n) = some n
+writtenLength TooShort = none
 
 -- The text in front of an output and its old bytes behind; all as it was where there is no room.
 pub record WritesAll (old : List ℕ) (answer : Written) (new : List ℕ) : Type 0 where
-  pub answered : lengthOf answer ≡ cond (leb (length printed) (length old)) (some (length printed)) none
+  pub answered : writtenLength answer ≡ cond (leb (length printed) (length old)) (some (length printed)) none
   pub holds : new ≡ cond (leb (length printed) (length old)) (printed ++ drop (length printed) old) old

@@ -29,7 +29,7 @@ struct Taken {
 }
 
 // The delivery at a place among the unused ones.
-fn take(unused: u32, place: u32) -> Taken
+fn take_out(unused: u32, place: u32) -> Taken
     ensures { λ r. ⌜ Takes unused place r ⌝ }
 {
     if place == 0 {
@@ -38,7 +38,7 @@ fn take(unused: u32, place: u32) -> Taken
             others: unused / 8,
         };
     }
-    let taken = take(unused / 8, place - 1);
+    let taken = take_out(unused / 8, place - 1);
     Taken {
         number: taken.number,
         others: taken.others * 8 + unused % 8,
@@ -61,14 +61,9 @@ fn put_delivery(out: &mut [u8], at: usize, number: u8) -> usize
     requires { ⌜ number < 8 ⌝ }
     ensures { λ r. ⌜ Puts (now (out .entry)) at (deliveryLine (deliveryOf number)) r (now (out .exit)) ⌝ }
 {
-    let line = [
-        b'h',
-        b' ',
-        b'1' + number % 4,
-        b' ',
-        b'1' + number / 4,
-        b'\n',
-    ];
+    let replica = b'1' + number % 4;
+    let message = b'1' + number / 4;
+    let line = [b'h', b' ', replica, b' ', message, b'\n'];
     put(out, at, &line)
 }
 
@@ -81,7 +76,7 @@ fn put_deliveries(out: &mut [u8], at: usize, k: u32, count: u32, unused: u32, be
         return at;
     }
     let size = falling_factorial(count - 1, k - 1);
-    let taken = take(unused, before / size);
+    let taken = take_out(unused, before / size);
     let next = put_delivery(out, at, taken.number);
     put_deliveries(out, next, k - 1, count - 1, taken.others, before % size)
 }

@@ -14,7 +14,7 @@ use Rattle.deliveries.proofs.put_deliveries.Kinds as put-deliveries-kin
 use Rattle.deliveries.proofs.+put_deliveries.Lts-put_deliveries as lts
 use Rattle.deliveries.proofs.falling_factorial.Reads as factorial
 use Rattle.deliveries.proofs.put_delivery.Reads as put-delivery
-use Rattle.deliveries.proofs.take.Reads as take
+use Rattle.deliveries.proofs.take_out.Reads as take-out
 use Rattle.deliveries.proofs.+put_deliveries.{statement}
 use Rattle.deliveries.proofs.+put_deliveries.Tie.{close}
 
@@ -31,7 +31,7 @@ deliveries-below t = and 1 put-deliveries-kinds.ps (falls 1 put-deliveries-kinds
 -- What the calls promise.
 abbrev calls : ℕ → lts.Claims
 calls t =
-    (factorial.Asked, factorial.Learnt, take.Asked, take.Learnt, put-delivery.Asked, put-delivery.Learnt, deliveries-below t, put-deliveries.Post)
+    (factorial.Asked, factorial.Learnt, take-out.Asked, take-out.Learnt, put-delivery.Asked, put-delivery.Learnt, deliveries-below t, put-deliveries.Post)
 
 module _ (t : ℕ) where
   returns : lts.Need-returns (calls t) (deliveries-at t) put-deliveries.Post
@@ -51,17 +51,17 @@ module _ (t : ℕ) where
   deliveries-requires : lts.Need-put-deliveries-requires (calls t) (deliveries-at t) put-deliveries.Post
   deliveries-requires c κs =
       let taken = c .before .before .before .before .before in
-      (omega arith, rw (taken .take .ensures .others-are) (found (taken .before) .rest))
+      (omega arith, rw (taken .take-out .ensures .others-are) (found (taken .before) .rest))
 
   returns-2 : lts.Need-returns-2 (calls t) (deliveries-at t) put-deliveries.Post
   returns-2 c =
       let later = c .before .before in
       let first = later .before .before .before .before in
       let taken = first .before .before in
-      let line = same-bytes (ap (λ (p : ℕ). deliveryLine (deliveryOf p)) (taken .take .ensures .number-is)) (first .put-delivery .ensures) in
-      same-bytes (found (taken .before) .lines) (then line (rw (taken .take .ensures .others-are) at (later .put-deliveries .ensures)))
+      let line = same-bytes (ap (λ (p : ℕ). deliveryLine (deliveryOf p)) (taken .take-out .ensures .number-is)) (first .put-delivery .ensures) in
+      same-bytes (found (taken .before) .lines) (then line (rw (taken .take-out .ensures .others-are) at (later .put-deliveries .ensures)))
 
 pub +put-deliveries-spec : {M : Type 1} → statement M
 +put-deliveries-spec =
     close μ-put-deliveries
-    (λ t. lts.spec (calls t) (deliveries-at t) put-deliveries.Post (returns t) (λ c. omega (arith, c .before .before .pre .1 .enough)) (λ c. omega arith) (factorial-requires t) (λ c. found t c .some) (λ c κs. search needs) (λ c κs. c .before .take .ensures .one-digit) (λ c. omega arith) (λ c. omega (arith, c .before .before .before .before .before .before .before .before .before .pre .1 .enough)) (rem-before t) (deliveries-requires t) (λ c. search needs) (returns-2 t))
+    (λ t. lts.spec (calls t) (deliveries-at t) put-deliveries.Post (returns t) (λ c. omega (arith, c .before .before .pre .1 .enough)) (λ c. omega arith) (factorial-requires t) (λ c. found t c .some) (λ c κs. search needs) (λ c κs. c .before .take-out .ensures .one-digit) (λ c. omega arith) (λ c. omega (arith, c .before .before .before .before .before .before .before .before .before .pre .1 .enough)) (rem-before t) (deliveries-requires t) (λ c. search needs) (returns-2 t))
