@@ -67,7 +67,7 @@ fn put_delivery(out: &mut [u8], at: usize, number: u8) -> usize
     put(out, at, &line)
 }
 
-// The lines of the run that has so many others before it, of k out of `count` unused deliveries: as many runs begin with each of these.
+// The lines of a run of k out of `count` unused deliveries, by how many runs come before it. As many runs begin with each delivery.
 fn put_deliveries(out: &mut [u8], at: usize, k: u32, count: u32, unused: u32, before: u32) -> usize
     requires { ⌜ IsPlace k count unused before ⌝ }
     ensures { λ r. ⌜ Puts (now (out .entry)) at (linesAt k count unused before) r (now (out .exit)) ⌝ }
@@ -81,7 +81,7 @@ fn put_deliveries(out: &mut [u8], at: usize, k: u32, count: u32, unused: u32, be
     put_deliveries(out, next, k - 1, count - 1, taken.others, before % size)
 }
 
-// The run that has so many others before it, of those with k deliveries.
+// A run with k deliveries, by how many come before it.
 fn put_run(out: &mut [u8], at: usize, k: u32, before: u32) -> usize
     requires { ⌜ (k ≤ 8) × (before < fallingFactorial 8 k) ⌝ }
     ensures { λ r. ⌜ Puts (now (out .entry)) at (runText (runAt k before)) r (now (out .exit)) ⌝ }
