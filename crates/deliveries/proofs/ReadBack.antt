@@ -1,7 +1,7 @@
 -- The player's own grammar reads a run's text, and all that is printed, as what was meant. Assumes nothing.
 use mathlib.Core.Path.{_≡_, refl, sym, ap, ap₂, _∙_}
 use mathlib.Core.List.{List, [], _∷_, _++_, map, flatMap, append-assoc, append-nil, List·Memᴰ as In, List·Memᴰ·head as here, List·Memᴰ·tail as there}
-use Prim.Native.Nat.{ℕ, _+_, _-_, _≤_}
+use Prim.Native.Nat.{ℕ, _+_, _-_}
 use native.Mathlib.Omega.{arith}
 use borrow.Author.Tests.{ne-eqb}
 use lib.ListN.{getD}
@@ -26,24 +26,6 @@ use Rattle.deliveries.proofs.Others.{same-delivery}
 use Rattle.deliveries.proofs.Runs.{sound}
 use Rattle.deliveries.proofs.Texts.{six}
 
-module _ (h m : ℕ) (h-from : 1 ≤ h) (h-to : h ≤ 4) (m-from : 1 ≤ m) (m-to : m ≤ 2) where
-  abbrev bytes : List ℕ
-  bytes = 104 ∷ 32 ∷ (48 + h) ∷ 32 ∷ (48 + m) ∷ []
-
-  a-line : (behind : List ℕ) → lines (bytes ++ 10 ∷ behind) ≡ bytes ∷ lines behind
-  unfolding lines
-  a-line behind = rw (ne-eqb (48 + h) 10 (λ e. omega arith), ne-eqb (48 + m) 10 (λ e. omega arith))
-
-  its-number : messageNumber ((48 + m) ∷ []) ≡ m
-  unfolding messageNumber numeral
-  its-number = rw (ne-eqb (48 + m) 48 (λ e. omega arith), inside 48 57 (48 + m) (omega arith) (omega arith)) (omega arith)
-
-  its-command : command bytes ≡ ToReplica (replica h) m
-  unfolding command asked
-  its-command =
-      let party : 48 + h - 48 ≡ h = omega arith in
-      rw (inside 49 52 (48 + h) (omega arith) (omega arith)) (ap₂ (λ (r n : ℕ). ToReplica (replica r) n) party its-number)
-
 -- Whatever stands behind it, a text is read as these commands.
 record Reads (text : List ℕ) (these : List Command) : Type 0 where
   before : (behind : List ℕ) → map command (lines (text ++ behind)) ≡ these ++ map command (lines behind)
@@ -61,15 +43,30 @@ reads-whole : {text : List ℕ} {these : List Command} → Reads text these → 
 unfolding lines
 reads-whole {text} {these} reads = ap (λ (l : List ℕ). map command (lines l)) (sym (append-nil text)) ∙ (reads .before [] ∙ append-nil these)
 
-line-read : (d : Delivery) → Possible d → Reads (deliveryLine d) (asks d ∷ [])
-line-read d p =
-    let h = d .replica .0 in
-    let m = d .message in
-    record {
-      before = λ behind. ap (λ (l : List ℕ). map command (lines (l ++ behind))) (six d p)
-          ∙ (ap (map command) (a-line h m (p .replica-from) (p .replica-to) (p .message-from) (p .message-to) behind)
-          ∙ ap (λ (c : Command). c ∷ map command (lines behind)) (its-command h m (p .replica-from) (p .replica-to) (p .message-from) (p .message-to)));
-    }
+module _ (d : Delivery) (p : Possible d) where
+  abbrev bytes : List ℕ
+  bytes = 104 ∷ 32 ∷ (48 + d .replica .0) ∷ 32 ∷ (48 + d .message) ∷ []
+
+  a-line : (behind : List ℕ) → lines (bytes ++ 10 ∷ behind) ≡ bytes ∷ lines behind
+  unfolding lines
+  a-line behind = rw (ne-eqb (48 + d .replica .0) 10 (λ e. omega arith), ne-eqb (48 + d .message) 10 (λ e. omega arith))
+
+  its-number : messageNumber ((48 + d .message) ∷ []) ≡ d .message
+  unfolding messageNumber numeral
+  its-number = rw (ne-eqb (48 + d .message) 48 (λ e. omega arith), inside 48 57 (48 + d .message) (omega arith) (omega arith)) (omega arith)
+
+  its-command : command bytes ≡ asks d
+  unfolding command asked
+  its-command =
+      let party : 48 + d .replica .0 - 48 ≡ d .replica .0 = omega arith in
+      rw (inside 49 52 (48 + d .replica .0) (omega arith) (omega arith)) (ap₂ (λ (r n : ℕ). ToReplica (replica r) n) party its-number)
+
+  line-read : Reads (deliveryLine d) (asks d ∷ [])
+  line-read =
+      record {
+        before = λ behind. ap (λ (l : List ℕ). map command (lines (l ++ behind))) (six d p)
+            ∙ (ap (map command) (a-line behind) ∙ ap (λ (c : Command). c ∷ map command (lines behind)) its-command);
+      }
 
 deliveries-read : (run : List Delivery) → ((d : Delivery) → In d run → Possible d) → Reads (flatMap deliveryLine run) (map asks run)
 unfolding flatMap
