@@ -12,10 +12,12 @@ pub mod ClientReplies
 pub mod Examples
 pub mod Fit
 pub mod FreshRecords
+pub mod GoodBank
 pub mod Handing
 pub mod LastWritten
 pub mod MessageBytes
 pub mod OperationMessages
 pub mod OrderFacts
+pub mod Refusals
 pub mod RegisterFacts
 pub mod Towards

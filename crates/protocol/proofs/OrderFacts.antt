@@ -3,6 +3,7 @@ use mathlib.Core.Path.{_≡_, refl, sym, ap, subst, _∙_}
 use mathlib.Core.Bool.{true, false, _&&_, _||_}
 use mathlib.Core.List.{List, [], _∷_}
 use Prim.Native.Nat.{ℕ}
+use borrow.Author.Tests.{eqb-true}
 use lib.Dec.{eqb}
 use lib.ListN.{length, take}
 use Rattle.base.specs.ClientSet.{has, with}
@@ -30,8 +31,9 @@ use Rattle.protocol.proofs.BankFacts.{refused-alike}
 
 -- ---- What is taken
 
--- An order that is good under a key names a client, and is signed.
+-- An order that is good under a key has 1,299 bytes, names a client, and is signed.
 pub record GoodOrder (key order : List ℕ) : Type 0 where
+  pub long : length order ≡ 1299
   pub in-range : isClient (clientNamed order) ≡ true
   pub signed : isSigned key order ≡ true
 
@@ -42,9 +44,9 @@ ordered-good key order client e =
     let mapped = same (take 2 order) (0x00 ∷ 0x03 ∷ []) in
     let shaped = guard-accepted 21 (eqb (length order) 1299 && (mapped && isClient (clientNamed order))) (guard 22 (isSigned key order) named) client e in
     let signed = guard-accepted 22 (isSigned key order) named client (shaped .1) in
-    let rest = and-true-both (eqb (length order) 1299) (mapped && isClient (clientNamed order)) (shaped .0) .1 in
+    let tests = and-true-both (eqb (length order) 1299) (mapped && isClient (clientNamed order)) (shaped .0) in
     let is = signed .1 in
-    (record { in-range = and-true-both mapped (isClient (clientNamed order)) rest .1; signed = signed .0 }, cc)
+    (record { long = eqb-true (length order) 1299 (tests .0); in-range = and-true-both mapped (isClient (clientNamed order)) (tests .1) .1; signed = signed .0 }, cc)
 
 module _ (bank : Bank) (order : List ℕ) where
   -- A bank that takes an order withdraws the client that it names.

@@ -3,6 +3,7 @@
 use mathlib.Core.Bool.{cond}
 use mathlib.Core.List.{List, []}
 use Prim.Native.Nat.{ℕ}
+use Rattle.base.specs.BigEndian.{Bytes}
 use Rattle.base.specs.Outcome.{Outcome, accepted, refused}
 use Rattle.base.specs.Party.{isWriter}
 use Rattle.base.specs.declared.party.ClientId.{ClientId}
@@ -28,6 +29,11 @@ use Rattle.protocol.specs.declared.replica.ReplicaAnswer.the-variants.{S
 pub data ReplicaEvent : Type 0 where
   request-handed : List ℕ → List ℕ → ReplicaEvent
   order-handed : List ℕ → ReplicaEvent
+
+-- What is handed over is bytes, which are below 256; verdicts may be any numbers.
+abbrev pub HandsBytes : ReplicaEvent → Type 0
+HandsBytes (request-handed bytes verdicts) = Bytes bytes
+HandsBytes (order-handed order) = Bytes order
 
 -- At a client it is a reply; "a desk begins a write of some card or begins a read". Document 02, #103: "A desk names its set at each beginning".
 pub data ClientEvent : Type 0 where

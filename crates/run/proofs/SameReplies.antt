@@ -27,6 +27,7 @@ use Rattle.protocol.specs.declared.replica.Bank.{Bank}
 use Rattle.protocol.specs.declared.replica.Register.{Register}
 use Rattle.protocol.specs.declared.replica.RegisterReplica.{RegisterReplica}
 use Rattle.protocol.proofs.BankFacts.{part-elsewhere, part-there, let-through, refused-alike}
+use Rattle.protocol.proofs.GoodBank.{bank-parts}
 use Rattle.wire.proofs.ReadingByKind.{decode-tested}
 use Rattle.wire.specs.Acceptance.{admitted}
 use Rattle.wire.specs.Decode.{registerIn, framed}
@@ -36,7 +37,7 @@ use Rattle.wire.proofs.FieldPlaces.{framed-passes}
 use Rattle.wire.proofs.OneForm.{found-register}
 use Rattle.run.specs.Replies.{passes, isFor, handedIn, answersIn, handedFor, answersFor, SameReplies}
 use Rattle.run.specs.Run.{Event, at-replica, at-client, Run, afterAtReplica, event, bankAt, answerTo}
-use Rattle.run.proofs.Turns.{same-replica, bank-parts}
+use Rattle.run.proofs.Turns.{same-replica}
 
 -- The bank after an event.
 abbrev after : ReplicaEvent → Bank → Bank

@@ -4,12 +4,11 @@ use mathlib.Core.Logic.{⊎-elim}
 use mathlib.Core.Bool.{Bool, true, false, cond}
 use mathlib.Core.List.{List}
 use mathlib.Core.Option.{Option, none, some}
-use Prim.Native.Nat.{ℕ, zero, suc, _+_, _≤_, _<_}
+use Prim.Native.Nat.{ℕ, zero, suc, _+_, _≤_}
 use native.Mathlib.Omega.{arith}
 use native.Mathlib.Nat.{eq-or-lt-of-le, le-of-suc-le-suc}
 use borrow.Author.Tests.{eqb-true, eqb-false, eq-eqb}
 use lib.Dec.{eqb}
-use lib.ListN.{length, length-replicate, length-set}
 use Rattle.base.specs.BigEndian.{Bytes}
 use Rattle.base.specs.ClientSet.{nobody}
 use Rattle.base.specs.Outcome.{Outcome, accepted, refused}
@@ -24,31 +23,31 @@ use Rattle.base.proofs.Registers.{place-below, place-injective}
 use Rattle.wire.specs.Decode.{registerIn}
 use Rattle.wire.specs.Layout.{signature}
 use Rattle.wire.specs.Message.{Message, READ-STAMP, READ}
-use Rattle.wire.proofs.AdmittedMessage.{Admitted, admitted-then}
+use Rattle.wire.proofs.AdmittedMessage.{Admitted}
 use Rattle.wire.proofs.OneForm.{found-register, decoded-fits, decoded-signature}
 use Rattle.wire.proofs.Tests7To11.{Passed}
 use Rattle.wire.specs.declared.message.Party.the-variants.{Replica as AtReplica, Client as AtClient}
 use Rattle.base.specs.ReplicaSet.{empty}
 use Rattle.base.specs.Timestamp.{start}
 use Rattle.protocol.specs.Parts.{startCard}
-use Rattle.protocol.specs.Bank.{bankPart, withBankPart, freshBank, placeIn, bankStep}
+use Rattle.protocol.specs.Bank.{bankPart, withBankPart, placeIn, bankStep}
 use Rattle.protocol.specs.Client.{Answer, send, waits, Turn, freshClient, beginWrite, beginRead, onReply, clientStep}
 use Rattle.protocol.specs.Handing.{making, takeProof, ProofTaken}
 use Rattle.protocol.specs.Order.{withWithdrawn, takeOrder}
-use Rattle.protocol.specs.RegisterReplica.{Reply, freshRegister, onRequest, registerStep}
+use Rattle.protocol.specs.RegisterReplica.{Reply, onRequest}
 use Rattle.protocol.specs.Viewer.{onViewerReply, viewerStep}
 use Rattle.protocol.specs.declared.client.Client.{Client}
 use Rattle.protocol.specs.declared.client.Phase.{Phase}
 use Rattle.protocol.specs.declared.client.Phase.the-variants.{Stamps, Cards}
 use Rattle.protocol.specs.declared.replica.Bank.{Bank}
-use Rattle.protocol.specs.declared.replica.Register.{Register}
 use Rattle.protocol.specs.declared.replica.RegisterReplica.{RegisterReplica}
-use Rattle.protocol.proofs.BankFacts.{fresh-part, part-elsewhere, part-there}
-use Rattle.protocol.proofs.Fit.{SlotsFit, HeldFits, RegisterReplicaFits, ClientFits}
-use Rattle.protocol.proofs.FreshRecords.{fresh-replica-fits, fresh-client-fits}
+use Rattle.protocol.proofs.BankFacts.{part-elsewhere, part-there}
+use Rattle.protocol.proofs.Fit.{ClientFits}
+use Rattle.protocol.proofs.FreshRecords.{fresh-client-fits}
+use Rattle.protocol.proofs.GoodBank.{GoodBank, fresh-good, MessageTaken, message-taken, order-keeps, message-keeps}
 use Rattle.protocol.proofs.Handing.{making-accepted, takes-proof, taken-fits}
 use Rattle.protocol.proofs.OrderFacts.{took as order-took}
-use Rattle.protocol.proofs.RegisterFacts.{RegisterFacts, register-facts}
+use Rattle.protocol.proofs.RegisterFacts.{RegisterFacts}
 use Rattle.protocol.proofs.ClientCases.{Begun, PhaseFits, ClientFacts}
 use Rattle.protocol.proofs.ClientFacts.{begins-write as begins-write-facts, begins-read as begins-read-facts, client-facts, viewer-facts}
 use Rattle.protocol.proofs.Towards.{client-takes, viewer-takes}
@@ -72,12 +71,6 @@ onwards {P} keeps u (suc t) l h = ⊎-elim (λ z. subst P z h) (λ z. keeps t (o
 abbrev pub clientTakes : ClientId → Client → List ℕ → Message → Outcome Turn
 clientTakes id before own message = cond (isWriter id) (onReply before own message) (onViewerReply before message)
 
--- What a bank takes: 2 to 11 let it through, and its register steps.
-pub bank-parts : (before : Bank) (bytes verdicts : List ℕ) (reply : Reply) → bankStep before bytes verdicts ≡ accepted reply
-    → (register : RegisterId) × (message : Message) × Admitted AtReplica (before .f) (before .withdrawn) bytes verdicts register message × (onRequest (bankPart (placeIn bytes) before) message ≡ accepted reply)
-unfolding bankStep registerStep
-bank-parts before bytes verdicts reply e = admitted-then AtReplica (before .f) (before .withdrawn) bytes verdicts (λ sent. onRequest (bankPart (placeIn bytes) before) (sent .1)) reply e
-
 module _ (R : Run) where
   -- The party answers nothing at event t: it is not its event, or it is refused.
   abbrev pub Silent : Sender → ℕ → Type 0
@@ -99,23 +92,19 @@ module _ (R : Run) where
   pub correct-replica-range : (id : ReplicaId) → R .correct-replica id ≡ true → (1 ≤ id .0) × (id .0 ≤ replicaCount (R .f))
   correct-replica-range id c = bounds 1 (replicaCount (R .f)) (id .0) (R .replicas-in-range id c)
 
-  pub record GoodBank (id : ReplicaId) (before : Bank) : Type 0 where
+  pub record GoodBankOf (id : ReplicaId) (before : Bank) : Type 0 where
     pub f-is : before .f ≡ R .f
     pub id-is : before .id ≡ id
     pub key-is : before .key ≡ R .office-key id
-    pub long : length (before .registers) ≡ 16
-    pub fit : (at : ℕ) → at < 16 → RegisterReplicaFits (bankPart at before)
+    pub good : GoodBank before
 
   -- A replica takes a message: its register steps, and is put back.
   record BankStep (id : ReplicaId) (t : ℕ) : Type 0 where
     bytes : List ℕ
     verdicts : List ℕ
-    message : Message
     reply : Reply
     event-is : event R t ≡ some (to-replica id bytes verdicts)
-    admitted : Admitted AtReplica (bankAt R id t .f) (bankAt R id t .withdrawn) bytes verdicts (registerIn bytes) message
-    stepped : onRequest (bankPart (placeIn bytes) (bankAt R id t)) message ≡ accepted reply
-    facts : RegisterFacts (bankPart (placeIn bytes) (bankAt R id t)) verdicts message reply
+    taken : MessageTaken (bankAt R id t) bytes verdicts reply
     next-is : bankAt R id (suc t) ≡ withBankPart (placeIn bytes) (reply .next) (bankAt R id t)
     answer-is : answerAt R t ≡ accepted (send (reply .message))
 
@@ -137,25 +126,19 @@ module _ (R : Run) where
   refused-stays : (id : ReplicaId) (t : ℕ) (e : ReplicaEvent) (n : ℕ) → event R t ≡ some (at-replica id e) → onReplicaEvent e (bankAt R id t) ≡ refused n → WholeTurn id t
   refused-stays id t e n q is = let both = bank-outcome id t e (refused n) q is in stays id t (both .0) (λ at answer a. apart (cc (both .1)))
 
-  bank-here : (id : ReplicaId) (t : ℕ) (bytes verdicts : List ℕ) → GoodBank id (bankAt R id t) → event R t ≡ some (to-replica id bytes verdicts) → WholeTurn id t
+  bank-here : (id : ReplicaId) (t : ℕ) (bytes verdicts : List ℕ) → GoodBankOf id (bankAt R id t) → event R t ≡ some (to-replica id bytes verdicts) → WholeTurn id t
   bank-here id t bytes verdicts good e = go (bankStep (bankAt R id t) bytes verdicts) refl
     where
       go : (out : Outcome Reply) → bankStep (bankAt R id t) bytes verdicts ≡ out → WholeTurn id t
       go (refused n) q = refused-stays id t (request-handed bytes verdicts) n e (ap (bankTurn (placeIn bytes) (bankAt R id t)) q)
       go (accepted reply) q =
           let both = bank-outcome id t (request-handed bytes verdicts) _ e (ap (bankTurn (placeIn bytes) (bankAt R id t)) q) in
-          let (register, message, passed, taken) = bank-parts (bankAt R id t) bytes verdicts reply q in
-          let is = found-register AtReplica bytes register message (passed .decodes) in
-          let message-fits = decoded-fits AtReplica bytes register message (passed .decodes) (R .have-bytes t (to-replica id bytes verdicts) e) in
           one-steps (record {
             bytes = bytes;
             verdicts = verdicts;
-            message = message;
             reply = reply;
             event-is = e;
-            admitted = subst (λ (x : RegisterId). Admitted AtReplica (bankAt R id t .f) (bankAt R id t .withdrawn) bytes verdicts x message) (sym is) passed;
-            stepped = taken;
-            facts = register-facts (bankPart (placeIn bytes) (bankAt R id t)) verdicts message reply (good .fit (placeIn bytes) (place-below (registerIn bytes))) message-fits (passed .may-send) (passed .passed) taken;
+            taken = message-taken (bankAt R id t) (good .good) bytes verdicts reply (R .have-bytes t (to-replica id bytes verdicts) e) q;
             next-is = both .0;
             answer-is = both .1;
           })
@@ -169,11 +152,11 @@ module _ (R : Run) where
           let both = bank-outcome id t (order-handed order) _ e (ap orderTurn q) in
           all-rest _ (both .0 ∙ order-took (bankAt R id t) order next q .next-is) (λ at message a. apart (cc (both .1)))
 
-  own-bank-turn : (id : ReplicaId) (t : ℕ) → GoodBank id (bankAt R id t) → (e : ReplicaEvent) → event R t ≡ some (at-replica id e) → WholeTurn id t
+  own-bank-turn : (id : ReplicaId) (t : ℕ) → GoodBankOf id (bankAt R id t) → (e : ReplicaEvent) → event R t ≡ some (at-replica id e) → WholeTurn id t
   own-bank-turn id t good (request-handed bytes verdicts) q = bank-here id t bytes verdicts good q
   own-bank-turn id t good (order-handed order) q = bank-ordered id t order q
 
-  bank-turn-of : (id : ReplicaId) (t : ℕ) → GoodBank id (bankAt R id t) → (e : Option Event) → event R t ≡ e → WholeTurn id t
+  bank-turn-of : (id : ReplicaId) (t : ℕ) → GoodBankOf id (bankAt R id t) → (e : Option Event) → event R t ≡ e → WholeTurn id t
   unfolding bankAt
   bank-turn-of id t good none q = stays id t (rw q) (no-event t (replica id) q)
   bank-turn-of id t good (some (at-client at e)) q = stays id t (rw q) (elsewhere t (replica id) (at-client at e) q (λ p. apart (cc)))
@@ -187,54 +170,19 @@ module _ (R : Run) where
           stays id t (rw (q, k)) (elsewhere t (replica id) (at-replica at e) q
           (λ p. let same : at ≡ id = cc in eqb-false (at .0) (id .0) k (ap (λ (i : ReplicaId). i .0) same)))
 
-  -- The part that stepped fits, and so do the others.
-  step-fit : (id : ReplicaId) (t : ℕ) → GoodBank id (bankAt R id t) → (s : BankStep id t) → (at : ℕ) → at < 16 → RegisterReplicaFits (bankPart at (withBankPart (placeIn (s .bytes)) (s .reply .next) (bankAt R id t)))
-  step-fit id t good s at inside = go (eqb at (placeIn (s .bytes))) refl
-    where
-      stepped : RegisterReplicaFits (bankPart (placeIn (s .bytes)) (withBankPart (placeIn (s .bytes)) (s .reply .next) (bankAt R id t)))
-      stepped =
-          let fits = s .facts .fits in
-          let is = part-there (bankAt R id t) (placeIn (s .bytes)) (s .reply .next) (omega (arith, good .long, place-below (registerIn (s .bytes)))) in
-          record {
-            id-fits = subst (λ (i : ReplicaId). i .0 < 256) (s .facts .same-id) (fits .id-fits);
-            slots-fit = subst (λ (register : Register). SlotsFit (register .slots)) (sym is) (fits .slots-fit);
-            held-fits = subst (λ (register : Register). HeldFits (register .held)) (sym is) (fits .held-fits);
-          }
-
-      go : (b : Bool) → eqb at (placeIn (s .bytes)) ≡ b → RegisterReplicaFits (bankPart at (withBankPart (placeIn (s .bytes)) (s .reply .next) (bankAt R id t)))
-      go true e = subst (λ (p : ℕ). RegisterReplicaFits (bankPart p (withBankPart (placeIn (s .bytes)) (s .reply .next) (bankAt R id t)))) (sym (eqb-true at (placeIn (s .bytes)) e)) stepped
-      go false e = subst RegisterReplicaFits (sym (part-elsewhere (bankAt R id t) (placeIn (s .bytes)) (s .reply .next) at (eqb-false at (placeIn (s .bytes)) e))) (good .fit at inside)
-
-  fresh-bank : (id : ReplicaId) → R .correct-replica id ≡ true → GoodBank id (freshBank (R .f) id (R .office-key id))
-  fresh-bank id c =
-      let range = correct-replica-range id c in
-      let low : id .0 < 256 = omega arith in
-      record { f-is = refl; id-is = refl; key-is = refl; long = length-replicate 16 freshRegister; fit = λ at inside. subst RegisterReplicaFits (sym (fresh-part (R .f) id (R .office-key id) at inside)) (fresh-replica-fits (R .f) id low) }
-
-  pub good-bank : (id : ReplicaId) → R .correct-replica id ≡ true → (t : ℕ) → GoodBank id (bankAt R id t)
+  pub good-bank : (id : ReplicaId) → R .correct-replica id ≡ true → (t : ℕ) → GoodBankOf id (bankAt R id t)
   unfolding bankAt
-  good-bank id c zero = fresh-bank id c
+  good-bank id c zero =
+      let range = correct-replica-range id c in
+      record { f-is = refl; id-is = refl; key-is = refl; good = fresh-good (R .f) id (R .office-key id) (omega arith) }
   good-bank id c (suc t) = go (good-bank id c t) (bank-turn-of id t (good-bank id c t) (event R t) refl)
     where
-      go : GoodBank id (bankAt R id t) → WholeTurn id t → GoodBank id (bankAt R id (suc t))
-      go good (all-rest withdrawn same silent) =
-          subst (GoodBank id) (sym same)
-          (record {
-            f-is = good .f-is;
-            id-is = good .id-is;
-            key-is = good .key-is;
-            long = good .long;
-            fit = λ at inside. let fits = good .fit at inside in record { id-fits = fits .id-fits; slots-fit = fits .slots-fit; held-fits = fits .held-fits };
-          })
-      go good (one-steps s) =
-          subst (GoodBank id) (sym (s .next-is))
-          (record {
-            f-is = good .f-is;
-            id-is = good .id-is;
-            key-is = good .key-is;
-            long = length-set (bankAt R id t .registers) (placeIn (s .bytes)) (s .reply .next .register) ∙ good .long;
-            fit = step-fit id t good s;
-          })
+      go : GoodBankOf id (bankAt R id t) → WholeTurn id t → GoodBankOf id (bankAt R id (suc t))
+      go own (all-rest withdrawn same silent) =
+          subst (GoodBankOf id) (sym same) (record { f-is = own .f-is; id-is = own .id-is; key-is = own .key-is; good = order-keeps (bankAt R id t) (own .good) withdrawn })
+      go own (one-steps s) =
+          subst (GoodBankOf id) (sym (s .next-is))
+          (record { f-is = own .f-is; id-is = own .id-is; key-is = own .key-is; good = message-keeps (bankAt R id t) (own .good) (s .bytes) (s .verdicts) (s .reply) (s .taken) })
 
   -- ---- One register of a replica: it steps with the messages at its place, and rests with all others
 
@@ -261,21 +209,21 @@ module _ (R : Run) where
       steps : RegisterStep id t → RegisterTurn id t
 
     -- The step of a message at this register's place, and of one at another.
-    here : (id : ReplicaId) (t : ℕ) → GoodBank id (bankAt R id t) → (s : BankStep id t) → placeIn (s .bytes) ≡ registerPlace x → RegisterStep id t
+    here : (id : ReplicaId) (t : ℕ) → GoodBankOf id (bankAt R id t) → (s : BankStep id t) → placeIn (s .bytes) ≡ registerPlace x → RegisterStep id t
     here id t good s e = record {
       bytes = s .bytes;
       verdicts = s .verdicts;
-      message = s .message;
+      message = s .taken .message;
       reply = s .reply;
       event-is = s .event-is;
-      admitted = s .admitted;
+      admitted = s .taken .admitted;
       placed = e;
-      stepped = subst (λ (at : ℕ). onRequest (bankPart at (bankAt R id t)) (s .message) ≡ accepted (s .reply)) e (s .stepped);
-      facts = subst (λ (at : ℕ). RegisterFacts (bankPart at (bankAt R id t)) (s .verdicts) (s .message) (s .reply)) e (s .facts);
+      stepped = subst (λ (at : ℕ). onRequest (bankPart at (bankAt R id t)) (s .taken .message) ≡ accepted (s .reply)) e (s .taken .stepped);
+      facts = subst (λ (at : ℕ). RegisterFacts (bankPart at (bankAt R id t)) (s .verdicts) (s .taken .message) (s .reply)) e (s .taken .facts);
       next-is =
           ap (λ (bank : Bank). bankPart (registerPlace x) bank .register) (s .next-is)
           ∙ subst (λ (at : ℕ). bankPart (registerPlace x) (withBankPart at (s .reply .next) (bankAt R id t)) .register ≡ s .reply .next .register) (sym e)
-          (part-there (bankAt R id t) (registerPlace x) (s .reply .next) (omega (arith, good .long, place-below x)));
+          (part-there (bankAt R id t) (registerPlace x) (s .reply .next) (omega (arith, good .good .long, place-below x)));
       answer-is = s .answer-is;
     }
 

@@ -23,6 +23,7 @@ use Rattle.protocol.specs.Events.{ReplicaEvent, request-handed, order-handed, b
 use Rattle.protocol.specs.Order.{isSigned, takeOrder}
 use Rattle.protocol.specs.RegisterReplica.{Reply}
 use Rattle.protocol.specs.declared.replica.Bank.{Bank}
+use Rattle.protocol.proofs.GoodBank.{bank-parts}
 use Rattle.protocol.proofs.OrderFacts.{took, order-withdraws, withdrawn-refused}
 use Rattle.wire.specs.Acceptance.{client, senderOf, maySend, inItsRange, isServed}
 use Rattle.wire.specs.Decode.{forRegister}
@@ -32,7 +33,7 @@ use Rattle.run.specs.Premises.{Accepted}
 use Rattle.run.specs.Run.{Event, at-replica, at-client, order-to, afterAtReplica, Run, event, bankAt, answerAt}
 use Rattle.run.specs.Withdrawals.{withdrawnAt, OrderTaken, FromClient, PassesEight, Withdrawals}
 use Rattle.run.proofs.Slots.{order}
-use Rattle.run.proofs.Turns.{same-replica, same-client, bank-parts, bank-outcome, good-bank}
+use Rattle.run.proofs.Turns.{same-replica, same-client, bank-outcome, good-bank}
 
 -- A member is a client.
 member-client : (set : ClientSet) (c : ClientId) → has set c ≡ true → isClient c ≡ true

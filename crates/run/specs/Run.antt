@@ -15,7 +15,7 @@ use Rattle.base.specs.declared.party.ReplicaId.{ReplicaId}
 use Rattle.lms.specs.Lms.{isPublicKey}
 use Rattle.protocol.specs.Bank.{bankPart, freshBank}
 use Rattle.protocol.specs.Client.{Answer, send, freshClient}
-use Rattle.protocol.specs.Events.{ReplicaEvent, ClientEvent, request-handed, order-handed, write-begun, read-begun, reply-handed, made, proof-handed, replicaEventRegister, clientEventRegister, onReplicaEvent, nextBank, bankAnswer, onClientEvent, nextClient, clientAnswer}
+use Rattle.protocol.specs.Events.{ReplicaEvent, ClientEvent, HandsBytes, request-handed, order-handed, write-begun, read-begun, reply-handed, made, proof-handed, replicaEventRegister, clientEventRegister, onReplicaEvent, nextBank, bankAnswer, onClientEvent, nextClient, clientAnswer}
 use Rattle.protocol.specs.RegisterReplica.{heldTimestamp}
 use Rattle.protocol.specs.declared.client.Client.{Client}
 use Rattle.protocol.specs.declared.replica.Bank.{Bank}
@@ -60,10 +60,9 @@ abbrev pub registerOf : Event → RegisterId
 registerOf (at-replica id e) = replicaEventRegister e
 registerOf (at-client id e) = clientEventRegister e
 
--- Bytes are below 256, and a first nonce has eight of them.
+-- What is handed over is bytes, and a first nonce has eight of them.
 abbrev pub HasBytes : Event → Type 0
-HasBytes (at-replica id (request-handed bytes verdicts)) = Bytes bytes
-HasBytes (at-replica id (order-handed order)) = Bytes order
+HasBytes (at-replica id e) = HandsBytes e
 HasBytes (at-client id (write-begun x card)) = Bytes card
 HasBytes (at-client id (read-begun x)) = Unit {0}
 HasBytes (at-client id (reply-handed bytes verdicts)) = Bytes bytes

@@ -1,0 +1,14 @@
+pub mod Calls
+pub mod Common
+pub mod Entries
+pub mod Exactly
+pub mod Examples
+pub mod Heads
+pub mod Judged
+pub mod Moving
+pub mod Own
+pub mod Parts
+pub mod Places
+pub mod Readers
+pub mod Windows
+pub mod Written
