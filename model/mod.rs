@@ -1,10 +1,12 @@
 //! An independent model of the registers, written from the specification and not from the proved code: replicas, clients,
-//! viewing clients, messages, cards, digests and withdrawal orders, what a script of calls prints, and all short runs. The
-//! comparisons in tests/ and the bench rest on it.
+//! viewing clients, messages, cards, digests and withdrawal orders, what a script of calls prints, all short runs, and the judge of
+//! a replica's log. The comparisons in tests/ and the bench rest on it.
 pub mod asker;
 pub mod card;
 pub mod client;
 pub mod lms;
+#[allow(dead_code)] // tests/logs.rs alone asks for it
+pub mod log;
 pub mod message;
 pub mod order;
 pub mod random;

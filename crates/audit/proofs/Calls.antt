@@ -6,6 +6,7 @@ use Prim.Native.Nat.{ℕ, _≤_}
 use borrow.Author.Tests.{le-leb}
 use lib.ListN.{length, drop}
 use lib.Seq.{take-append-seam}
+use Rattle.base.specs.Bytes.{between}
 use Rattle.base.specs.Outcome.{Outcome, accepted, refused, _>>=_}
 use Rattle.base.specs.declared.party.RegisterId.{RegisterId}
 use Rattle.base.specs.declared.taking.Taking.{Taking}
@@ -25,7 +26,9 @@ use Rattle.bank.specs.Stepping.{BankSteps}
 use Rattle.audit.specs.Calling.{answeredBy, asReply, Calls}
 use Rattle.audit.specs.Judging.{Checks}
 use Rattle.audit.specs.Log.{LogEntry, sentFor, expected, bankAfter, agrees}
+use Rattle.audit.specs.Reading.{callBy}
 use Rattle.audit.specs.declared.calling.Called.{Called}
+use Rattle.audit.specs.declared.reading.CallPlaces.{CallPlaces}
 
 -- The bytes that a turn sends.
 abbrev sentBy : RegisterId → Outcome BankTurn → Outcome (List ℕ)
@@ -89,6 +92,16 @@ calls-order bank order answer left reply out steps is =
     kept : (o : Outcome Bank) → orderAnswers bank o .bank ≡ nextBank bank (orderTurn o)
     kept (accepted next) = refl
     kept (refused number) = refl
+
+-- ---- At its places
+
+module _ (bank : Bank) (bytes : List ℕ) (places : CallPlaces) (r : Called) (first : List ℕ) (is : first ≡ between bytes (places .start) (places .end)) where
+  pub order-at : places .«is_order» ≡ true → Calls bank (order-handed first) r → Calls bank (callBy bytes places) r
+  order-at kind calls = rw (kind, ← is) calls
+
+  pub message-at : places .«is_order» ≡ false → (verdicts : List ℕ) → verdicts ≡ between bytes (places .verdicts) (places .«verdicts_end») → Calls bank (request-handed first verdicts) r
+      → Calls bank (callBy bytes places) r
+  message-at kind verdicts are calls = rw (kind, ← is, ← are) calls
 
 -- ---- An entry
 

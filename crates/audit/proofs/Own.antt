@@ -127,8 +127,8 @@ module _ (signature : List ℕ) (bank : Bank) (good : GoodBank bank) where
           let sent = unsigned (registerIn bytes) (reply .message) in
           let (long, short) = sent-size bank bytes verdicts reply small taken in
           let is-logged : isLogged (request-handed bytes verdicts) ≡ true =
-          both-true (lt-ltb (length bytes) 65_536 (omega (arith, short-bytes bank bytes verdicts reply small taken)))
-          (lt-ltb (length verdicts) 65_536 (omega (arith, short-verdicts bank bytes verdicts reply small taken))) in
+          both-true (lt-ltb (length bytes) _ (omega (arith, short-bytes bank bytes verdicts reply small taken)))
+          (lt-ltb (length verdicts) _ (omega (arith, short-verdicts bank bytes verdicts reply small taken))) in
           record {
             fits = rw (e, signed-is signature sent long) (omega (arith, signed-size signature sent long, short));
             agree = rw (e, signed-is signature sent long) (signed-agrees signature sent long);
