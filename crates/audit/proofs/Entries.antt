@@ -10,7 +10,7 @@ use Rattle.base.specs.BigEndian.{Bytes}
 use Rattle.base.proofs.Apart.{apart}
 use Rattle.protocol.specs.Events.{request-handed, order-handed}
 use Rattle.audit.specs.Log.{replied, refusal, LogEntry, Front, requestIn, orderIn, callOpenedBy, receivedIn, answerOpenedBy, recordedIn, entryIn}
-use Rattle.audit.proofs.Readers.{Settled, found, never, Reader, byte-reader, item-reader, none-reader, prefixed-reader, then-reader, cond-reader, wider-reader}
+use Rattle.audit.proofs.Readers.{Sure, found, never, Reader, byte-reader, item-reader, none-reader, prefixed-reader, then-reader, cond-reader, wider-reader}
 
 request-reader : Reader requestIn 4 131_074
 unfolding requestIn
@@ -40,9 +40,9 @@ entry-reader = then-reader received-reader (λ call. then-reader recorded-reader
 
 -- What is as long as the longest entry and starts with none starts with none whatever comes behind.
 pub none-in-long : (bytes : List ℕ) → Bytes bytes → 196_613 ≤ length bytes → entryIn bytes ≡ none → (more : List ℕ) → entryIn (bytes ++ more) ≡ none
-none-in-long bytes small long e more = go (entry-reader .settles bytes small long)
+none-in-long bytes small long e more = go (entry-reader .sure bytes small long)
   where
-    go : Settled entryIn 196_613 bytes → entryIn (bytes ++ more) ≡ none
+    go : Sure entryIn 196_613 bytes → entryIn (bytes ++ more) ≡ none
     go (found r there rest few) = apart (cc)
     go (never gone) = gone more
 

@@ -15,10 +15,11 @@ use Rattle.base.proofs.Apart.{apart}
 use Rattle.base.proofs.BigEndian.{bytes-drop}
 use Rattle.protocol.specs.Bank.{freshBank}
 use Rattle.protocol.specs.declared.replica.Bank.{Bank}
+use Rattle.protocol.proofs.SetUp.{set-up-cases}
 use Rattle.audit.specs.Log.{LogEntry, Front, front, expected, bankAfter, agrees, entryIn, right, wrong, judgedFrom, headLength, faultBoundIn, replicaIdIn, keyIn, setUpIn, freshIn, headOutcome, judgedIfSetUp, judged}
 use Rattle.audit.specs.Replaying.{entryBytes, allBytes, headBytes, Agrees, AllAgree, bankAfterAll, Replays, Stops}
 use Rattle.audit.proofs.Entries.{entry-shorter}
-use Rattle.audit.proofs.Heads.{short-refused, long-set-up, head-split, judged-head, setup-cases}
+use Rattle.audit.proofs.Heads.{short-refused, long-set-up, head-split, judged-head}
 use Rattle.audit.proofs.Judged.{judged-end, judged-none, judged-some}
 use Rattle.audit.proofs.Written.{entry-written, bytes-behind, entry-reads}
 
@@ -196,7 +197,7 @@ module _ (log : List ℕ) where
           })
 
   cases : Bytes log → Cases log
-  cases small = go (leb headLength (length log)) refl (setup-cases (faultBoundIn log) (replicaIdIn log) (keyIn log))
+  cases small = go (leb headLength (length log)) refl (set-up-cases (faultBoundIn log) (replicaIdIn log) (keyIn log))
     where
       go : (b : Bool) → leb headLength (length log) ≡ b → (setUpIn log ≡ accepted tt) ⊎ (setUpIn log ≡ refused 16) → Cases log
       go false t set-up = head-fails (inl (leb-false headLength (length log) t))

@@ -1,7 +1,5 @@
 -- A log's head. Assumes nothing.
-use mathlib.Core.Path.{_≡_, refl, sym, ap, _∙_}
-use mathlib.Core.Logic.{_⊎_, inl, inr}
-use mathlib.Core.Bool.{Bool, true, false}
+use mathlib.Core.Path.{_≡_, sym, ap, _∙_}
 use mathlib.Core.List.{List, [], _∷_, _++_}
 use Prim.Native.Nat.{ℕ, _≤_, _<_}
 use native.Mathlib.Omega.{arith}
@@ -9,15 +7,14 @@ use borrow.Author.Tests.{le-leb, lt-leb}
 use lib.Dec.{leb}
 use lib.ListN.{length, drop, length-append, take-append-drop}
 use lib.Seq.{take-at, drop-at}
-use Rattle.base.specs.Outcome.{Outcome, accepted, refused, guard, _>>=_}
-use Rattle.base.specs.Party.{isFaultBound, isReplica, setupOutcome}
+use Rattle.base.specs.Outcome.{Outcome, accepted, refused, guard}
+use Rattle.base.specs.Party.{setupOutcome}
 use Rattle.base.specs.Range.{within}
 use Rattle.base.specs.declared.party.ReplicaId.{ReplicaId}
 use Rattle.base.proofs.Outcome.{guard-passes, guard-refuses}
-use Rattle.lms.specs.Lms.{isPublicKey}
 use Rattle.protocol.specs.Bank.{freshBank, bankIfSetUp, bankSetup, madeBank}
+use Rattle.protocol.proofs.SetUp.{set-up-key}
 use Rattle.bank.specs.declared.NewBank.{NewBank}
-use Rattle.bank.proofs.Ordering.{setup-key}
 use Rattle.audit.specs.Judging.{SetsUp}
 use Rattle.audit.specs.Log.{judgedFrom, headLength, faultBoundIn, replicaIdIn, keyIn, setUpIn, freshIn, headOutcome, judgedIfSetUp, judged}
 use Rattle.audit.specs.Replaying.{headBytes}
@@ -52,24 +49,10 @@ pub judged-head : (f : ℕ) (id : ReplicaId) (key bytes : List ℕ) → bankSetu
 unfolding judged
 judged-head f id key bytes good =
     let log = headBytes f id key ++ bytes in
-    let size = setup-key f id key (sym good) in
+    let size = set-up-key f id key good in
     let same-key : keyIn log ≡ key = take-at key bytes 56 size in
     let behind : drop headLength log ≡ bytes = drop-at key bytes 56 size in
     let set-up : headOutcome log ≡ accepted tt = long-set-up log (omega (arith, size, length-append key bytes)) ∙ ap (bankSetup f id) same-key ∙ good in
     ap (λ (o : Outcome (Unit {0})). judgedIfSetUp o (judgedFrom (freshIn log) 1 (drop headLength log))) set-up
     ∙ ap (λ (k : List ℕ). judgedFrom (freshBank f id k) 1 (drop headLength log)) same-key
     ∙ ap (judgedFrom (freshBank f id key) 1) behind
-
--- Setting up is refused with 16 alone.
-abbrev allPass : Bool → Bool → Bool → Outcome (Unit {0})
-allPass a b c = guard 16 a (guard 16 b (accepted (tt {0}))) >>= λ ready. guard 16 c (accepted tt)
-
-pub setup-cases : (f : ℕ) (id : ReplicaId) (key : List ℕ) → (bankSetup f id key ≡ accepted tt) ⊎ (bankSetup f id key ≡ refused 16)
-unfolding guard
-setup-cases f id key = go (isFaultBound f) (isReplica f id) (isPublicKey key)
-  where
-    go : (a b c : Bool) → (allPass a b c ≡ accepted (tt {0})) ⊎ (allPass a b c ≡ refused 16)
-    go true true true = inl refl
-    go true true false = inr refl
-    go true false c = inr refl
-    go false b c = inr refl

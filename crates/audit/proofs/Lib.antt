@@ -1,4 +1,5 @@
-pub mod Calls
+pub mod Answered
+pub mod CallsMade
 pub mod Common
 pub mod Entries
 pub mod Exactly

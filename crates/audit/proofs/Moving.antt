@@ -8,7 +8,7 @@ use lib.ListN.{length, getD, take, drop, set, length-set, length-take, length-dr
 use lib.Seq.{take-suc, take-suc-set, drop-set-lt, getD-drop, drop-drop}
 use Rattle.base.specs.Bytes.{between}
 use Rattle.base.proofs.Cuts.{take-cut}
-use Rattle.audit.specs.Window.{Moves}
+use Rattle.audit.specs.Window.{MovesFront}
 
 -- So many bytes from a place on stand in front, and the others are as they were.
 pub record Moved (old : List ℕ) (from : ℕ) (i : ℕ) (now : List ℕ) : Type 0 where
@@ -40,7 +40,7 @@ module _ (old : List ℕ) (from i : ℕ) (now : List ℕ) (m : Moved old from i 
         behind = drop-set-lt (i + 1) now i v (omega arith) ∙ sym (drop-drop 1 i now) ∙ ap (drop 1) (m .behind) ∙ drop-drop 1 i old;
       }
 
-pub all-moved : (old : List ℕ) (from to count : ℕ) (now : List ℕ) → count ≡ length (between old from to) → Moved old from count now → Moves old from to count now
+pub all-moved : (old : List ℕ) (from to count : ℕ) (now : List ℕ) → count ≡ length (between old from to) → Moved old from count now → MovesFront old from to count now
 all-moved old from to count now is m =
     let all : take count (drop from old) ≡ between old from to = ap (λ (n : ℕ). take n (drop from old)) (is ∙ length-take (to - from) (drop from old)) ∙ take-cut (drop from old) (to - from) in
     record {

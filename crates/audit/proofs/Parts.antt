@@ -30,7 +30,7 @@ pub record Leads (bank : Bank) (part : List ℕ) (last : Bool) (left : Bank) (ag
   pub few : agreed ≤ used
 
 -- What a turn of the loop knows: an entry was read and checked.
-pub record Turn (bank : Bank) (part : List ℕ) (last : Bool) (left : Bank) (agreed used : ℕ) (p : EntryPlaces) (checked : Checked) : Type 0 where
+pub record EntryTurn (bank : Bank) (part : List ℕ) (last : Bool) (left : Bank) (agreed used : ℕ) (p : EntryPlaces) (checked : Checked) : Type 0 where
   pub rises : 1 ≤ p .end
   pub stays : used + p .end ≤ length part
   pub few : agreed ≤ used
@@ -130,5 +130,5 @@ module _ (bank : Bank) (part : List ℕ) (last : Bool) where
             awaits = λ e. apart (cc);
           }
 
-      pub turn : Turn bank part last left agreed used p checked
+      pub turn : EntryTurn bank part last left agreed used p checked
       turn = record { rises = rises; stays = stays; few = so-far .few; further = further; differs = differs }

@@ -25,9 +25,9 @@ abbrev pub followed : {A : Type 0} → List ℕ → Front A → Front A
 followed more r = front (r .item) (r .rest ++ more)
 
 -- It is there, with at most so many bytes; or it never will be, whatever comes behind.
-pub data Settled {A : Type 0} (read : List ℕ → Option (Front A)) (most : ℕ) (bytes : List ℕ) : Type 0 where
-  found : (r : Front A) → read bytes ≡ some r → Bytes (r .rest) → length bytes ≤ length (r .rest) + most → Settled read most bytes
-  never : ((more : List ℕ) → read (bytes ++ more) ≡ none) → Settled read most bytes
+pub data Sure {A : Type 0} (read : List ℕ → Option (Front A)) (most : ℕ) (bytes : List ℕ) : Type 0 where
+  found : (r : Front A) → read bytes ≡ some r → Bytes (r .rest) → length bytes ≤ length (r .rest) + most → Sure read most bytes
+  never : ((more : List ℕ) → read (bytes ++ more) ≡ none) → Sure read most bytes
 
 pub record Reader {A : Type 0} (read : List ℕ → Option (Front A)) (least most : ℕ) : Type 0 where
   -- What is there stays there, whatever comes behind,
@@ -35,12 +35,12 @@ pub record Reader {A : Type 0} (read : List ℕ → Option (Front A)) (least mos
   -- it has at least so many bytes,
   pub uses : (bytes : List ℕ) (r : Front A) → read bytes ≡ some r → length (r .rest) + least ≤ length bytes
   -- and where there are so many it is known whether it is there.
-  pub settles : (bytes : List ℕ) → Bytes bytes → most ≤ length bytes → Settled read most bytes
+  pub sure : (bytes : List ℕ) → Bytes bytes → most ≤ length bytes → Sure read most bytes
 
 -- ---- A byte, and what needs none
 
 pub byte-reader : Reader byteIn 1 1
-byte-reader = record { stays = stays; uses = uses; settles = settles }
+byte-reader = record { stays = stays; uses = uses; sure = sure }
   where
     stays : (bytes more : List ℕ) (r : Front ℕ) → byteIn bytes ≡ some r → byteIn (bytes ++ more) ≡ some (followed more r)
     stays [] more r e = apart (cc)
@@ -50,20 +50,20 @@ byte-reader = record { stays = stays; uses = uses; settles = settles }
     uses [] r e = apart (cc)
     uses (b ∷ bytes) r e = let same : front b bytes ≡ r = cc in rw (← same) (omega arith)
 
-    settles : (bytes : List ℕ) → Bytes bytes → 1 ≤ length bytes → Settled byteIn 1 bytes
-    settles [] small long = absurd (omega arith)
-    settles (b ∷ bytes) small long = found (front b bytes) refl (λ i. small (suc i)) (omega arith)
+    sure : (bytes : List ℕ) → Bytes bytes → 1 ≤ length bytes → Sure byteIn 1 bytes
+    sure [] small long = absurd (omega arith)
+    sure (b ∷ bytes) small long = found (front b bytes) refl (λ i. small (suc i)) (omega arith)
 
 pub item-reader : {A : Type 0} (item : A) → Reader (λ bytes. some (front item bytes)) 0 0
 item-reader {A} item =
     record {
       stays = λ bytes more r e. let same : front item bytes ≡ r = cc in ap (λ (r : Front A). some (followed more r)) same;
       uses = λ bytes r e. let same : front item bytes ≡ r = cc in rw (← same) (omega arith);
-      settles = λ bytes small long. found (front item bytes) refl small (omega arith);
+      sure = λ bytes small long. found (front item bytes) refl small (omega arith);
     }
 
 pub none-reader : {A : Type 0} (least most : ℕ) → Reader {A = A} (λ bytes. none) least most
-none-reader {A} least most = record { stays = λ bytes more r e. apart (cc); uses = λ bytes r e. apart (cc); settles = λ bytes small long. never (λ more. refl) }
+none-reader {A} least most = record { stays = λ bytes more r e. apart (cc); uses = λ bytes r e. apart (cc); sure = λ bytes small long. never (λ more. refl) }
 
 -- ---- Length-prefixed bytes
 
@@ -101,7 +101,7 @@ module _ (bytes : List ℕ) where
       go (suc (suc (suc n))) h k = absurd (omega (arith, h))
 
 pub prefixed-reader : Reader prefixedIn 2 65_537
-prefixed-reader = record { stays = stays; uses = uses; settles = settles }
+prefixed-reader = record { stays = stays; uses = uses; sure = sure }
   where
     stays : (bytes more : List ℕ) (r : Front (List ℕ)) → prefixedIn bytes ≡ some r → prefixedIn (bytes ++ more) ≡ some (followed more r)
     stays bytes more r e =
@@ -122,8 +122,8 @@ prefixed-reader = record { stays = stays; uses = uses; settles = settles }
         let size = length-drop (2 + lengthIn bytes) bytes in
         rw (← there .1) (omega (arith, there .0))
 
-    settles : (bytes : List ℕ) → Bytes bytes → 65_537 ≤ length bytes → Settled prefixedIn 65_537 bytes
-    settles bytes small long =
+    sure : (bytes : List ℕ) → Bytes bytes → 65_537 ≤ length bytes → Sure prefixedIn 65_537 bytes
+    sure bytes small long =
         let below = length-below bytes small in
         let size = length-drop (2 + lengthIn bytes) bytes in
         found (prefixedFront bytes) (prefixed-whole bytes (omega arith)) (bytes-drop (2 + lengthIn bytes) bytes small) (omega arith)
@@ -138,14 +138,14 @@ module _ {A B : Type 0} {first : List ℕ → Option (Front A)} {second : A → 
   behind-first : (bytes more : List ℕ) (r : Front A) → first bytes ≡ some r → both (bytes ++ more) ≡ second (r .item) (r .rest ++ more)
   behind-first bytes more r e = rw (one .stays bytes more r e)
 
-  settles-both : (bytes : List ℕ) → Bytes bytes → b + d ≤ length bytes → Settled both (b + d) bytes
-  settles-both bytes small long = go (one .settles bytes small (omega arith))
+  both-sure : (bytes : List ℕ) → Bytes bytes → b + d ≤ length bytes → Sure both (b + d) bytes
+  both-sure bytes small long = go (one .sure bytes small (omega arith))
     where
-      go : Settled first b bytes → Settled both (b + d) bytes
+      go : Sure first b bytes → Sure both (b + d) bytes
       go (never gone) = never (λ more. rw (gone more))
-      go (found r e small-rest few) = next (two (r .item) .settles (r .rest) small-rest (omega arith))
+      go (found r e small-rest few) = next (two (r .item) .sure (r .rest) small-rest (omega arith))
         where
-          next : Settled (second (r .item)) d (r .rest) → Settled both (b + d) bytes
+          next : Sure (second (r .item)) d (r .rest) → Sure both (b + d) bytes
           next (never gone) = never (λ more. behind-first bytes more r e ∙ gone more)
           next (found s k small-end fewer) = found s (rw e k) small-end (omega arith)
 
@@ -154,7 +154,7 @@ module _ {A B : Type 0} {first : List ℕ → Option (Front A)} {second : A → 
       record {
         stays = λ bytes more r e. let s = then-some (first bytes) _ r e in behind-first bytes more (s .0) (s .1) ∙ two (s .0 .item) .stays (s .0 .rest) more r (s .2);
         uses = λ bytes r e. let s = then-some (first bytes) _ r e in omega (arith, one .uses bytes (s .0) (s .1), two (s .0 .item) .uses (s .0 .rest) r (s .2));
-        settles = settles-both;
+        sure = both-sure;
       }
 
 -- one of two,
@@ -170,9 +170,9 @@ module _ {A : Type 0} {read : List ℕ → Option (Front A)} {least most : ℕ} 
       record {
         stays = reader .stays;
         uses = λ bytes r e. omega (arith, reader .uses bytes r e);
-        settles = λ bytes small long. go bytes (reader .settles bytes small (omega arith));
+        sure = λ bytes small long. go bytes (reader .sure bytes small (omega arith));
       }
     where
-      go : (bytes : List ℕ) → Settled read most bytes → Settled read high bytes
+      go : (bytes : List ℕ) → Sure read most bytes → Sure read high bytes
       go bytes (found r e small few) = found r e small (omega arith)
       go bytes (never gone) = never gone

@@ -60,18 +60,18 @@ bytes-behind [] ys small i = small i
 bytes-behind (x ∷ xs) ys small i = bytes-behind xs ys (λ j. small (suc j)) i
 
 -- What was read is written as these bytes, which come in front of the rest.
-record Written {A : Type 0} (write : A → List ℕ) (Fits : A → Type 0) (bytes : List ℕ) (r : Front A) : Type 0 where
+record WrittenAs {A : Type 0} (write : A → List ℕ) (Fits : A → Type 0) (bytes : List ℕ) (r : Front A) : Type 0 where
   is : bytes ≡ write (r .item) ++ r .rest
   fits : Fits (r .item)
   small-rest : Bytes (r .rest)
 
-written : {A : Type 0} (write : A → List ℕ) (Fits : A → Type 0) (bytes : List ℕ) (r : Front A) → Bytes bytes → bytes ≡ write (r .item) ++ r .rest → Fits (r .item) → Written write Fits bytes r
+written : {A : Type 0} (write : A → List ℕ) (Fits : A → Type 0) (bytes : List ℕ) (r : Front A) → Bytes bytes → bytes ≡ write (r .item) ++ r .rest → Fits (r .item) → WrittenAs write Fits bytes r
 written write Fits bytes r small is fits = record { is = is; fits = fits; small-rest = bytes-behind (write (r .item)) (r .rest) (rw is at small) }
 
 abbrev Short : List ℕ → Type 0
 Short bytes = length bytes < 65_536
 
-prefixed-again : (bytes : List ℕ) → Bytes bytes → 2 + lengthIn bytes ≤ length bytes → Written prefixedBytes Short bytes (prefixedFront bytes)
+prefixed-again : (bytes : List ℕ) → Bytes bytes → 2 + lengthIn bytes ≤ length bytes → WrittenAs prefixedBytes Short bytes (prefixedFront bytes)
 prefixed-again bytes small h =
     let n = lengthIn bytes in
     let size = length-drop 2 bytes in
@@ -83,14 +83,14 @@ prefixed-again bytes small h =
     (sym (ap (λ (k : ℕ). (toBytes 2 k ++ take n (drop 2 bytes)) ++ drop (2 + n) bytes) width ∙ ap (λ (l : List ℕ). (l ++ take n (drop 2 bytes)) ++ drop (2 + n) bytes) front-bytes ∙ whole))
     (omega (arith, width, length-below bytes small))
 
-prefixed-reads : (bytes : List ℕ) → Bytes bytes → (r : Front (List ℕ)) → prefixedIn bytes ≡ some r → Written prefixedBytes Short bytes r
+prefixed-reads : (bytes : List ℕ) → Bytes bytes → (r : Front (List ℕ)) → prefixedIn bytes ≡ some r → WrittenAs prefixedBytes Short bytes r
 prefixed-reads bytes small r e = let there = prefixed-found bytes r e in rw (← there .1) (prefixed-again bytes small (there .0))
 
 module _ (b : ℕ) (bytes : List ℕ) (small : Bytes (b ∷ bytes)) where
   small-behind : Bytes bytes
   small-behind i = small (suc i)
 
-  request-reads : (r : Front ReplicaEvent) → requestIn bytes ≡ some r → b ≡ 0 → Written receivedBytes ReceivedFits (b ∷ bytes) r
+  request-reads : (r : Front ReplicaEvent) → requestIn bytes ≡ some r → b ≡ 0 → WrittenAs receivedBytes ReceivedFits (b ∷ bytes) r
   unfolding requestIn
   request-reads r e z =
       let m = then-some (prefixedIn bytes) _ r e in
@@ -104,7 +104,7 @@ module _ (b : ℕ) (bytes : List ℕ) (small : Bytes (b ∷ bytes)) where
       ∙ sym (append-assoc (prefixedBytes (m .0 .item)) (prefixedBytes (v .0 .item)) (v .0 .rest))))
       (first .fits, second .fits))
 
-  order-reads : (r : Front ReplicaEvent) → orderIn bytes ≡ some r → b ≡ 1 → Written receivedBytes ReceivedFits (b ∷ bytes) r
+  order-reads : (r : Front ReplicaEvent) → orderIn bytes ≡ some r → b ≡ 1 → WrittenAs receivedBytes ReceivedFits (b ∷ bytes) r
   unfolding orderIn
   order-reads r e one =
       let o = then-some (prefixedIn bytes) _ r e in
@@ -113,19 +113,19 @@ module _ (b : ℕ) (bytes : List ℕ) (small : Bytes (b ∷ bytes)) where
       rw (← same)
       (written receivedBytes ReceivedFits (b ∷ bytes) (front (order-handed (o .0 .item)) (o .0 .rest)) small (ap (λ (x : ℕ). x ∷ bytes) one ∙ ap (λ (l : List ℕ). 1 ∷ l) (first .is)) (first .fits))
 
-  call-reads : (r : Front ReplicaEvent) → callOpenedBy b bytes ≡ some r → Written receivedBytes ReceivedFits (b ∷ bytes) r
+  call-reads : (r : Front ReplicaEvent) → callOpenedBy b bytes ≡ some r → WrittenAs receivedBytes ReceivedFits (b ∷ bytes) r
   call-reads r e = go (eqb b 0) (eqb b 1) refl refl e
     where
-      go : (s t : Bool) → eqb b 0 ≡ s → eqb b 1 ≡ t → cond s (requestIn bytes) (cond t (orderIn bytes) none) ≡ some r → Written receivedBytes ReceivedFits (b ∷ bytes) r
+      go : (s t : Bool) → eqb b 0 ≡ s → eqb b 1 ≡ t → cond s (requestIn bytes) (cond t (orderIn bytes) none) ≡ some r → WrittenAs receivedBytes ReceivedFits (b ∷ bytes) r
       go true t z one e = request-reads r e (eqb-true b 0 z)
       go false true z one e = order-reads r e (eqb-true b 1 one)
       go false false z one e = apart (cc)
 
-  answer-reads : (r : Front Recorded) → answerOpenedBy b bytes ≡ some r → Written recordedBytes RecordedFits (b ∷ bytes) r
+  answer-reads : (r : Front Recorded) → answerOpenedBy b bytes ≡ some r → WrittenAs recordedBytes RecordedFits (b ∷ bytes) r
   answer-reads r e = go (eqb b 0) refl e
     where
       go : (t : Bool) → eqb b 0 ≡ t → cond t (prefixedIn bytes then λ c. some (front (replied (c .item)) (c .rest))) (some (front (refusal b) bytes)) ≡ some r
-          → Written recordedBytes RecordedFits (b ∷ bytes) r
+          → WrittenAs recordedBytes RecordedFits (b ∷ bytes) r
       go true t e =
           let c = then-some (prefixedIn bytes) _ r e in
           let same : front (replied (c .0 .item)) (c .0 .rest) ≡ r = let e = c .2 in cc in
@@ -138,12 +138,12 @@ module _ (b : ℕ) (bytes : List ℕ) (small : Bytes (b ∷ bytes)) where
           let other = eqb-false b 0 t in
           rw (← same) (written recordedBytes RecordedFits (b ∷ bytes) (front (refusal b) bytes) small refl (omega arith, small 0))
 
-received-reads : (bytes : List ℕ) → Bytes bytes → (r : Front ReplicaEvent) → receivedIn bytes ≡ some r → Written receivedBytes ReceivedFits bytes r
+received-reads : (bytes : List ℕ) → Bytes bytes → (r : Front ReplicaEvent) → receivedIn bytes ≡ some r → WrittenAs receivedBytes ReceivedFits bytes r
 unfolding receivedIn
 received-reads [] small r e = apart (cc)
 received-reads (b ∷ bytes) small r e = call-reads b bytes small r e
 
-recorded-reads : (bytes : List ℕ) → Bytes bytes → (r : Front Recorded) → recordedIn bytes ≡ some r → Written recordedBytes RecordedFits bytes r
+recorded-reads : (bytes : List ℕ) → Bytes bytes → (r : Front Recorded) → recordedIn bytes ≡ some r → WrittenAs recordedBytes RecordedFits bytes r
 unfolding recordedIn
 recorded-reads [] small r e = apart (cc)
 recorded-reads (b ∷ bytes) small r e = answer-reads b bytes small r e

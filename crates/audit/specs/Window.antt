@@ -6,6 +6,6 @@ use lib.ListN.{length}
 use Rattle.base.specs.Bytes.{between}
 use Rattle.wire.specs.Writing.{inFront}
 
-pub record Moves (old : List ℕ) (from to r : ℕ) (new : List ℕ) : Type 0 where
+pub record MovesFront (old : List ℕ) (from to r : ℕ) (new : List ℕ) : Type 0 where
   pub many : r ≡ length (between old from to)
   pub moved : new ≡ inFront (between old from to) old

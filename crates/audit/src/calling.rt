@@ -8,7 +8,7 @@ use wire::layout::LONGEST_MESSAGE;
 ghost use mathlib.Core.Path.{_≡_};
 ghost use lib.ListN.{length};
 ghost use Rattle.protocol.specs.Events.{request-handed, order-handed};
-ghost use Rattle.audit.specs.Calling.{Calls, asReply};
+ghost use Rattle.audit.specs.Calling.{MakesCall, asReply};
 ghost use Rattle.audit.specs.Reading.{callBy};
 
 // What a call answers, its reply in front of the output, and the bank that it leaves. A taken order has a reply of no bytes.
@@ -26,7 +26,7 @@ fn room() -> [u8; LONGEST_MESSAGE]
 }
 
 fn call_message(bank: Bank, message: &[u8], verdicts: &[u8]) -> Called
-    ensures { λ r. ⌜ Calls bank (request-handed (now (message .entry)) (now (verdicts .entry))) r ⌝ }
+    ensures { λ r. ⌜ MakesCall bank (request-handed (now (message .entry)) (now (verdicts .entry))) r ⌝ }
 {
     let mut out = room();
     let stepped = bank::step(bank, message, verdicts, &mut out);
@@ -50,7 +50,7 @@ fn as_reply(taking: Taking) -> ReplicaAnswer
 }
 
 fn call_order(bank: Bank, order: &[u8]) -> Called
-    ensures { λ r. ⌜ Calls bank (order-handed (now (order .entry))) r ⌝ }
+    ensures { λ r. ⌜ MakesCall bank (order-handed (now (order .entry))) r ⌝ }
 {
     let ordered = bank::take_order(bank, order);
     let answer = ordered.answer;
@@ -64,7 +64,7 @@ fn call_order(bank: Bank, order: &[u8]) -> Called
 
 // The call that stands at these places.
 pub fn call_at(bank: Bank, bytes: &[u8], places: CallPlaces) -> Called
-    ensures { λ r. ⌜ Calls bank (callBy (now (bytes .entry)) places) r ⌝ }
+    ensures { λ r. ⌜ MakesCall bank (callBy (now (bytes .entry)) places) r ⌝ }
 {
     let first = between(bytes, places.start, places.end);
     if places.is_order {

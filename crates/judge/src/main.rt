@@ -52,6 +52,7 @@ fn is_unread(last: bool) -> bool {
     true
 }
 
+// No log has so many entries that the sum does not fit.
 fn plus(number: u64, agreed: usize) -> u64 {
     let more = agreed as u64;
     if u64::MAX - more < number {

@@ -64,7 +64,7 @@ module _ (bank : Bank) (good : GoodBank bank) where
           message = message;
           admitted = subst (λ (x : RegisterId). Admitted AtReplica (bank .f) (bank .withdrawn) bytes verdicts x message) (sym is) passed;
           stepped = taken;
-          facts = register-facts (bankPart (placeIn bytes) bank) verdicts message reply (good .fit (placeIn bytes) (place-below (registerIn bytes)))
+          facts = register-facts (bankPart (placeIn bytes) bank) verdicts message reply (good .fit (placeIn bytes) (place-below _))
               (decoded-fits AtReplica bytes register message (passed .decodes) small) (passed .may-send) (passed .passed) taken;
         }
 
@@ -75,7 +75,8 @@ module _ (bank : Bank) (good : GoodBank bank) where
         stepped : RegisterReplicaFits (bankPart (placeIn bytes) (withBankPart (placeIn bytes) (reply .next) bank))
         stepped =
             let fits = s .facts .fits in
-            let is = part-there bank (placeIn bytes) (reply .next) (omega (arith, good .long, place-below (registerIn bytes))) in
+            let below : placeIn bytes < 16 = place-below _ in
+            let is = part-there bank (placeIn bytes) (reply .next) (omega (arith, good .long)) in
             record {
               id-fits = subst (λ (i : ReplicaId). i .0 < 256) (s .facts .same-id) (fits .id-fits);
               slots-fit = subst (λ (register : Register). SlotsFit (register .slots)) (sym is) (fits .slots-fit);

@@ -20,4 +20,5 @@ pub mod OperationMessages
 pub mod OrderFacts
 pub mod Refusals
 pub mod RegisterFacts
+pub mod SetUp
 pub mod Towards

@@ -26,6 +26,7 @@ use Rattle.protocol.specs.RegisterReplica.{Reply, slotIs, afterPrepare, 
 use Rattle.protocol.specs.declared.replica.Bank.{Bank}
 use Rattle.protocol.specs.declared.replica.RegisterReplica.{RegisterReplica}
 use Rattle.protocol.specs.declared.replica.Slots.{Slots}
+use Rattle.protocol.proofs.Accepts.{by-test}
 
 -- A byte but 0.
 abbrev isNumber : ℕ → Bool
@@ -51,8 +52,7 @@ module _ {A : Type 0} where
       go false t = by-number k small
 
   by-cases : (test : Bool) {yes-then no-then : Outcome A} → Refuses yes-then → Refuses no-then → Refuses (cond test yes-then no-then)
-  by-cases true h k = h
-  by-cases false h k = k
+  by-cases test h k = by-test Refuses {test = test} (λ t. h) (λ t. k)
 
   by-next : {B : Type 0} {o : Outcome B} {next : B → Outcome A} → Refuses o → ((b : B) → Refuses (next b)) → Refuses (o >>= next)
   by-next {B} {o} {next} h k = go o (h .range)

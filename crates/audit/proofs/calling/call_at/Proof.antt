@@ -1,6 +1,6 @@
 -- `audit::calling::call_at` meets its contract. Assumes nothing.
 use borrow.Author.Needs.{needs}
-use Rattle.audit.proofs.Calls.{order-at, message-at}
+use Rattle.audit.proofs.CallsMade.{order-at, message-at}
 use Rattle.audit.proofs.calling.call_at.Statement.{statement}
 use Rattle.audit.proofs.calling.call_at.Tie as tie
 

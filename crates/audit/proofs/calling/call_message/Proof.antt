@@ -1,7 +1,7 @@
 -- `audit::calling::call_message` meets its contract. Assumes nothing.
 use native.Mathlib.Omega.{arith}
 use borrow.Author.Needs.{needs}
-use Rattle.audit.proofs.Calls.{calls-message}
+use Rattle.audit.proofs.CallsMade.{calls-message}
 use Rattle.audit.proofs.calling.call_message.Statement.{statement}
 use Rattle.audit.proofs.calling.call_message.Tie as tie
 

@@ -1,6 +1,6 @@
 -- `audit::calling::call_order` meets its contract. Assumes nothing.
 use borrow.Author.Needs.{needs}
-use Rattle.audit.proofs.Calls.{calls-order}
+use Rattle.audit.proofs.CallsMade.{calls-order}
 use Rattle.audit.proofs.calling.call_order.Statement.{statement}
 use Rattle.audit.proofs.calling.call_order.Tie as tie
 

@@ -2,7 +2,7 @@
 use borrow.Author.Needs.{needs}
 use borrow.Author.Tests.{not-true, not-false}
 use Rattle.audit.specs.Reading.{entryBy}
-use Rattle.audit.proofs.Calls.{checks-true, checks-false}
+use Rattle.audit.proofs.CallsMade.{checks-true, checks-false}
 use Rattle.audit.proofs.judging.check_entry.Statement.{statement}
 use Rattle.audit.proofs.judging.check_entry.Tie as tie
 

@@ -4,7 +4,7 @@ use native.Mathlib.Omega.{arith}
 use borrow.Author.Needs.{needs}
 use borrow.Author.Tests.{not-true, not-false}
 use lib.ListN.{length}
-use Rattle.audit.proofs.Parts.{Leads, Turn, start, ends, turn}
+use Rattle.audit.proofs.Parts.{Leads, EntryTurn, start, ends, turn}
 use Rattle.audit.proofs.judging.judge_part.Statement.{statement}
 use Rattle.audit.proofs.judging.judge_part.Tie as tie
 
@@ -19,7 +19,7 @@ turned : (k : tie.After-check-entry Inv-loop μ-loop) →
     let p = k .before .before in
     let l = p .before .before .before .before .loop in
     let x = p .before .before .before .before .before .before .args in
-    Turn (x .bank) (x .part .now) (x .last) (l .left) (l .agreed) (l .used) (p .places .given .0 .0) (k .check-entry .result)
+    EntryTurn (x .bank) (x .part .now) (x .last) (l .left) (l .agreed) (l .used) (p .places .given .0 .0) (k .check-entry .result)
 turned k =
     let p = k .before .before in
     let h = p .before .before .before in

@@ -23,7 +23,7 @@ use Rattle.protocol.specs.declared.replica.ReplicaAnswer.{ReplicaAnswer}
 use Rattle.protocol.proofs.BankFacts.{part-itself}
 use Rattle.bank.specs.Ordering.{OrderSteps}
 use Rattle.bank.specs.Stepping.{BankSteps}
-use Rattle.audit.specs.Calling.{answeredBy, asReply, Calls}
+use Rattle.audit.specs.Calling.{answeredBy, asReply, MakesCall}
 use Rattle.audit.specs.Judging.{Checks}
 use Rattle.audit.specs.Log.{LogEntry, sentFor, expected, bankAfter, agrees}
 use Rattle.audit.specs.Reading.{callBy}
@@ -64,7 +64,7 @@ module _ (bank : Bank) (bytes verdicts old : List ℕ) (room : longest ≤ lengt
       (guard-passes 1 (roomy old) (registerStep (bankPart (placeIn bytes) bank) bytes verdicts) (le-leb longest (length old) room))
 
   pub calls-message : (answer : ReplicaAnswer) (left : Bank) (new : List ℕ) → BankSteps bank bytes verdicts old answer left new
-      → Calls bank (request-handed bytes verdicts) (record { answer = answer; out = new; bank = left })
+      → MakesCall bank (request-handed bytes verdicts) (record { answer = answer; out = new; bank = left })
   unfolding bankAfter
   calls-message answer left new steps =
       record {
@@ -77,7 +77,7 @@ module _ (bank : Bank) (bytes verdicts old : List ℕ) (room : longest ≤ lengt
 -- ---- An order
 
 pub calls-order : (bank : Bank) (order : List ℕ) (answer : Taking) (left : Bank) (reply : ReplicaAnswer) (out : List ℕ) → OrderSteps bank order answer left → reply ≡ asReply answer
-    → Calls bank (order-handed order) (record { answer = reply; out = out; bank = left })
+    → MakesCall bank (order-handed order) (record { answer = reply; out = out; bank = left })
 unfolding bankAfter orderCall
 calls-order bank order answer left reply out steps is =
     record {
@@ -96,16 +96,16 @@ calls-order bank order answer left reply out steps is =
 -- ---- At its places
 
 module _ (bank : Bank) (bytes : List ℕ) (places : CallPlaces) (r : Called) (first : List ℕ) (is : first ≡ between bytes (places .start) (places .end)) where
-  pub order-at : places .«is_order» ≡ true → Calls bank (order-handed first) r → Calls bank (callBy bytes places) r
+  pub order-at : places .«is_order» ≡ true → MakesCall bank (order-handed first) r → MakesCall bank (callBy bytes places) r
   order-at kind calls = rw (kind, ← is) calls
 
-  pub message-at : places .«is_order» ≡ false → (verdicts : List ℕ) → verdicts ≡ between bytes (places .verdicts) (places .«verdicts_end») → Calls bank (request-handed first verdicts) r
-      → Calls bank (callBy bytes places) r
+  pub message-at : places .«is_order» ≡ false → (verdicts : List ℕ) → verdicts ≡ between bytes (places .verdicts) (places .«verdicts_end») → MakesCall bank (request-handed first verdicts) r
+      → MakesCall bank (callBy bytes places) r
   message-at kind verdicts are calls = rw (kind, ← is, ← are) calls
 
 -- ---- An entry
 
-module _ (bank : Bank) (e : LogEntry) (called : Called) (calls : Calls bank (e .received) called) (agreed : Bool) (compared : agreed ≡ agrees (answeredBy (called .answer) (called .out)) (e .recorded)) where
+module _ (bank : Bank) (e : LogEntry) (called : Called) (calls : MakesCall bank (e .received) called) (agreed : Bool) (compared : agreed ≡ agrees (answeredBy (called .answer) (called .out)) (e .recorded)) where
   agrees-is : agreed ≡ agrees (expected bank (e .received)) (e .recorded)
   agrees-is = compared ∙ ap (λ (o : Outcome (List ℕ)). agrees o (e .recorded)) (calls .answers)
 
