@@ -5,7 +5,7 @@ pub mod asker;
 pub mod card;
 pub mod client;
 pub mod lms;
-#[allow(dead_code)] // tests/logs.rs alone asks for it
+#[allow(dead_code)] // tests/logs.rs and tests/example_log.rs alone ask for it
 pub mod log;
 pub mod message;
 pub mod order;

@@ -1,8 +1,9 @@
 //! Makes a log for the examples, with the model's replica.
 //!
 //! `example-log ID` writes what a correct replica logs of a script on standard input, whose keys and orders are spelled out, as
-//! `show/spell.awk` does; its signatures are zeros. `example-log ID forgets` does so for a replica that answers each order with "taken"
-//! and serves the withdrawn client all the same. Built by `rustc -O --edition 2021 tests/example_log.rs -o target/example-log`.
+//! `show/spell.awk` does; its signatures are zeros. `example-log ID forgets` does so for a replica that answers each order with
+//! "taken" and serves the withdrawn client all the same. Built by
+//! `rustc -O --edition 2021 tests/example_log.rs -o target/example-log`.
 #[path = "logs/calls.rs"]
 mod calls;
 #[allow(dead_code)] // the comparisons use more of it

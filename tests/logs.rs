@@ -25,7 +25,7 @@ mod tally;
 use calls::runs;
 use changes::{changed, Change, CHANGES};
 use forge::some_of;
-use model::log::{judge, Given, Log};
+use model::log::{judge, Given, Log, HEAD_LENGTH};
 use model::random::Random;
 use office::Office;
 use record::{record, record_long, record_many, sign};
@@ -37,13 +37,16 @@ use tallies::Tallies;
 
 /// How much of a log the program has at hand at a time.
 pub const WINDOW: usize = 262_144;
+/// Where the entries end that it has at hand first: it judges the head, drops it and fills the window up.
+pub const SEAM: usize = HEAD_LENGTH + WINDOW;
 
 /// One action in so many is an order.
 const ORDER_IN: usize = 300;
-/// So many scripts are made, and of each so many replicas recorded; then so many logs beyond the window.
+/// So many scripts are made, and of each so many replicas recorded.
 const SCRIPTS: usize = 15;
 const RECORDED: usize = 45;
-const LONG: usize = 12;
+/// Then logs beyond the window, with an entry that begins so many places before the seam and before the end of the first filling.
+const BEFORE: usize = 12;
 /// So many logs have each change, and so many beyond the window.
 const CHANGED: usize = 60;
 const LONG_CHANGED: usize = 3;
@@ -113,10 +116,7 @@ impl Comparison<'_> {
         given: [String; 2],
     ) -> String {
         let Comparison { program, logs, .. } = self;
-        let kept = match fs::write(FILE, log) {
-            Ok(()) => format!("is kept in {FILE}"),
-            Err(error) => format!("cannot be kept in {FILE}: {error}"),
-        };
+        let kept = keep(log);
         format!("A difference. Log {logs} ({name}) {kept}. It must give\n{expected:?}\nbut {program} gives\n{given:?}")
     }
 
@@ -124,9 +124,10 @@ impl Comparison<'_> {
     fn must_print(&mut self, log: &[u8], name: &str, words: String) -> Result<(), String> {
         let printed = self.compare(log, name)?;
         if printed != words {
+            let kept = keep(log);
             let logs = self.logs;
             return Err(format!(
-                "both print {printed:?} for log {logs} ({name}), and not {words:?}"
+                "Log {logs} ({name}) {kept}. Both print {printed:?} for it, and not {words:?}"
             ));
         }
         Ok(())
@@ -186,7 +187,8 @@ impl Comparison<'_> {
         }
         let logs = all_runs.iter().map(|run| record(random, tally, run));
         let logs: Vec<Log> = logs.collect();
-        let long = (0..LONG).map(|before| record_long(random, tally, &all_runs, before));
+        let places = (0..BEFORE).flat_map(|before| [SEAM - before, WINDOW - before]);
+        let long = places.map(|place| record_long(random, tally, &all_runs, place));
         let (mut long, up_to_seam): (Vec<Log>, Vec<Log>) = long.unzip();
         long.push(record_many(random, &all_runs));
         for recorded in [&logs, &long, &up_to_seam] {
@@ -194,6 +196,14 @@ impl Comparison<'_> {
         }
         self.compare_changed(&logs, CHANGED)?;
         self.compare_changed(&long, LONG_CHANGED)
+    }
+}
+
+/// Says where the log is kept.
+fn keep(log: &[u8]) -> String {
+    match fs::write(FILE, log) {
+        Ok(()) => format!("is kept in {FILE}"),
+        Err(error) => format!("cannot be kept in {FILE}: {error}"),
     }
 }
 

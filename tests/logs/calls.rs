@@ -75,7 +75,8 @@ impl<'a> Reader<'a> {
     }
 }
 
-/// What the replicas of a script with these lines and answers are handed, each from its set-up on. A replica is not restored here: its disk stays as it is.
+/// What the replicas of a script with these lines and answers are handed, each from its set-up on. A replica is not restored here:
+/// its disk stays as it is.
 pub fn runs(lines: &[String], answers: &[Output]) -> Vec<Run> {
     let mut reader = Reader::default();
     for (line, output) in lines.iter().zip(answers) {

@@ -4,7 +4,7 @@ use crate::model::log::{Call, Entry, Given, Log, HEAD_LENGTH, LONGEST_LOGGED, SI
 use crate::model::message::{replicas, READ, READ_TIMESTAMP};
 use crate::model::random::Random;
 use crate::model::replica::Replica;
-use crate::WINDOW;
+use crate::{SEAM, WINDOW};
 use std::ops::Range;
 use Change::{Answer, Other, Part};
 
@@ -97,10 +97,10 @@ fn some_entry(random: &mut Random, log: &Log, sort: impl Fn(&Entry) -> bool) -> 
     let fitting: Vec<usize> = all.filter(|&at| sort(&log.entries[at])).collect();
     let last = fitting.len().checked_sub(1)?;
     let places = log.places();
-    if places[log.entries.len()] <= WINDOW || random.percent(40) {
+    if places[log.entries.len()] <= SEAM || random.percent(40) {
         return Some(random.pick(&fitting));
     }
-    let behind = fitting.partition_point(|&at| places[at + 1] <= WINDOW);
+    let behind = fitting.partition_point(|&at| places[at + 1] <= SEAM);
     let at = behind.saturating_sub(random.below(2));
     Some(fitting[at.min(last)])
 }
@@ -223,7 +223,7 @@ fn repeated(random: &mut Random, log: &Log) -> Option<Vec<u8>> {
 fn cut(random: &mut Random, log: &Log) -> Option<Vec<u8>> {
     let mut bytes = log.encode();
     let anywhere = HEAD_LENGTH + random.below(bytes.len() - HEAD_LENGTH + 1);
-    let close = WINDOW - 3 + random.below(7);
+    let close = random.pick(&[SEAM, SEAM, WINDOW]) - 3 + random.below(7);
     let is_close = close < bytes.len() && random.percent(50);
     bytes.truncate(if is_close { close } else { anywhere });
     Some(bytes)

@@ -3,10 +3,11 @@ use crate::calls::Run;
 use crate::model::log::{Call, Entry, Given, Log, HEAD_LENGTH, LONGEST_LOGGED, SIGNATURE_LENGTH};
 use crate::model::message::{Timestamp, KIND_NAMES, LONGEST_MESSAGE, PREPARED, WRITTEN};
 use crate::model::random::Random;
-use crate::model::replica::{Register, Replica};
+use crate::model::replica::{Register, Replica, Slot};
 use crate::occurred::Tally;
-use crate::WINDOW;
+use crate::{SEAM, WINDOW};
 use std::cmp::Ordering;
+use std::collections::BTreeMap;
 
 /// More entries than two bytes can count.
 const MANY: usize = 70_000;
@@ -55,10 +56,10 @@ impl<'a> Recorder<'a> {
         }
     }
 
-    /// What the replica holds, by register.
-    fn held(&self) -> Vec<Timestamp> {
-        let registers = self.replica.registers.values();
-        registers.map(Register::timestamp).collect()
+    /// What the replica holds and what it has prepared, by register.
+    fn records(&self) -> Vec<(Timestamp, BTreeMap<u8, Slot>)> {
+        let record = |register: &Register| (register.timestamp(), register.slots.clone());
+        self.replica.registers.values().map(record).collect()
     }
 
     /// Makes a call, and now and then stretched before that.
@@ -71,8 +72,8 @@ impl<'a> Recorder<'a> {
         self.hand(call.clone());
     }
 
-    /// Makes a call. If its entry may come near the seam, it is made to begin there, and the next seam is a window behind or a little
-    /// less.
+    /// Makes a call. If its entry may come near the seam, it is made to begin there, and the next seam is a window behind or a
+    /// little less.
     fn hand(&mut self, call: Call) {
         let lengths = lengths(&call).into_iter().map(|(_, length)| length);
         let end = self.size + lengths.sum::<usize>() + BESIDE_REPLY;
@@ -102,10 +103,11 @@ impl<'a> Recorder<'a> {
 
     /// Makes a call and logs it, unless it is too long for that.
     fn make(&mut self, call: Call) {
-        let before = self.held();
+        let before = self.records();
         let mut given = call.make(&mut self.replica);
         self.note_lengths(&call);
-        self.note(&given, before);
+        let changed = self.records() != before;
+        self.note(&given, changed);
         if !call.is_logged() {
             return;
         }
@@ -117,7 +119,7 @@ impl<'a> Recorder<'a> {
         self.log.entries.push(entry);
     }
 
-    fn note(&mut self, given: &Given, before: Vec<Timestamp>) {
+    fn note(&mut self, given: &Given, changed: bool) {
         let row = match given {
             Given::Refusal(refusal) => format!("refused {refusal}"),
             Given::Reply(reply) if reply.is_empty() => "taken".to_string(),
@@ -128,9 +130,8 @@ impl<'a> Recorder<'a> {
                     _ => "another".to_string(),
                 };
                 match reply[2] {
-                    WRITTEN if self.held() == before => format!("{kind}, not stored"),
-                    WRITTEN => format!("{kind}, stored in {register}"),
-                    PREPARED => format!("{kind} in {register}"),
+                    WRITTEN | PREPARED if changed => format!("{kind}, stored in {register}"),
+                    WRITTEN | PREPARED => format!("{kind}, not stored"),
                     _ => kind.to_string(),
                 }
             }
@@ -197,18 +198,17 @@ fn circle<'a>(random: &mut Random, runs: &'a [Run]) -> (&'a Log, impl Iterator<I
     (log, calls.into_iter().cycle().skip(first))
 }
 
-/// A log beyond the window with an entry that begins at the seam, or so many bytes before it; and its entries up to there.
+/// A log beyond the window with an entry that begins at a place; and its entries up to there.
 pub fn record_long(
     random: &mut Random,
     tally: &mut Tally,
     runs: &[Run],
-    before: usize,
+    place: usize,
 ) -> (Log, Log) {
     let (log, calls) = circle(random, runs);
-    let least = WINDOW + 1 + random.below(2 * WINDOW);
+    let least = SEAM + 1 + random.below(2 * WINDOW);
     let mut recorder = Recorder::new(random, tally, log);
-    let seam = WINDOW - before;
-    recorder.seam = Some(seam);
+    recorder.seam = Some(place);
     for call in calls {
         if recorder.size >= least {
             break;
@@ -217,7 +217,7 @@ pub fn record_long(
     }
     let long = recorder.log;
     let mut up_to_seam = long.clone();
-    let number = long.places().partition_point(|&place| place < seam);
+    let number = long.places().partition_point(|&begins| begins < place);
     up_to_seam.entries.truncate(number);
     (long, up_to_seam)
 }

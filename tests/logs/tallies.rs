@@ -1,10 +1,10 @@
 //! How often what occurs in logs and their judgements, and how often it must.
 use crate::model::log::{Fault, Judgement};
 use crate::occurred::Tally;
-use crate::WINDOW;
+use crate::SEAM;
 
 /// How often what must occur at least, for the comparison to mean something. The replies and refusals are those of recorded logs.
-const FLOORS: [(&str, usize); 53] = [
+const FLOORS: [(&str, usize); 54] = [
     ("logs", 2_000),
     ("accepted", 100),
     ("0", 100),
@@ -24,10 +24,11 @@ const FLOORS: [(&str, usize); 53] = [
     ("f = 5", 20),
     ("STAMP", 300),
     ("CARD", 300),
-    ("PREPARED in 1", 100),
-    ("PREPARED in 2", 100),
-    ("PREPARED in 16", 30),
-    ("PREPARED in another", 30),
+    ("PREPARED, stored in 1", 100),
+    ("PREPARED, stored in 2", 100),
+    ("PREPARED, stored in 16", 30),
+    ("PREPARED, stored in another", 30),
+    ("PREPARED, not stored", 100),
     ("WRITTEN, stored in 1", 100),
     ("WRITTEN, stored in 2", 100),
     ("WRITTEN, stored in 16", 20),
@@ -116,7 +117,7 @@ impl Tallies {
         };
         self.occurred.count(row);
         self.said.count(without_numbers(&judgement.said()));
-        if length > WINDOW {
+        if length > SEAM {
             self.count_long(judgement);
         }
     }
@@ -126,10 +127,10 @@ impl Tallies {
         match judgement {
             Judgement::Accepted => self.occurred.count("beyond the window, accepted"),
             Judgement::WrongEntry { number, start, .. } => {
-                if *start >= WINDOW {
+                if *start >= SEAM {
                     self.occurred.count("beyond the window, wrong there");
                 }
-                if start.abs_diff(WINDOW) < NEAR {
+                if start.abs_diff(SEAM) < NEAR {
                     self.occurred.count("beyond the window, wrong near");
                 }
                 if *number > 65_535 {

@@ -19,7 +19,7 @@ use Rattle.base.proofs.Filling.{filled-length}
 use Rattle.base.proofs.Same.{same-itself}
 use Rattle.wire.specs.Checks.{preparedOf, writtenOf, entriesIfThere, entriesOf, all, oneEach, shapedIfThere}
 use Rattle.wire.specs.Decode.{registerIn}
-use Rattle.wire.specs.Message.{body, encode, IsSignature, Legal, longest}
+use Rattle.wire.specs.Message.{body, encode, Legal, longest}
 use Rattle.wire.specs.Proof.{Proof}
 use Rattle.wire.specs.Writing.{blankSignature, unsigned}
 use Rattle.wire.specs.declared.message.Party.the-variants.{Replica as AtReplica}
@@ -32,7 +32,7 @@ use Rattle.protocol.specs.Events.{ReplicaEvent, request-handed, order-handed, H
 use Rattle.protocol.specs.Order.{takeOrder}
 use Rattle.protocol.specs.RegisterReplica.{Reply}
 use Rattle.protocol.specs.declared.replica.Bank.{Bank}
-use Rattle.protocol.proofs.ArrayLaws.{zeros-fit}
+use Rattle.protocol.proofs.ArrayLaws.{blank-signature}
 use Rattle.protocol.proofs.GoodBank.{GoodBank, MessageTaken, message-taken}
 use Rattle.protocol.proofs.OrderFacts.{took}
 use Rattle.protocol.proofs.Refusals.{refusal-range}
@@ -68,10 +68,6 @@ signed-is signature (b ∷ sent) long = refl
 few-entries : {d : ℕ} (f : ℕ) (o : Option (Proof d)) → shapedIfThere f o ≡ true → length (entriesIfThere o) ≤ 11
 few-entries f none e = omega arith
 few-entries f (some proof) e = shaped-few f (proof .entries) e
-
-blank-signature : IsSignature blankSignature
-unfolding blankSignature
-blank-signature = zeros-fit 64
 
 module _ (bank : Bank) (bytes verdicts : List ℕ) (reply : Reply) (small : Bytes bytes) (taken : MessageTaken bank bytes verdicts reply) where
   short-bytes : length bytes ≤ longest

@@ -24,7 +24,7 @@ use Rattle.protocol.proofs.BankFacts.{part-itself}
 use Rattle.bank.specs.Ordering.{OrderSteps}
 use Rattle.bank.specs.Stepping.{BankSteps}
 use Rattle.audit.specs.Calling.{answeredBy, asReply, MakesCall}
-use Rattle.audit.specs.Judging.{Checks}
+use Rattle.audit.specs.Judging.{ChecksEntry}
 use Rattle.audit.specs.Log.{LogEntry, sentFor, expected, bankAfter, agrees}
 use Rattle.audit.specs.Reading.{callBy}
 use Rattle.audit.specs.declared.calling.Called.{Called}
@@ -109,8 +109,8 @@ module _ (bank : Bank) (e : LogEntry) (called : Called) (calls : MakesCall bank 
   agrees-is : agreed ≡ agrees (expected bank (e .received)) (e .recorded)
   agrees-is = compared ∙ ap (λ (o : Outcome (List ℕ)). agrees o (e .recorded)) (calls .answers)
 
-  pub checks-true : agreed ≡ true → Checks bank e (record { agrees = true; bank = called .bank })
+  pub checks-true : agreed ≡ true → ChecksEntry bank e (record { agrees = true; bank = called .bank })
   checks-true is = record { agrees-is = sym is ∙ agrees-is; next = calls .leaves }
 
-  pub checks-false : agreed ≡ false → Checks bank e (record { agrees = false; bank = bank })
+  pub checks-false : agreed ≡ false → ChecksEntry bank e (record { agrees = false; bank = bank })
   checks-false is = record { agrees-is = sym is ∙ agrees-is; next = refl }

@@ -4,7 +4,7 @@ use mathlib.Core.Logic.{_↔_, _⊎_, inl, inr}
 use mathlib.Core.Bool.{Bool, true, false, cond}
 use mathlib.Core.List.{List, [], _∷_, _++_, append-assoc, append-nil}
 use mathlib.Core.Option.{Option, none, some}
-use Prim.Native.Nat.{ℕ, zero, suc, _+_, _≤_, _<_}
+use Prim.Native.Nat.{ℕ, zero, suc, _+_, _≤_}
 use native.Mathlib.Omega.{arith}
 use borrow.Author.Tests.{leb-true, leb-false}
 use lib.Dec.{leb}
@@ -16,26 +16,15 @@ use Rattle.base.proofs.BigEndian.{bytes-drop}
 use Rattle.protocol.specs.Bank.{freshBank}
 use Rattle.protocol.specs.declared.replica.Bank.{Bank}
 use Rattle.protocol.proofs.SetUp.{set-up-cases}
-use Rattle.audit.specs.Log.{LogEntry, Front, front, expected, bankAfter, agrees, entryIn, right, wrong, judgedFrom, headLength, faultBoundIn, replicaIdIn, keyIn, setUpIn, freshIn, headOutcome, judgedIfSetUp, judged}
-use Rattle.audit.specs.Replaying.{entryBytes, allBytes, headBytes, Agrees, AllAgree, bankAfterAll, Replays, Stops}
+use Rattle.audit.specs.Log.{LogEntry, Front, frontOf, expected, bankAfter, agrees, entryIn, right, wrong, judgedFrom, headLength, faultBoundIn, replicaIdIn, keyIn, setUpIn, freshIn, headOutcome, judgedIfSetUp, judged}
+use Rattle.audit.specs.Replaying.{HeadFails, entryBytes, logBytes, headBytes, Agrees, AllAgree, bankAfterAll, Replays, Stops}
+use Rattle.audit.proofs.Agreeing.{judged-all}
 use Rattle.audit.proofs.Entries.{entry-shorter}
 use Rattle.audit.proofs.Heads.{short-refused, long-set-up, head-split, judged-head}
 use Rattle.audit.proofs.Judged.{judged-end, judged-none, judged-some}
 use Rattle.audit.proofs.Written.{entry-written, bytes-behind, entry-reads}
 
--- ---- Entries that agree
-
-pub judged-all : (entries : List LogEntry) (bank : Bank) (number : ℕ) (rest : List ℕ) → AllAgree bank entries
-    → judgedFrom bank number (allBytes entries ++ rest) ≡ judgedFrom (bankAfterAll bank entries) (number + length entries) rest
-unfolding AllAgree allBytes bankAfterAll
-judged-all [] bank number rest agree = let same : number + 0 ≡ number = omega arith in rw same
-judged-all (e ∷ entries) bank number rest agree =
-    let more : suc number + length entries ≡ number + suc (length entries) = omega arith in
-    ap (judgedFrom bank number) (append-assoc (entryBytes e) (allBytes entries) rest)
-    ∙ judged-some bank number (entryBytes e ++ (allBytes entries ++ rest)) (front e (allBytes entries ++ rest)) (entry-written e (allBytes entries ++ rest) (agree .0 .well-formed))
-    ∙ ap (λ (b : Bool). cond b (judgedFrom (bankAfter bank (e .received)) (suc number) (allBytes entries ++ rest)) (wrong number)) (agree .0 .same-answer)
-    ∙ judged-all entries (bankAfter bank (e .received)) (suc number) rest (agree .1)
-    ∙ ap (λ (n : ℕ). judgedFrom (bankAfterAll (bankAfter bank (e .received)) entries) n rest) more
+-- ---- Bytes that decide
 
 -- Bytes that start with no entry that agrees.
 record Stuck (bank : Bank) (rest : List ℕ) : Type 0 where
@@ -59,28 +48,28 @@ record Walked (bank : Bank) (bytes : List ℕ) : Type 0 where
   entries : List LogEntry
   rest : List ℕ
   agree : AllAgree bank entries
-  written : bytes ≡ allBytes entries ++ rest
+  written : bytes ≡ logBytes entries ++ rest
   end : (rest ≡ []) ⊎ Stuck (bankAfterAll bank entries) rest
 
 abbrev Walks : ℕ → Type 0
 Walks k = (bank : Bank) (bytes : List ℕ) → length bytes ≤ k → Bytes bytes → Walked bank bytes
 
 ended : (bank : Bank) → Walked bank []
-unfolding AllAgree allBytes
+unfolding AllAgree logBytes
 ended bank = record { entries = []; rest = []; agree = tt; written = refl; end = inl refl }
 
 stuck-here : (bank : Bank) (bytes : List ℕ) → Stuck bank bytes → Walked bank bytes
-unfolding AllAgree allBytes bankAfterAll
+unfolding AllAgree logBytes bankAfterAll
 stuck-here bank bytes stuck = record { entries = []; rest = bytes; agree = tt; written = refl; end = inr stuck }
 
 one-more : (bank : Bank) (bytes : List ℕ) (e : LogEntry) (rest : List ℕ) → bytes ≡ entryBytes e ++ rest → Agrees bank e → Walked (bankAfter bank (e .received)) rest → Walked bank bytes
-unfolding AllAgree allBytes bankAfterAll
+unfolding AllAgree logBytes bankAfterAll
 one-more bank bytes e rest is agree w =
     record {
       entries = e ∷ w .entries;
       rest = w .rest;
       agree = (agree, w .agree);
-      written = is ∙ ap (λ (l : List ℕ). entryBytes e ++ l) (w .written) ∙ sym (append-assoc (entryBytes e) (allBytes (w .entries)) (w .rest));
+      written = is ∙ ap (λ (l : List ℕ). entryBytes e ++ l) (w .written) ∙ sym (append-assoc (entryBytes e) (logBytes (w .entries)) (w .rest));
       end = w .end;
     }
 
@@ -108,8 +97,8 @@ walk-one k walks bank (b ∷ bytes) h small = go (entryIn (b ∷ bytes)) refl
             (record {
               more = there;
               stops = λ e behind is agree.
-                  let again : _≡_ {A = Option (Front LogEntry)} (some r) (some (front e behind)) = sym found ∙ ap entryIn is ∙ entry-written e behind (agree .well-formed) in
-                  let same : r .item ≡ e = let whole : r ≡ front e behind = cc in ap (λ (f : Front LogEntry). f .item) whole in
+                  let again : _≡_ {A = Option (Front LogEntry)} (some r) (some (frontOf e behind)) = sym found ∙ ap entryIn is ∙ entry-written e behind (agree .well-formed) in
+                  let same : r .item ≡ e = let whole : r ≡ frontOf e behind = cc in ap (λ (f : Front LogEntry). f .item) whole in
                   let yes-there = agree .same-answer in
                   let no-there : agrees (expected bank (e .received)) (e .recorded) ≡ false = ap (λ (e : LogEntry). agrees (expected bank (e .received)) (e .recorded)) (sym same) ∙ a in
                   apart (cc);
@@ -121,10 +110,6 @@ walk zero bank (b ∷ bytes) h small = absurd (omega arith)
 walk (suc k) bank bytes h small = walk-one k (λ bank bytes. walk k bank bytes) bank bytes h small
 
 -- ---- Heads
-
--- "0 for a short or refused head"
-abbrev pub HeadFails : List ℕ → Type 0
-HeadFails log = (length log < headLength) ⊎ (setUpIn log ≡ refused 16)
 
 head-wrong : (log : List ℕ) → HeadFails log → judged log ≡ wrong 0
 unfolding judged
@@ -143,16 +128,16 @@ head-wrong log fails = ap (λ (o : Outcome (Unit {0})). judgedIfSetUp o (judgedF
 pub replays-right : (log : List ℕ) → Replays log → judged log ≡ right
 replays-right log r =
     let bank = freshBank (r .f) (r .id) (r .key) in
-    ap judged (r .written) ∙ judged-head (r .f) (r .id) (r .key) (allBytes (r .entries)) (r .set-up) ∙ ap (judgedFrom bank 1) (sym (append-nil (allBytes (r .entries))))
+    ap judged (r .written) ∙ judged-head (r .f) (r .id) (r .key) (logBytes (r .entries)) (r .set-up) ∙ ap (judgedFrom bank 1) (sym (append-nil (logBytes (r .entries))))
     ∙ judged-all (r .entries) bank 1 [] (r .agree) ∙ judged-end (bankAfterAll bank (r .entries)) (1 + length (r .entries))
 
 stops-wrong : (log : List ℕ) → Bytes log → (n : ℕ) → Stops log n → judged log ≡ wrong (suc n)
 stops-wrong log small n s =
     let bank = freshBank (s .f) (s .id) (s .key) in
-    let behind-head : Bytes (allBytes (s .entries) ++ s .rest) = bytes-behind (headBytes (s .f) (s .id) (s .key)) (allBytes (s .entries) ++ s .rest) (rw (s .written) at small) in
-    let small-rest : Bytes (s .rest) = bytes-behind (allBytes (s .entries)) (s .rest) behind-head in
+    let behind-head : Bytes (logBytes (s .entries) ++ s .rest) = bytes-behind (headBytes (s .f) (s .id) (s .key)) (logBytes (s .entries) ++ s .rest) (rw (s .written) at small) in
+    let small-rest : Bytes (s .rest) = bytes-behind (logBytes (s .entries)) (s .rest) behind-head in
     let number : 1 + length (s .entries) ≡ suc n = omega (arith, s .many) in
-    ap judged (s .written) ∙ judged-head (s .f) (s .id) (s .key) (allBytes (s .entries) ++ s .rest) (s .set-up) ∙ judged-all (s .entries) bank 1 (s .rest) (s .agree)
+    ap judged (s .written) ∙ judged-head (s .f) (s .id) (s .key) (logBytes (s .entries) ++ s .rest) (s .set-up) ∙ judged-all (s .entries) bank 1 (s .rest) (s .agree)
     ∙ stuck-wrong (bankAfterAll bank (s .entries)) (1 + length (s .entries)) (s .rest) small-rest (record { more = s .more; stops = s .stops }) ∙ ap wrong number
 
 -- ---- Every log is one of three
@@ -166,7 +151,7 @@ module _ (log : List ℕ) where
   behind-head : headLength ≤ length log → setUpIn log ≡ accepted tt → Walked (freshIn log) (drop headLength log) → Cases log
   behind-head long good w = go (w .end)
     where
-      split : log ≡ headBytes (faultBoundIn log) (replicaIdIn log) (keyIn log) ++ (allBytes (w .entries) ++ w .rest)
+      split : log ≡ headBytes (faultBoundIn log) (replicaIdIn log) (keyIn log) ++ (logBytes (w .entries) ++ w .rest)
       split = head-split log long ∙ ap (λ (l : List ℕ). headBytes (faultBoundIn log) (replicaIdIn log) (keyIn log) ++ l) (w .written)
 
       go : (w .rest ≡ []) ⊎ Stuck (bankAfterAll (freshIn log) (w .entries)) (w .rest) → Cases log
@@ -178,8 +163,8 @@ module _ (log : List ℕ) where
             entries = w .entries;
             set-up = good;
             agree = w .agree;
-            written = split ∙ ap (λ (l : List ℕ). headBytes (faultBoundIn log) (replicaIdIn log) (keyIn log) ++ (allBytes (w .entries) ++ l)) none-left
-                ∙ ap (λ (l : List ℕ). headBytes (faultBoundIn log) (replicaIdIn log) (keyIn log) ++ l) (append-nil (allBytes (w .entries)));
+            written = split ∙ ap (λ (l : List ℕ). headBytes (faultBoundIn log) (replicaIdIn log) (keyIn log) ++ (logBytes (w .entries) ++ l)) none-left
+                ∙ ap (λ (l : List ℕ). headBytes (faultBoundIn log) (replicaIdIn log) (keyIn log) ++ l) (append-nil (logBytes (w .entries)));
           })
       go (inr stuck) =
           stops (length (w .entries)) (record {

@@ -21,11 +21,11 @@ use Rattle.protocol.specs.Events.{request-handed, order-handed}
 use Rattle.protocol.specs.Order.{ordered, takeOrder}
 use Rattle.protocol.specs.RegisterReplica.{freshRegister, registerStep, onRequest}
 use Rattle.audit.specs.Log.{replied, refusal, expected, bankAfter, sameButSignature, prefixedIn, requestIn, orderIn, receivedIn, recordedIn, entryIn, right, wrong, judgedWithin, judgedFrom, judged}
-use Rattle.audit.specs.Replaying.{allBytes, headBytes}
+use Rattle.audit.specs.Replaying.{logBytes, headBytes}
 
 -- What opens for a log to compute.
 unfoldable judging : Unit {0}
-unfolding fromBytes toBytes guard within same has isPublicKey admits admitted entriesOf all oneEach proven checked kinds ofKind framed messageIn decode rules place field fields joined body encode isOrder blankSignature noRegister bankStep ordered takeOrder freshRegister registerStep onRequest expected bankAfter sameButSignature prefixedIn requestIn orderIn receivedIn recordedIn entryIn judgedWithin judgedFrom judged allBytes
+unfolding fromBytes toBytes guard within same has isPublicKey admits admitted entriesOf all oneEach proven checked kinds ofKind framed messageIn decode rules place field fields joined body encode isOrder blankSignature noRegister bankStep ordered takeOrder freshRegister registerStep onRequest expected bankAfter sameButSignature prefixedIn requestIn orderIn receivedIn recordedIn entryIn judgedWithin judgedFrom judged logBytes
 judging = tt
 
 -- A key that no order is signed under.
@@ -43,7 +43,7 @@ card-5 register signature = 3 ∷ 39 ∷ 8 ∷ 2 ∷ 0 ∷ 0 ∷ 0 ∷ 0 ∷ 0 �
 pub log : ℕ → ℕ → ℕ → ℕ → List ℕ
 log register signature number other =
     headBytes 1 (record { 0 = 2 }) key
-    ++ allBytes
+    ++ logBytes
     (record { received = request-handed read-5 (1 ∷ []); recorded = replied (card-5 register signature) }
     ∷ record { received = request-handed (120 ∷ []) []; recorded = refusal number }
     ∷ record { received = order-handed (120 ∷ []); recorded = refusal other }

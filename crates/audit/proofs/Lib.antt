@@ -1,3 +1,4 @@
+pub mod Agreeing
 pub mod Answered
 pub mod CallsMade
 pub mod Common

@@ -13,7 +13,7 @@ use lib.Seq.{take-append-le, drop-append-le}
 use Rattle.base.specs.BigEndian.{fromBytes, Bytes}
 use Rattle.base.proofs.Apart.{apart}
 use Rattle.base.proofs.BigEndian.{fromBytes-below, bytes-take, bytes-drop}
-use Rattle.audit.specs.Log.{Front, front, _then_, byteIn, lengthIn, prefixedIn}
+use Rattle.audit.specs.Log.{Front, frontOf, _then_, byteIn, lengthIn, prefixedIn}
 
 -- One thing after another: both are there.
 pub then-some : {A B : Type 0} (o : Option A) (next : A → Option B) (b : B) → (o then next) ≡ some b → (a : A) × (o ≡ some a) × (next a ≡ some b)
@@ -22,7 +22,7 @@ then-some (some a) next b e = (a, refl, e)
 
 -- The same with more bytes behind.
 abbrev pub followed : {A : Type 0} → List ℕ → Front A → Front A
-followed more r = front (r .item) (r .rest ++ more)
+followed more r = frontOf (r .item) (r .rest ++ more)
 
 -- It is there, with at most so many bytes; or it never will be, whatever comes behind.
 pub data Sure {A : Type 0} (read : List ℕ → Option (Front A)) (most : ℕ) (bytes : List ℕ) : Type 0 where
@@ -44,22 +44,22 @@ byte-reader = record { stays = stays; uses = uses; sure = sure }
   where
     stays : (bytes more : List ℕ) (r : Front ℕ) → byteIn bytes ≡ some r → byteIn (bytes ++ more) ≡ some (followed more r)
     stays [] more r e = apart (cc)
-    stays (b ∷ bytes) more r e = let same : front b bytes ≡ r = cc in ap (λ (r : Front ℕ). some (followed more r)) same
+    stays (b ∷ bytes) more r e = let same : frontOf b bytes ≡ r = cc in ap (λ (r : Front ℕ). some (followed more r)) same
 
     uses : (bytes : List ℕ) (r : Front ℕ) → byteIn bytes ≡ some r → length (r .rest) + 1 ≤ length bytes
     uses [] r e = apart (cc)
-    uses (b ∷ bytes) r e = let same : front b bytes ≡ r = cc in rw (← same) (omega arith)
+    uses (b ∷ bytes) r e = let same : frontOf b bytes ≡ r = cc in rw (← same) (omega arith)
 
     sure : (bytes : List ℕ) → Bytes bytes → 1 ≤ length bytes → Sure byteIn 1 bytes
     sure [] small long = absurd (omega arith)
-    sure (b ∷ bytes) small long = found (front b bytes) refl (λ i. small (suc i)) (omega arith)
+    sure (b ∷ bytes) small long = found (frontOf b bytes) refl (λ i. small (suc i)) (omega arith)
 
-pub item-reader : {A : Type 0} (item : A) → Reader (λ bytes. some (front item bytes)) 0 0
+pub item-reader : {A : Type 0} (item : A) → Reader (λ bytes. some (frontOf item bytes)) 0 0
 item-reader {A} item =
     record {
-      stays = λ bytes more r e. let same : front item bytes ≡ r = cc in ap (λ (r : Front A). some (followed more r)) same;
-      uses = λ bytes r e. let same : front item bytes ≡ r = cc in rw (← same) (omega arith);
-      sure = λ bytes small long. found (front item bytes) refl small (omega arith);
+      stays = λ bytes more r e. let same : frontOf item bytes ≡ r = cc in ap (λ (r : Front A). some (followed more r)) same;
+      uses = λ bytes r e. let same : frontOf item bytes ≡ r = cc in rw (← same) (omega arith);
+      sure = λ bytes small long. found (frontOf item bytes) refl small (omega arith);
     }
 
 pub none-reader : {A : Type 0} (least most : ℕ) → Reader {A = A} (λ bytes. none) least most
@@ -69,7 +69,7 @@ none-reader {A} least most = record { stays = λ bytes more r e. apart (cc); use
 
 module _ (bytes : List ℕ) where
   abbrev pub prefixedFront : Front (List ℕ)
-  prefixedFront = front (take (lengthIn bytes) (drop 2 bytes)) (drop (2 + lengthIn bytes) bytes)
+  prefixedFront = frontOf (take (lengthIn bytes) (drop 2 bytes)) (drop (2 + lengthIn bytes) bytes)
 
   pub prefixed-whole : 2 + lengthIn bytes ≤ length bytes → prefixedIn bytes ≡ some prefixedFront
   unfolding prefixedIn

@@ -13,13 +13,13 @@ use Rattle.base.specs.BigEndian.{fromBytes, toBytes, Bytes}
 use Rattle.base.proofs.Apart.{apart}
 use Rattle.base.proofs.BigEndian.{length-toBytes, fromBytes-toBytes, toBytes-fromBytes, bytes-take}
 use Rattle.protocol.specs.Events.{ReplicaEvent, request-handed, order-handed}
-use Rattle.audit.specs.Log.{Recorded, replied, refusal, LogEntry, Front, front, _then_, lengthIn, prefixedIn, requestIn, orderIn, callOpenedBy, receivedIn, answerOpenedBy, recordedIn, entryIn}
+use Rattle.audit.specs.Log.{Recorded, replied, refusal, LogEntry, Front, frontOf, _then_, lengthIn, prefixedIn, requestIn, orderIn, callOpenedBy, receivedIn, answerOpenedBy, recordedIn, entryIn}
 use Rattle.audit.specs.Replaying.{prefixedBytes, receivedBytes, recordedBytes, entryBytes, ReceivedFits, RecordedFits, WellFormed}
 use Rattle.audit.proofs.Readers.{then-some, prefixedFront, prefixed-whole, prefixed-found, length-below}
 
 -- ---- Writing, then reading
 
-prefixed-parts : (xs rest : List ℕ) → length xs < 65_536 → prefixedIn (toBytes 2 (length xs) ++ (xs ++ rest)) ≡ some (front xs rest)
+prefixed-parts : (xs rest : List ℕ) → length xs < 65_536 → prefixedIn (toBytes 2 (length xs) ++ (xs ++ rest)) ≡ some (frontOf xs rest)
 prefixed-parts xs rest short =
     let n = length xs in
     let bytes = toBytes 2 n ++ (xs ++ rest) in
@@ -29,25 +29,25 @@ prefixed-parts xs rest short =
     let behind : drop 2 bytes ≡ xs ++ rest = drop-at (toBytes 2 n) (xs ++ rest) 2 size in
     let end : drop (2 + n) bytes ≡ rest = sym (drop-drop n 2 bytes) ∙ ap (drop n) behind ∙ drop-append-seam xs rest in
     let item : take n (drop 2 bytes) ≡ xs = ap (take n) behind ∙ take-append-seam xs rest in
-    prefixed-whole bytes (omega (arith, count, long)) ∙ ap (λ (k : ℕ). some (front (take k (drop 2 bytes)) (drop (2 + k) bytes))) count
-    ∙ ap (λ (l : List ℕ). some (front l (drop (2 + n) bytes))) item ∙ ap (λ (l : List ℕ). some (front xs l)) end
+    prefixed-whole bytes (omega (arith, count, long)) ∙ ap (λ (k : ℕ). some (frontOf (take k (drop 2 bytes)) (drop (2 + k) bytes))) count
+    ∙ ap (λ (l : List ℕ). some (frontOf l (drop (2 + n) bytes))) item ∙ ap (λ (l : List ℕ). some (frontOf xs l)) end
 
-prefixed-written : (xs rest : List ℕ) → length xs < 65_536 → prefixedIn (prefixedBytes xs ++ rest) ≡ some (front xs rest)
+prefixed-written : (xs rest : List ℕ) → length xs < 65_536 → prefixedIn (prefixedBytes xs ++ rest) ≡ some (frontOf xs rest)
 prefixed-written xs rest short = ap prefixedIn (append-assoc (toBytes 2 (length xs)) xs rest) ∙ prefixed-parts xs rest short
 
-received-written : (call : ReplicaEvent) (rest : List ℕ) → ReceivedFits call → receivedIn (receivedBytes call ++ rest) ≡ some (front call rest)
+received-written : (call : ReplicaEvent) (rest : List ℕ) → ReceivedFits call → receivedIn (receivedBytes call ++ rest) ≡ some (frontOf call rest)
 unfolding receivedIn requestIn orderIn
 received-written (request-handed bytes verdicts) rest fits =
     ap requestIn (append-assoc (prefixedBytes bytes) (prefixedBytes verdicts) rest)
     ∙ rw (prefixed-written bytes (prefixedBytes verdicts ++ rest) (fits .0), prefixed-written verdicts rest (fits .1))
 received-written (order-handed order) rest fits = rw (prefixed-written order rest fits)
 
-recorded-written : (answer : Recorded) (rest : List ℕ) → RecordedFits answer → recordedIn (recordedBytes answer ++ rest) ≡ some (front answer rest)
+recorded-written : (answer : Recorded) (rest : List ℕ) → RecordedFits answer → recordedIn (recordedBytes answer ++ rest) ≡ some (frontOf answer rest)
 unfolding recordedIn
 recorded-written (replied reply) rest fits = rw (prefixed-written reply rest fits)
 recorded-written (refusal number) rest fits = rw (ne-eqb number 0 (omega (arith, fits .0)))
 
-pub entry-written : (e : LogEntry) (rest : List ℕ) → WellFormed e → entryIn (entryBytes e ++ rest) ≡ some (front e rest)
+pub entry-written : (e : LogEntry) (rest : List ℕ) → WellFormed e → entryIn (entryBytes e ++ rest) ≡ some (frontOf e rest)
 unfolding entryIn
 entry-written e rest fits =
     ap entryIn (append-assoc (receivedBytes (e .received)) (recordedBytes (e .recorded)) rest)
@@ -95,11 +95,11 @@ module _ (b : ℕ) (bytes : List ℕ) (small : Bytes (b ∷ bytes)) where
   request-reads r e z =
       let m = then-some (prefixedIn bytes) _ r e in
       let v = then-some (prefixedIn (m .0 .rest)) _ r (m .2) in
-      let same : front (request-handed (m .0 .item) (v .0 .item)) (v .0 .rest) ≡ r = let e = v .2 in cc in
+      let same : frontOf (request-handed (m .0 .item) (v .0 .item)) (v .0 .rest) ≡ r = let e = v .2 in cc in
       let first = prefixed-reads bytes small-behind (m .0) (m .1) in
       let second = prefixed-reads (m .0 .rest) (first .small-rest) (v .0) (v .1) in
       rw (← same)
-      (written receivedBytes ReceivedFits (b ∷ bytes) (front (request-handed (m .0 .item) (v .0 .item)) (v .0 .rest)) small
+      (written receivedBytes ReceivedFits (b ∷ bytes) (frontOf (request-handed (m .0 .item) (v .0 .item)) (v .0 .rest)) small
       (ap (λ (x : ℕ). x ∷ bytes) z ∙ ap (λ (l : List ℕ). 0 ∷ l) (first .is ∙ ap (λ (l : List ℕ). prefixedBytes (m .0 .item) ++ l) (second .is)
       ∙ sym (append-assoc (prefixedBytes (m .0 .item)) (prefixedBytes (v .0 .item)) (v .0 .rest))))
       (first .fits, second .fits))
@@ -108,10 +108,10 @@ module _ (b : ℕ) (bytes : List ℕ) (small : Bytes (b ∷ bytes)) where
   unfolding orderIn
   order-reads r e one =
       let o = then-some (prefixedIn bytes) _ r e in
-      let same : front (order-handed (o .0 .item)) (o .0 .rest) ≡ r = let e = o .2 in cc in
+      let same : frontOf (order-handed (o .0 .item)) (o .0 .rest) ≡ r = let e = o .2 in cc in
       let first = prefixed-reads bytes small-behind (o .0) (o .1) in
       rw (← same)
-      (written receivedBytes ReceivedFits (b ∷ bytes) (front (order-handed (o .0 .item)) (o .0 .rest)) small (ap (λ (x : ℕ). x ∷ bytes) one ∙ ap (λ (l : List ℕ). 1 ∷ l) (first .is)) (first .fits))
+      (written receivedBytes ReceivedFits (b ∷ bytes) (frontOf (order-handed (o .0 .item)) (o .0 .rest)) small (ap (λ (x : ℕ). x ∷ bytes) one ∙ ap (λ (l : List ℕ). 1 ∷ l) (first .is)) (first .fits))
 
   call-reads : (r : Front ReplicaEvent) → callOpenedBy b bytes ≡ some r → WrittenAs receivedBytes ReceivedFits (b ∷ bytes) r
   call-reads r e = go (eqb b 0) (eqb b 1) refl refl e
@@ -124,19 +124,19 @@ module _ (b : ℕ) (bytes : List ℕ) (small : Bytes (b ∷ bytes)) where
   answer-reads : (r : Front Recorded) → answerOpenedBy b bytes ≡ some r → WrittenAs recordedBytes RecordedFits (b ∷ bytes) r
   answer-reads r e = go (eqb b 0) refl e
     where
-      go : (t : Bool) → eqb b 0 ≡ t → cond t (prefixedIn bytes then λ c. some (front (replied (c .item)) (c .rest))) (some (front (refusal b) bytes)) ≡ some r
+      go : (t : Bool) → eqb b 0 ≡ t → cond t (prefixedIn bytes then λ c. some (frontOf (replied (c .item)) (c .rest))) (some (frontOf (refusal b) bytes)) ≡ some r
           → WrittenAs recordedBytes RecordedFits (b ∷ bytes) r
       go true t e =
           let c = then-some (prefixedIn bytes) _ r e in
-          let same : front (replied (c .0 .item)) (c .0 .rest) ≡ r = let e = c .2 in cc in
+          let same : frontOf (replied (c .0 .item)) (c .0 .rest) ≡ r = let e = c .2 in cc in
           let reads = prefixed-reads bytes small-behind (c .0) (c .1) in
           rw (← same)
-          (written recordedBytes RecordedFits (b ∷ bytes) (front (replied (c .0 .item)) (c .0 .rest)) small
+          (written recordedBytes RecordedFits (b ∷ bytes) (frontOf (replied (c .0 .item)) (c .0 .rest)) small
           (ap (λ (x : ℕ). x ∷ bytes) (eqb-true b 0 t) ∙ ap (λ (l : List ℕ). 0 ∷ l) (reads .is)) (reads .fits))
       go false t e =
-          let same : front (refusal b) bytes ≡ r = cc in
+          let same : frontOf (refusal b) bytes ≡ r = cc in
           let other = eqb-false b 0 t in
-          rw (← same) (written recordedBytes RecordedFits (b ∷ bytes) (front (refusal b) bytes) small refl (omega arith, small 0))
+          rw (← same) (written recordedBytes RecordedFits (b ∷ bytes) (frontOf (refusal b) bytes) small refl (omega arith, small 0))
 
 received-reads : (bytes : List ℕ) → Bytes bytes → (r : Front ReplicaEvent) → receivedIn bytes ≡ some r → WrittenAs receivedBytes ReceivedFits bytes r
 unfolding receivedIn
@@ -153,7 +153,7 @@ unfolding entryIn
 entry-reads bytes small r e =
     let c = then-some (receivedIn bytes) _ r e in
     let a = then-some (recordedIn (c .0 .rest)) _ r (c .2) in
-    let same : front (record { received = c .0 .item; recorded = a .0 .item }) (a .0 .rest) ≡ r = let e = a .2 in cc in
+    let same : frontOf (record { received = c .0 .item; recorded = a .0 .item }) (a .0 .rest) ≡ r = let e = a .2 in cc in
     let first = received-reads bytes small (c .0) (c .1) in
     let second = recorded-reads (c .0 .rest) (first .small-rest) (a .0) (a .1) in
     rw (← same) (

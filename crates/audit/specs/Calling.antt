@@ -23,6 +23,7 @@ abbrev pub asReply : Taking → ReplicaAnswer
 asReply Taken = Send 0
 asReply (NotTaken number) = Refused number
 
+-- What is answered, and the bank that is left.
 pub record MakesCall (bank : Bank) (call : ReplicaEvent) (r : Called) : Type 0 where
   pub answers : answeredBy (r .answer) (r .out) ≡ expected bank call
   pub leaves : r .bank ≡ bankAfter bank call

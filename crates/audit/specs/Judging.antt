@@ -10,15 +10,18 @@ use Rattle.protocol.specs.Bank.{bankIfSetUp}
 use Rattle.protocol.specs.declared.replica.Bank.{Bank}
 use Rattle.bank.specs.declared.NewBank.{NewBank}
 use Rattle.audit.specs.Log.{LogEntry, expected, bankAfter, agrees, Judgement, right, wrong, judgedFrom, headOutcome, freshIn}
+use Rattle.audit.specs.Replaying.{logBytes, AllAgree, bankAfterAll}
 use Rattle.audit.specs.declared.judging.Checked.{Checked}
 use Rattle.audit.specs.declared.judging.Finding.{Finding}
 use Rattle.audit.specs.declared.judging.Finding.the-variants.{Right, Wrong, More}
 use Rattle.audit.specs.declared.judging.PartJudged.{PartJudged}
 
-pub record Checks (bank : Bank) (e : LogEntry) (r : Checked) : Type 0 where
+-- Whether an entry agrees, and the bank that its call leaves if it does.
+pub record ChecksEntry (bank : Bank) (e : LogEntry) (r : Checked) : Type 0 where
   pub agrees-is : r .agrees ≡ agrees (expected bank (e .received)) (e .recorded)
   pub next : r .bank ≡ cond (r .agrees) (bankAfter bank (e .received)) bank
 
+-- An opening byte, three lengths with 65,535 bytes each, and the answer's byte.
 abbrev pub longestEntry : ℕ
 longestEntry = 196_613
 
@@ -36,14 +39,22 @@ foundBy More bank number bytes = judgedFrom bank number bytes
 abbrev pub MayFollow : Bool → List ℕ → Type 0
 MayFollow last rest = cond last rest [] ≡ []
 
--- A part of a log that starts with an entry of any number, whatever comes behind it.
-pub record Judges (bank : Bank) (part : List ℕ) (last : Bool) (r : PartJudged) : Type 0 where
-  -- What was used are entries that agree, and the bank is the one that they left, also where the next entry is wrong,
-  pub leads : (number : ℕ) (rest : List ℕ) → MayFollow last rest → judgedFrom bank number (part ++ rest) ≡ judgedFrom (r .bank) (number + r .agreed) (drop (r .used) part ++ rest)
-  -- and this is found behind them.
+-- Some bytes of a part are entries that agree, so many, and leave this bank.
+pub record Agreed (bank : Bank) (part : List ℕ) (agreed used : ℕ) (left : Bank) : Type 0 where
+  pub entries : List LogEntry
+  pub agree : AllAgree bank entries
+  pub many : agreed ≡ length entries
+  pub written : part ≡ logBytes entries ++ drop used part
+  pub leaves : left ≡ bankAfterAll bank entries
+  pub inside : used ≤ length part
+
+-- A part of a log, whatever number its first entry has and whatever comes behind it.
+pub record JudgesPart (bank : Bank) (part : List ℕ) (last : Bool) (r : PartJudged) : Type 0 where
+  -- What was used agrees, and the bank is the one that it left, also where the next entry is wrong;
+  pub agreed : Agreed bank part (r .agreed) (r .used) (r .bank)
+  -- and this is found behind it.
   pub finds : (number : ℕ) (rest : List ℕ) → MayFollow last rest
       → judgedFrom (r .bank) number (drop (r .used) part ++ rest) ≡ foundBy (r .finding) (r .bank) number (drop (r .used) part ++ rest)
-  pub inside : r .used ≤ length part
   -- More is awaited only behind a part that is not the last, and what is left of it is shorter than the longest entry.
   pub awaits : r .finding ≡ More → (last ≡ false) × (length part < r .used + longestEntry)
 

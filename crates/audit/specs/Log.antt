@@ -66,8 +66,8 @@ pub record Front (A : Type 0) : Type 0 where
   pub item : A
   pub rest : List ℕ
 
-abbrev pub front : {A : Type 0} → A → List ℕ → Front A
-front item rest = record { item = item; rest = rest }
+abbrev pub frontOf : {A : Type 0} → A → List ℕ → Front A
+frontOf item rest = record { item = item; rest = rest }
 
 -- One thing after another: none if either is missing.
 infixl 20 _then_
@@ -77,21 +77,21 @@ some a then next = next a
 
 abbrev pub byteIn : List ℕ → Option (Front ℕ)
 byteIn [] = none
-byteIn (b ∷ bytes) = some (front b bytes)
+byteIn (b ∷ bytes) = some (frontOf b bytes)
 
 -- "a length (2 bytes) and the bytes": none where they are "cut short".
 abbrev pub lengthIn : List ℕ → ℕ
 lengthIn bytes = fromBytes (take 2 bytes)
 
 unfoldable pub prefixedIn : List ℕ → Option (Front (List ℕ))
-prefixedIn bytes = cond (leb (2 + lengthIn bytes) (length bytes)) (some (front (take (lengthIn bytes) (drop 2 bytes)) (drop (2 + lengthIn bytes) bytes))) none
+prefixedIn bytes = cond (leb (2 + lengthIn bytes) (length bytes)) (some (frontOf (take (lengthIn bytes) (drop 2 bytes)) (drop (2 + lengthIn bytes) bytes))) none
 
 -- "a length (2 bytes) and the bytes received, a length (2) and the marks (neither for an order)"
 unfoldable pub requestIn : List ℕ → Option (Front ReplicaEvent)
-requestIn bytes = prefixedIn bytes then λ message. prefixedIn (message .rest) then λ verdicts. some (front (request-handed (message .item) (verdicts .item)) (verdicts .rest))
+requestIn bytes = prefixedIn bytes then λ message. prefixedIn (message .rest) then λ verdicts. some (frontOf (request-handed (message .item) (verdicts .item)) (verdicts .rest))
 
 unfoldable pub orderIn : List ℕ → Option (Front ReplicaEvent)
-orderIn bytes = prefixedIn bytes then λ order. some (front (order-handed (order .item)) (order .rest))
+orderIn bytes = prefixedIn bytes then λ order. some (frontOf (order-handed (order .item)) (order .rest))
 
 -- "a byte (0 message, 1 order)": none where it "opens with another byte".
 abbrev pub callOpenedBy : ℕ → List ℕ → Option (Front ReplicaEvent)
@@ -102,13 +102,13 @@ receivedIn bytes = byteIn bytes then λ opening. callOpenedBy (opening .item) (o
 
 -- "then a byte 0, a length (2) and the reply (length 0 for "taken"), or the refusal number as one byte"
 abbrev pub answerOpenedBy : ℕ → List ℕ → Option (Front Recorded)
-answerOpenedBy b bytes = cond (eqb b 0) (prefixedIn bytes then λ reply. some (front (replied (reply .item)) (reply .rest))) (some (front (refusal b) bytes))
+answerOpenedBy b bytes = cond (eqb b 0) (prefixedIn bytes then λ reply. some (frontOf (replied (reply .item)) (reply .rest))) (some (frontOf (refusal b) bytes))
 
 unfoldable pub recordedIn : List ℕ → Option (Front Recorded)
 recordedIn bytes = byteIn bytes then λ opening. answerOpenedBy (opening .item) (opening .rest)
 
 unfoldable pub entryIn : List ℕ → Option (Front LogEntry)
-entryIn bytes = receivedIn bytes then λ call. recordedIn (call .rest) then λ answer. some (front (record { received = call .item; recorded = answer .item }) (answer .rest))
+entryIn bytes = receivedIn bytes then λ call. recordedIn (call .rest) then λ answer. some (frontOf (record { received = call .item; recorded = answer .item }) (answer .rest))
 
 -- ---- The judgement
 
@@ -122,13 +122,13 @@ judgedBy bank number none next = wrong number
 judgedBy bank number (some e) next =
     cond (agrees (expected bank (e .item .received)) (e .item .recorded)) (next (bankAfter bank (e .item .received)) (e .rest)) (wrong number)
 
--- At most so many entries.
+-- At most so many entries. Where the bound is the number of bytes it is never reached: an entry has at least one.
 unfoldable pub judgedWithin : ℕ → Bank → ℕ → List ℕ → Judgement
 judgedWithin zero bank number bytes = right
 judgedWithin (suc more) bank number [] = right
 judgedWithin (suc more) bank number (b ∷ bytes) = judgedBy bank number (entryIn (b ∷ bytes)) (λ next rest. judgedWithin more next (suc number) rest)
 
--- The entries from one of that number on, at the bank that the calls before left. Bytes hold no more entries than they are.
+-- The entries from one of that number on, at the bank that the calls before left.
 unfoldable pub judgedFrom : Bank → ℕ → List ℕ → Judgement
 judgedFrom bank number bytes = judgedWithin (length bytes) bank number bytes
 

@@ -14,7 +14,7 @@ use Rattle.protocol.specs.Events.{ReplicaEvent, request-handed, order-handed, H
 use Rattle.protocol.specs.declared.replica.Bank.{Bank}
 use Rattle.run.specs.Run.{Event, at-replica, at-client, Run, answerTo}
 use Rattle.audit.specs.Log.{Recorded, replied, refusal, LogEntry, sentFor, expected, bankAfter, beforeSignature}
-use Rattle.audit.specs.Replaying.{allBytes, headBytes}
+use Rattle.audit.specs.Replaying.{logBytes, headBytes}
 
 -- A reply with its signature, cut or filled to 64 bytes; a taken order's answer has neither.
 abbrev pub signedWith : List ℕ → List ℕ → List ℕ
@@ -41,9 +41,9 @@ entriesFor bank (call ∷ calls) signatures at =
     cond (isLogged call) (entryFor bank call (signatures at) ∷ later) later
 
 abbrev pub logOf : ℕ → ReplicaId → List ℕ → List ReplicaEvent → (ℕ → List ℕ) → List ℕ
-logOf f id key calls signatures = headBytes f id key ++ allBytes (entriesFor (freshBank f id key) calls signatures 0)
+logOf f id key calls signatures = headBytes f id key ++ logBytes (entriesFor (freshBank f id key) calls signatures 0)
 
--- All that is received is bytes.
+-- Messages and orders are bytes; verdicts may be any numbers.
 abbrev pub AllHandBytes : List ReplicaEvent → Type 0
 AllHandBytes [] = Unit {0}
 AllHandBytes (call ∷ calls) = HandsBytes call × AllHandBytes calls
@@ -62,4 +62,4 @@ module _ (R : Run) (id : ReplicaId) (signatures : ℕ → List ℕ) where
   entriesInRun t (at-replica at e ∷ events) = cond (eqb (at .0) (id .0) && isLogged e) (entryInRun t e ∷ entriesInRun (suc t) events) (entriesInRun (suc t) events)
 
   abbrev pub logInRun : List ℕ
-  logInRun = headBytes (R .f) id (R .office-key id) ++ allBytes (entriesInRun 0 (R .events))
+  logInRun = headBytes (R .f) id (R .office-key id) ++ logBytes (entriesInRun 0 (R .events))

@@ -1,16 +1,17 @@
 -- Whole logs as data: what an accepted log and a wrong one are.
 use mathlib.Core.Path.{_≡_}
 use mathlib.Core.Bool.{true}
+use mathlib.Core.Logic.{_⊎_}
 use mathlib.Core.List.{List, [], _∷_, _++_}
 use Prim.Native.Nat.{ℕ, _≤_, _<_}
 use lib.ListN.{length}
 use Rattle.base.specs.BigEndian.{toBytes}
-use Rattle.base.specs.Outcome.{accepted}
+use Rattle.base.specs.Outcome.{accepted, refused}
 use Rattle.base.specs.declared.party.ReplicaId.{ReplicaId}
 use Rattle.protocol.specs.Bank.{freshBank, bankSetup}
 use Rattle.protocol.specs.Events.{ReplicaEvent, request-handed, order-handed}
 use Rattle.protocol.specs.declared.replica.Bank.{Bank}
-use Rattle.audit.specs.Log.{Recorded, replied, refusal, LogEntry, expected, bankAfter, agrees}
+use Rattle.audit.specs.Log.{Recorded, replied, refusal, LogEntry, expected, bankAfter, agrees, headLength, setUpIn}
 
 -- ---- The bytes of an entry, and of a log
 
@@ -28,9 +29,9 @@ recordedBytes (refusal number) = number ∷ []
 abbrev pub entryBytes : LogEntry → List ℕ
 entryBytes e = receivedBytes (e .received) ++ recordedBytes (e .recorded)
 
-unfoldable pub allBytes : List LogEntry → List ℕ
-allBytes [] = []
-allBytes (e ∷ entries) = entryBytes e ++ allBytes entries
+unfoldable pub logBytes : List LogEntry → List ℕ
+logBytes [] = []
+logBytes (e ∷ entries) = entryBytes e ++ logBytes entries
 
 abbrev pub headBytes : ℕ → ReplicaId → List ℕ → List ℕ
 headBytes f id key = f ∷ id .0 ∷ key
@@ -75,7 +76,7 @@ pub record Replays (log : List ℕ) : Type 0 where
   pub entries : List LogEntry
   pub set-up : bankSetup f id key ≡ accepted tt
   pub agree : AllAgree (freshBank f id key) entries
-  pub written : log ≡ headBytes f id key ++ allBytes entries
+  pub written : log ≡ headBytes f id key ++ logBytes entries
 
 -- So it is for n entries, and then something follows that starts with no entry that agrees.
 pub record Stops (log : List ℕ) (n : ℕ) : Type 0 where
@@ -87,6 +88,10 @@ pub record Stops (log : List ℕ) (n : ℕ) : Type 0 where
   pub set-up : bankSetup f id key ≡ accepted tt
   pub agree : AllAgree (freshBank f id key) entries
   pub many : length entries ≡ n
-  pub written : log ≡ headBytes f id key ++ (allBytes entries ++ rest)
+  pub written : log ≡ headBytes f id key ++ (logBytes entries ++ rest)
   pub more : rest ≡ [] → ⊥
   pub stops : (e : LogEntry) (behind : List ℕ) → rest ≡ entryBytes e ++ behind → Agrees (bankAfterAll (freshBank f id key) entries) e → ⊥
+
+-- "0 for a short or refused head"
+abbrev pub HeadFails : List ℕ → Type 0
+HeadFails log = (length log < headLength) ⊎ (setUpIn log ≡ refused 16)

@@ -1,25 +1,19 @@
 // Whether what a log says was answered is what a replica answers.
 use base::bytes::same;
+use base::numbers::difference;
 use base::slices::front;
 use protocol::replica::ReplicaAnswer;
+use wire::layout::SIGNATURE;
 ghost use mathlib.Core.Path.{_≡_};
-ghost use Prim.Native.Nat.{_-_};
 ghost use Rattle.audit.specs.Calling.{answeredBy};
 ghost use Rattle.audit.specs.Comparing.{common};
-ghost use Rattle.audit.specs.Log.{agrees, sameButSignature};
+ghost use Rattle.audit.specs.Log.{agrees, beforeSignature, sameButSignature};
 ghost use Rattle.audit.specs.Reading.{recordedAs};
 
-const SIGNATURE: usize = 64;
-
-// The bytes before the signature.
-fn before_signature(length: usize) -> usize
-    ensures { λ r. ⌜ r ≡ length - 64 ⌝ }
+fn before_signature(reply: &[u8]) -> &[u8]
+    ensures { λ r. ⌜ now r ≡ beforeSignature (now (reply .entry)) ⌝ }
 {
-    if length < SIGNATURE {
-        0
-    } else {
-        length - SIGNATURE
-    }
+    front(reply, difference(reply.len(), SIGNATURE))
 }
 
 fn same_but_signature(sent: &[u8], reply: &[u8]) -> bool
@@ -28,8 +22,7 @@ fn same_but_signature(sent: &[u8], reply: &[u8]) -> bool
     if sent.len() != reply.len() {
         return false;
     }
-    let count = before_signature(sent.len());
-    same(front(sent, count), front(reply, count))
+    same(before_signature(sent), before_signature(reply))
 }
 
 // The replica's answer, its reply in front of `out`; and the log's: the refusal, or 0 and the reply.

@@ -10,7 +10,7 @@ use base::slices::behind;
 use base::slices::between;
 use protocol::replica::Bank;
 ghost use mathlib.Core.Path.{_≡_};
-ghost use Rattle.audit.specs.Judging.{Checks, endingFor, Judges, SetsUp};
+ghost use Rattle.audit.specs.Judging.{ChecksEntry, endingFor, JudgesPart, SetsUp};
 ghost use Rattle.audit.specs.Reading.{entryBy};
 
 // The longest entry: an opening byte, three lengths with 65,535 bytes each, and the answer's byte.
@@ -38,7 +38,7 @@ pub struct Checked {
 
 // Whether an entry agrees with what the bank answers, and the bank that its call leaves; if not, the bank as it was.
 fn check_entry(bank: Bank, bytes: &[u8], places: EntryPlaces) -> Checked
-    ensures { λ r. ⌜ Checks bank (entryBy (now (bytes .entry)) places) r ⌝ }
+    ensures { λ r. ⌜ ChecksEntry bank (entryBy (now (bytes .entry)) places) r ⌝ }
 {
     let call = places.call;
     let called = call_at(bank, bytes, call);
@@ -76,7 +76,7 @@ fn ending(bytes: &[u8], last: bool) -> Finding
 
 // The entries of a part of a log, after which more may come unless it is the last.
 pub fn judge_part(bank: Bank, part: &[u8], last: bool) -> PartJudged
-    ensures { λ r. ⌜ Judges bank (now (part .entry)) last r ⌝ }
+    ensures { λ r. ⌜ JudgesPart bank (now (part .entry)) last r ⌝ }
 {
     let mut left = bank;
     let mut agreed = 0;

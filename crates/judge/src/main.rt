@@ -77,7 +77,8 @@ fn end_with(finding: Finding, bank: Bank, bytes: &[u8], number: u64) {
     }
 }
 
-// The entries, of which the first stand in front of the window. What is left of each part goes to the front, and more is read behind it.
+// The entries, of which the first stand in front of the window. What is left of each part goes to the front, and more is read
+// behind it.
 fn judge(bank: Bank, window: &mut [u8], filled: usize) {
     let mut left = bank;
     let mut end = filled;

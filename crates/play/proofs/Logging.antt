@@ -10,11 +10,11 @@ use lib.ListN.{length, getD, take, drop, set, length-set, length-drop, take-appe
 use lib.Seq.{take-all, take-nil, drop-drop, getD-set-same, getD-set-other}
 use Rattle.base.specs.BigEndian.{Bytes}
 use Rattle.wire.specs.Decode.{registerIn}
-use Rattle.wire.specs.Message.{Message, IsSignature, Legal, size, longest}
+use Rattle.wire.specs.Message.{Message, Legal, size, longest}
 use Rattle.wire.specs.Writing.{unsigned, inFront, blankSignature}
 use Rattle.wire.proofs.RoundTrip.{register-encoded}
 use Rattle.wire.proofs.Size.{encode-size}
-use Rattle.protocol.proofs.ArrayLaws.{zeros-fit, replaced-length, replaced-bytes, replaced-here, replaced-before}
+use Rattle.protocol.proofs.ArrayLaws.{blank-signature, replaced-length, replaced-bytes, replaced-here, replaced-before}
 use Rattle.protocol.proofs.MessageBytes.{unsigned-bytes}
 use Rattle.play.specs.Calls.{theRegister, sentBefore, free}
 use Rattle.play.specs.Log.{start, sentLength, message, logged}
@@ -38,10 +38,6 @@ take-swap zero b l = sym (take-nil {A = ℕ} b)
 take-swap (suc a) zero l = refl
 take-swap (suc a) (suc b) [] = refl
 take-swap (suc a) (suc b) (x ∷ l) = ap (λ (rest : List ℕ). x ∷ rest) (take-swap a b l)
-
-blank-signature : IsSignature blankSignature
-unfolding blankSignature
-blank-signature = zeros-fit 64
 
 module _ (log : Log) (store : List ℕ) (logs : Logs log store) (m : Message) (legal : Legal theRegister m) (roomy : longest ≤ length (free log store)) where
   abbrev sent : List ℕ

@@ -13,8 +13,9 @@ use Rattle.base.specs.BigEndian.{Bytes}
 use Rattle.base.specs.Bytes.{filled}
 use Rattle.base.proofs.BigEndian.{bytes-append, bytes-take, bytes-drop}
 use Rattle.base.proofs.Filling.{zeros, filled-length, filled-zeros}
-use Rattle.wire.specs.Message.{EachFits, EntriesFit, IfThere, proofSize}
+use Rattle.wire.specs.Message.{IsSignature, EachFits, EntriesFit, IfThere, proofSize}
 use Rattle.wire.specs.Proof.{Entry, PreparedProof, entriesBytes, readEntries}
+use Rattle.wire.specs.Writing.{blankSignature}
 use Rattle.wire.proofs.ProofBytes.{length-entries, read-entries, length-read, fits-read}
 use Rattle.protocol.specs.Parts.{cardKept, entriesKept, ifIssued}
 use Rattle.protocol.proofs.Fit.{Array}
@@ -36,6 +37,10 @@ bytes-cons x bytes h hs (suc i) = hs i
 
 pub zeros-fit : (width : ℕ) → Array width (replicate width 0)
 zeros-fit width = (length-replicate width 0, bytes-zeros width)
+
+pub blank-signature : IsSignature blankSignature
+unfolding blankSignature
+blank-signature = zeros-fit 64
 
 -- ---- Zeros behind
 

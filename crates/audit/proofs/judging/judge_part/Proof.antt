@@ -4,12 +4,12 @@ use native.Mathlib.Omega.{arith}
 use borrow.Author.Needs.{needs}
 use borrow.Author.Tests.{not-true, not-false}
 use lib.ListN.{length}
-use Rattle.audit.proofs.Parts.{Leads, EntryTurn, start, ends, turn}
+use Rattle.audit.proofs.Parts.{SoFar, EntryTurn, start, ends, turn}
 use Rattle.audit.proofs.judging.judge_part.Statement.{statement}
 use Rattle.audit.proofs.judging.judge_part.Tie as tie
 
 abbrev Inv-loop : tie.InvT-loop
-Inv-loop part last left₀ agreed₀ used₀ left agreed used = Leads left₀ part last left agreed used
+Inv-loop part last left₀ agreed₀ used₀ left agreed used = SoFar left₀ part left agreed used
 
 abbrev μ-loop : tie.MeasureT-loop
 μ-loop part last left₀ agreed₀ used₀ left agreed used = length part - used
@@ -19,17 +19,17 @@ turned : (k : tie.After-check-entry Inv-loop μ-loop) →
     let p = k .before .before in
     let l = p .before .before .before .before .loop in
     let x = p .before .before .before .before .before .before .args in
-    EntryTurn (x .bank) (x .part .now) (x .last) (l .left) (l .agreed) (l .used) (p .places .given .0 .0) (k .check-entry .result)
+    EntryTurn (x .bank) (x .part .now) (x .last) (l .agreed) (l .used) (p .places .given .0 .0) (k .check-entry .result)
 turned k =
     let p = k .before .before in
     let h = p .before .before .before in
     let l = h .before .loop in
     let x = h .before .before .before .args in
-    turn (x .bank) (x .part .now) (x .last) (l .left) (l .agreed) (l .used) (l .inv) _ (k .check-entry .result)
+    turn (x .bank) (x .part .now) (λ i. omega (arith, h .before .before .shared-slice-known .given i)) (x .last) (l .left) (l .agreed) (l .used) (l .inv) _ (k .check-entry .result)
     (rw (p .places .given .1, h .behind .ensures) at (p .before .before .read-entry .ensures)) (rw (h .behind .ensures) at (k .check-entry .ensures))
 
 loop-holds : tie.Need-loop-holds Inv-loop μ-loop
-loop-holds c = start _ _ _
+loop-holds c = start _ _
 
 returns : tie.Need-returns Inv-loop μ-loop
 returns c =
@@ -38,7 +38,7 @@ returns c =
     let x = h .before .before .before .args in
     let reads = rw (c .before .enum-told .given .1, h .behind .ensures) at (c .before .before .before .read-entry .ensures) in
     rw (c .ending .ensures, h .behind .ensures)
-    (ends (x .bank) (x .part .now) (x .last) (l .left) (l .agreed) (l .used) (l .inv) (λ i. omega (arith, h .before .before .shared-slice-known .given i)) reads)
+    (ends (x .bank) (x .part .now) (λ i. omega (arith, h .before .before .shared-slice-known .given i)) (x .last) (l .left) (l .agreed) (l .used) (l .inv) reads)
 
 returns-2 : tie.Need-returns-2 Inv-loop μ-loop
 returns-2 c = turned (c .before .before .before) .differs (not-true _ (c .if1 .taken))
