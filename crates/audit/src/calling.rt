@@ -7,6 +7,7 @@ use protocol::replica::ReplicaAnswer;
 use wire::layout::LONGEST_MESSAGE;
 ghost use mathlib.Core.Path.{_≡_};
 ghost use lib.ListN.{length};
+ghost use Rattle.wire.specs.Message.{longest};
 ghost use Rattle.protocol.specs.Events.{request-handed, order-handed};
 ghost use Rattle.audit.specs.Calling.{MakesCall, asReply};
 ghost use Rattle.audit.specs.Reading.{callBy};
@@ -20,7 +21,7 @@ pub struct Called {
 
 // The output of each call: in a function of its own, which says its length.
 fn room() -> [u8; LONGEST_MESSAGE]
-    ensures { λ r. ⌜ 1580 ≡ length r ⌝ }
+    ensures { λ r. ⌜ longest ≡ length r ⌝ }
 {
     [0; LONGEST_MESSAGE]
 }
