@@ -16,7 +16,7 @@ pub enum Prefixed {
 }
 
 // What was received, by starts and ends from the entry's first byte on: an order, which has no verdicts, or a message.
-#[derive(Drop)]
+#[derive(Clone, Copy)]
 pub struct CallPlaces {
     pub is_order: bool,
     pub start: usize,
@@ -40,7 +40,7 @@ pub enum AnswerRead {
 }
 
 // An entry's parts, from its first byte on. `refusal` is 0 where there is a reply.
-#[derive(Drop)]
+#[derive(Clone, Copy)]
 pub struct EntryPlaces {
     pub call: CallPlaces,
     pub refusal: u8,

@@ -1,5 +1,7 @@
 // A replica with its sixteen registers (document 02, #103) and its withdrawn clients (#105): setting up, the step by value, the thin step
 // over a lent bank, and orders.
+#![tactic(auto)]
+
 pub mod exported;
 mod orders;
 

@@ -6,7 +6,7 @@ ghost use Rattle.base.specs.ClientSet.{nobody, has, with};
 use crate::party::{CLIENTS, ClientId, WRITERS};
 
 #[repr(C)]
-#[derive(Drop)]
+#[derive(Clone, Copy)]
 pub struct ClientSet {
     pub writers: u64,
     pub viewers: u32,

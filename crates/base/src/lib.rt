@@ -1,4 +1,6 @@
 // Numbers of parties, timestamps and sets of replicas, and the laws on lists and numbers that the crates above share.
+#![tactic(auto)]
+
 pub mod big_endian;
 pub mod bytes;
 pub mod client_set;

@@ -8,21 +8,21 @@ use crate::refusal::SET_UP;
 
 // A replica's number (document 01: holder number).
 #[repr(C)]
-#[derive(Drop)]
+#[derive(Clone, Copy)]
 pub struct ReplicaId(pub u8);
 
 // A client's number (document 01: desk number).
 #[repr(C)]
-#[derive(Drop)]
+#[derive(Clone, Copy)]
 pub struct ClientId(pub u8);
 
 // A register's number (document 02, #103: set).
 #[repr(C)]
-#[derive(Drop)]
+#[derive(Clone, Copy)]
 pub struct RegisterId(pub u8);
 
 // Whether a party can be set up with the numbers given.
-#[derive(Drop)]
+#[derive(Clone, Copy)]
 pub enum Setup {
     Good,
     Refused(u8),

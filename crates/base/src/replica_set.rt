@@ -6,7 +6,7 @@ ghost use Rattle.base.specs.ReplicaSet.{empty, has, with, is_quorum};
 use crate::party::ReplicaId;
 
 #[repr(C)]
-#[derive(Drop)]
+#[derive(Clone, Copy)]
 pub struct ReplicaSet(pub u16);
 
 const LARGEST_ID: u8 = 16;

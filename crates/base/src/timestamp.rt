@@ -7,7 +7,7 @@ use crate::party::ClientId;
 
 // A timestamp (document 01: stamp), written count.client.
 #[repr(C)]
-#[derive(Drop)]
+#[derive(Clone, Copy)]
 pub struct Timestamp {
     pub count: u32,
     pub client: ClientId,

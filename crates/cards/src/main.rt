@@ -1,4 +1,6 @@
 // Reads cards in hex, one a line, and prints what the check says of each, with the fields of a good one.
+#![tactic(auto)]
+
 use base::slices::front;
 use libc::STDIN_FILENO;
 use text::hex::{Length, read_word};

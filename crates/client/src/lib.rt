@@ -1,5 +1,7 @@
 // The client engine: beginnings of writes and reads, and what a client makes of a message; `handing` has written proofs that are handed to it.
 // Viewing clients have `viewer`.
+#![tactic(auto)]
+
 mod answers;
 mod begin;
 pub mod handing;

@@ -1,4 +1,6 @@
 // What the programs read into, and text on standard output.
+#![tactic(auto)]
+
 ghost use Rattle.std.specs.Prelude.{◌≡◌, length, replicate};
 
 use base::slices::{behind, front};

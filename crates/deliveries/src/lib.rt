@@ -1,4 +1,6 @@
 // All short runs (document 02, #109): every order of up to four deliveries behind one write and one read.
+#![tactic(auto)]
+
 ghost use Rattle.std.specs.Prelude.{◌≡◌, ◌≤◌, ◌<◌};
 ghost use Rattle.text.specs.Put.{Puts};
 ghost use Rattle.deliveries.specs.ShortRuns.{falling_factorial, deliveries, run_at, delivery_line, run_text, text_of, printed};

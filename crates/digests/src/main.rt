@@ -1,5 +1,7 @@
 // Prints SHA-256 digests, a line each: FIPS 180-4's example messages, then a message of each length at which the padding changes,
 // of those around the longest, and of one that would be short to whoever counts in 16 bits.
+#![tactic(auto)]
+
 use console::print;
 use libc::STDOUT_FILENO;
 

@@ -1,5 +1,7 @@
 // Judges a replica's log on standard input: prints `accepted`, or the number of the first entry that is wrong, 0 for the head. Says on
 // standard error what was expected.
+#![tactic(auto)]
+
 mod explaining;
 
 use audit::judging::{Finding, HEAD, begin, judge_part};

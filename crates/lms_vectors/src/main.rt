@@ -3,6 +3,8 @@
 // The input has RFC 8554's vectors of these types (Appendix F without HSS's own fields: test case 1, both levels, and test case 2,
 // second level), each with a byte changed in every part, missing or added. Behind them stand signatures under the key with the root
 // that Algorithm 6a makes of them: no message, leaf 31 with the longest message and with a byte more, and leaf 32.
+#![tactic(auto)]
+
 use base::bytes::same;
 use base::slices::front;
 use libc::STDIN_FILENO;

@@ -4,6 +4,8 @@
 // Behind `l ` two messages stand, and it prints the later card.
 // Behind `s h ` or `s d ` it prints the message's signatures: how many, whose each is, and the bytes that it covers.
 // Behind `s w ` the same of a written proof by itself, its register in front of it.
+#![tactic(auto)]
+
 use base::bytes::same;
 use base::client_set::ClientSet;
 use base::party::RegisterId;

@@ -1,5 +1,7 @@
 // The run player but for reading and writing: what it keeps of its input, its grammar, one turn, what a turn prints, and all of
 // it together.
+#![tactic(auto)]
+
 mod calls;
 mod grammar;
 pub mod input;

@@ -6,7 +6,7 @@ ghost use Rattle.play.specs.Log.{empty_log, start, logged, sent_length, message}
 use base::slices::{behind, front};
 use wire::layout::LONGEST_MESSAGE;
 
-#[derive(Drop)]
+#[derive(Clone, Copy)]
 pub struct Log {
     pub count: u8,
     pub lengths: [usize; 100],

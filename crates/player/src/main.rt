@@ -1,4 +1,6 @@
 // The run player: plays the first 100 lines of standard input and prints a line for each.
+#![tactic(auto)]
+
 ghost use Rattle.io.specs.Counts.{IsPrefixLen};
 
 use base::slices::front;

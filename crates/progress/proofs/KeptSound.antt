@@ -158,8 +158,8 @@ module _ (R : Run) where
   AnswerSound x t (done timestamp card signers) = Unit {0}
   AnswerSound x t ended = Unit {0}
 
-  nothing_written : (t : ℕ) → LastSound t nothing_written
-  nothing_written t y registered = subst (λ (w : Written). ProofSound R (written_signatures y) t (written_kept w)) (sym (get_or-replicate 16 (register_place y) _ no_written (place_below y))) (none_sound R)
+  nothing_written_lem : (t : ℕ) → LastSound t nothing_written
+  nothing_written_lem t y registered = subst (λ (w : Written). ProofSound R (written_signatures y) t (written_kept w)) (sym (get_or-replicate 16 (register_place y) _ no_written (place_below y))) (none_sound R)
 
   -- A question, which shows no proof.
   question_sound : (x : RegisterId) (t : ℕ) (id : ClientId) (nonce : ℕ) → Sound R x t (READ-STAMP id nonce) × Sound R x t (READ id nonce)
@@ -411,7 +411,7 @@ module _ (R : Run) where
             turns h.turn h.step
             (record { last = it.last; phase = subst (λ (y : RegisterId). PhaseSound y (suc t) h.turn.next h.turn.next.phase) (sym same) it.phase })
             (λ m a at. subst (λ (y : RegisterId). Sound R y (suc t) m) (sym (heard_register R id t h at)) (subst (AnswerSound x (suc t)) a it.answer))
-        go (made_again nonce e positive step) = turns _ step (record { last = nothing_written (suc t); phase = tt }) (λ m a at. apart (cc))
+        go (made_again nonce e positive step) = turns _ step (record { last = nothing_written_lem (suc t); phase = tt }) (λ m a at. apart (cc))
         go (took y bytes verdicts next e it step) =
             turns _ step (record { last = handed_sound y bytes verdicts next e it step s.last; phase = subst (PhaseSound next.register (suc t) next) (sym idle) tt }) (λ m a at. apart (cc))
           where
@@ -420,7 +420,7 @@ module _ (R : Run) where
 
   client_sound : (id : ClientId) → R.correct_client id ≡ true → (t : ℕ) → ClientSound t (client_at R id t)
   unfolding client_at
-  client_sound id c zero = record { last = nothing_written 0; phase = tt }
+  client_sound id c zero = record { last = nothing_written_lem 0; phase = tt }
   client_sound id c (suc t) = go (client_sound id c t) (acts id c t (client_sound id c t))
     where
       go : ClientSound t (client_at R id t) → Acts id c t → ClientSound (suc t) (client_at R id (suc t))

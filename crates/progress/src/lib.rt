@@ -1,1 +1,2 @@
 // Progress of every run: how many messages an operation sends, that they are not refused, and when it finishes. This crate has no code.
+#![tactic(auto)]

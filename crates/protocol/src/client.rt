@@ -5,7 +5,7 @@ use base::timestamp::Timestamp;
 use wire::layout::{CARD_ROOM, DIGEST, ENTRIES_ROOM, SIGNATURES_ROOM};
 
 // What a client is waiting for, with the replicas counted so far.
-#[derive(Drop)]
+#[derive(Clone, Copy)]
 pub enum Phase {
     Idle,
     // STAMPs for a write: nonce, largest timestamp, counted.
@@ -21,7 +21,7 @@ pub enum Phase {
 }
 
 // A written proof, as it is kept; 0.0 for none.
-#[derive(Drop)]
+#[derive(Clone, Copy)]
 pub struct Written {
     pub timestamp: Timestamp,
     pub entry_count: u8,
@@ -30,7 +30,7 @@ pub struct Written {
     pub own: bool,
 }
 
-#[derive(Drop)]
+#[derive(Clone, Copy)]
 pub struct Client {
     pub f: u8,
     pub id: ClientId,
@@ -55,7 +55,7 @@ pub struct Client {
 }
 
 // The answer of a call of a client. Done has the card's timestamp and signers; the card stands beside it.
-#[derive(Drop)]
+#[derive(Clone, Copy)]
 pub enum ClientAnswer {
     Send(usize),
     Counted,

@@ -14,7 +14,7 @@ pub const SLOT_DIGESTS: usize = SLOTS * DIGEST;
 // The prepare list: a slot for each client (document 01: line), client c's at c - 1, with its count, 0 for an unused slot, and
 // its digest's 32 bytes; and the written timestamp (document 01: written stamp), which closes slots.
 #[repr(C)]
-#[derive(Drop)]
+#[derive(Clone, Copy)]
 pub struct Slots {
     pub counts: [u32; SLOTS],
     pub digests: [u8; SLOT_DIGESTS],
@@ -23,7 +23,7 @@ pub struct Slots {
 
 // What is held: timestamp, card, and the prepared proof's digest, signers and entries; 0.0 has no proof.
 #[repr(C)]
-#[derive(Drop)]
+#[derive(Clone, Copy)]
 pub struct Held {
     pub timestamp: Timestamp,
     pub card_length: u8,
@@ -36,7 +36,7 @@ pub struct Held {
 
 // One register, in the two parts that requests change: a PREPARE the slots, a WRITE what is held.
 #[repr(C)]
-#[derive(Drop)]
+#[derive(Clone, Copy)]
 pub struct Register {
     pub slots: Slots,
     pub held: Held,
@@ -44,7 +44,7 @@ pub struct Register {
 
 // One register's part of a replica: what the single register's step works on, which only looks at f, id and the withdrawn clients.
 #[repr(C)]
-#[derive(Drop)]
+#[derive(Clone, Copy)]
 pub struct RegisterReplica {
     pub f: u8,
     pub id: ReplicaId,
@@ -55,7 +55,7 @@ pub struct RegisterReplica {
 // A replica whole (document 02, #103: a holder keeps 16 registers), register x's at x - 1. What is withdrawn is withdrawn for all
 // registers (#105), and the key is the office's.
 #[repr(C)]
-#[derive(Drop)]
+#[derive(Clone, Copy)]
 pub struct Bank {
     pub f: u8,
     pub id: ReplicaId,

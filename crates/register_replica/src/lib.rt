@@ -1,4 +1,6 @@
 // The replica engine (document 01: a holder) of one register: a fresh one, the step by value, and the thin step on a lent register.
+#![tactic(auto)]
+
 mod answers;
 mod prepare;
 mod read;
@@ -26,7 +28,7 @@ use wire::layout::{CARD_ROOM, DIGEST, ENTRIES_ROOM, LONGEST_MESSAGE};
 use wire::message::{Fields, Party};
 
 // What a PREPARE puts: its client's slot, and the written timestamp.
-#[derive(Drop)]
+#[derive(Clone, Copy)]
 pub struct Prepared {
     pub client: ClientId,
     pub count: u32,

@@ -14,6 +14,8 @@
 //   keep PARTY ID, restore PARTY ID    copy a party's record aside, and put it back; PARTY is replica, client or viewer
 //   # TEXT                             is printed as it stands
 // Any other line, and one about a party that is not set up, is unread.
+#![tactic(auto)]
+
 mod answers;
 mod clients;
 mod log;

@@ -1,4 +1,6 @@
 // Text: lines, words, hex digits, decimals and timestamps, read from bytes and put into them.
+#![tactic(auto)]
+
 pub mod buffer;
 pub mod decimal;
 pub mod hex;

@@ -1,5 +1,5 @@
 -- The signers of entries in a slice, from an index on. Assumes nothing.
-use Rattle.std.proofs.Common.{◌≡◌, ℕ, suc, ◌+◌, ◌-◌, ◌*◌, ◌/◌, ◌%◌, ◌^◌, ◌<◌, ◌≤◌, Bool, true, false, ltb, leb, ◌⊎◌, List, ◌∷◌, get_or, drop, refl, ap, ◌∙◌, inl, inr, pow-suc, arith, get_or-drop, drop-drop, le-ltb, lt-ltb, le-leb, leb-false, leb-true}
+use Rattle.std.proofs.Common.{◌≡◌, ℕ, zero, suc, ◌+◌, ◌-◌, ◌*◌, ◌/◌, ◌%◌, ◌^◌, ◌<◌, ◌≤◌, Bool, true, false, ltb, leb, ◌⊎◌, List, ◌∷◌, get_or, drop, refl, ap, ◌∙◌, inl, inr, pow-suc, arith, get_or-drop, drop-drop, le-ltb, lt-ltb, le-leb, leb-false, leb-true}
 use mathlib.Core.Bool.{and-false}
 use native.Mathlib.Nat.{pow-le-pow_right}
 use borrow.Author.Tests.{lt-leb}
@@ -53,6 +53,7 @@ module _ (count : ℕ) (bytes : List ℕ) (i : ℕ) (h : i < count) where
 -- Bits that are gathered one place higher: replica r is bit r.
 pub gathered : (bits signer : ℕ) (set : ReplicaSet) → bits ≡ 2 * set.0 → 0 < signer → signer ≤ 16 → bit_or bits (2 ^ signer) ≡ 2 * (with set (record { 0 = signer })).0
 unfolding with
+gathered bits zero set e h l = elim h [ ]
 gathered bits (suc r) set e h l =
     let p = pow-suc 2 r in
     let own : set.0 * 2 ^ 1 + 0 ≡ bits = omega arith in

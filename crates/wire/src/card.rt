@@ -28,7 +28,7 @@ pub struct CardRead {
 }
 
 // A row of the card's table: how many bytes the field has, its least and its greatest value.
-#[derive(Drop)]
+#[derive(Clone, Copy)]
 struct Row {
     width: usize,
     least: u32,

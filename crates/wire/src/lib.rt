@@ -1,4 +1,6 @@
 // SHA-256, cards, and the message reader and writer: the lower crate on whose contracts replica and client rest.
+#![tactic(auto)]
+
 pub mod acceptance;
 pub mod arrays;
 pub mod card;

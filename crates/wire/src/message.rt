@@ -3,21 +3,21 @@ use base::party::{ClientId, RegisterId};
 use base::timestamp::Timestamp;
 
 // Who is handed a message.
-#[derive(Drop)]
+#[derive(Clone, Copy)]
 pub enum Party {
     Replica,
     Client,
 }
 
 // Where a field stands in a message; it ends where it starts if the bit is not set.
-#[derive(Drop)]
+#[derive(Clone, Copy)]
 pub struct Span {
     pub start: usize,
     pub end: usize,
 }
 
 // The fields of a message that was read: the numbers by value, 0 where the bit is not set; the rest by where they stand.
-#[derive(Drop)]
+#[derive(Clone, Copy)]
 pub struct Fields {
     pub map: u16,
     pub kind: u8,
