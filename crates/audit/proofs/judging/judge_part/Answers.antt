@@ -16,13 +16,13 @@ returns-in_default c =
     let x = c.args in
     let reads = rw (c.in_default.is, c.behind-rest.ensures) at c.read_entry.ensures in
     rw (c.ending.ensures, c.behind-rest.ensures)
-    (ends x.bank x.part.now (λ i. omega (arith, c.shared_slice_known-1.given i)) x.last l.left l.agreed l.used l.invariant reads)
+    (ends x.bank x.part.now (λ i. omega (arith, c.type_inv.part i)) x.last l.left l.agreed l.used l.invariant reads)
 
 pub returns-then-not-checked : goal.returns-then-not-checked
 returns-then-not-checked c =
     let turned : let l = c.loop-places in let x = c.args in EntryTurn x.bank x.part.now x.last l.agreed l.used c.in-Entry.places c.check_entry-checked.result = let l = c.loop-places in
     let x = c.args in
-    turn x.bank x.part.now (λ i. omega (arith, c.shared_slice_known-1.given i)) x.last l.left l.agreed l.used l.invariant _ c.check_entry-checked.result
+    turn x.bank x.part.now (λ i. omega (arith, c.type_inv.part i)) x.last l.left l.agreed l.used l.invariant _ c.check_entry-checked.result
     (rw (c.in-Entry.is, c.behind-rest.ensures) at c.read_entry.ensures) (rw c.behind-rest.ensures at c.check_entry-checked.ensures) in
     turned.differs (not-true _ c.if-not-checked.true)
 
@@ -30,7 +30,7 @@ pub overflow_add-used : goal.overflow_add-used
 overflow_add-used c =
     let turned : let l = c.loop-places in let x = c.args in EntryTurn x.bank x.part.now x.last l.agreed l.used c.in-Entry.places c.check_entry-checked.result = let l = c.loop-places in
     let x = c.args in
-    turn x.bank x.part.now (λ i. omega (arith, c.shared_slice_known-1.given i)) x.last l.left l.agreed l.used l.invariant _ c.check_entry-checked.result
+    turn x.bank x.part.now (λ i. omega (arith, c.type_inv.part i)) x.last l.left l.agreed l.used l.invariant _ c.check_entry-checked.result
     (rw (c.in-Entry.is, c.behind-rest.ensures) at c.read_entry.ensures) (rw c.behind-rest.ensures at c.check_entry-checked.ensures) in
     let short : let x = c.args in length x.part.now < 2 ^ 64 = omega (arith, c.well_formed.1.0) in
     omega (arith, turned.stays, short)
@@ -39,7 +39,7 @@ pub overflow_add-agreed : goal.overflow_add-agreed
 overflow_add-agreed c =
     let turned : let l = c.loop-places in let x = c.args in EntryTurn x.bank x.part.now x.last l.agreed l.used c.in-Entry.places c.check_entry-checked.result = let l = c.loop-places in
     let x = c.args in
-    turn x.bank x.part.now (λ i. omega (arith, c.shared_slice_known-1.given i)) x.last l.left l.agreed l.used l.invariant _ c.check_entry-checked.result
+    turn x.bank x.part.now (λ i. omega (arith, c.type_inv.part i)) x.last l.left l.agreed l.used l.invariant _ c.check_entry-checked.result
     (rw (c.in-Entry.is, c.behind-rest.ensures) at c.read_entry.ensures) (rw c.behind-rest.ensures at c.check_entry-checked.ensures) in
     let short : let x = c.args in length x.part.now < 2 ^ 64 = omega (arith, c.well_formed.1.0) in
     let t = turned in omega (arith, t.few, t.rises, t.stays, short)
@@ -48,7 +48,7 @@ pub loop-places-smaller : goal.loop-places-smaller
 loop-places-smaller c =
     let turned : let l = c.loop-places in let x = c.args in EntryTurn x.bank x.part.now x.last l.agreed l.used c.in-Entry.places c.check_entry-checked.result = let l = c.loop-places in
     let x = c.args in
-    turn x.bank x.part.now (λ i. omega (arith, c.shared_slice_known-1.given i)) x.last l.left l.agreed l.used l.invariant _ c.check_entry-checked.result
+    turn x.bank x.part.now (λ i. omega (arith, c.type_inv.part i)) x.last l.left l.agreed l.used l.invariant _ c.check_entry-checked.result
     (rw (c.in-Entry.is, c.behind-rest.ensures) at c.read_entry.ensures) (rw c.behind-rest.ensures at c.check_entry-checked.ensures) in
     let t = turned in omega (arith, t.rises, t.stays)
 
@@ -56,6 +56,6 @@ pub loop-places-preserved : goal.loop-places-preserved
 loop-places-preserved c =
     let turned : let l = c.loop-places in let x = c.args in EntryTurn x.bank x.part.now x.last l.agreed l.used c.in-Entry.places c.check_entry-checked.result = let l = c.loop-places in
     let x = c.args in
-    turn x.bank x.part.now (λ i. omega (arith, c.shared_slice_known-1.given i)) x.last l.left l.agreed l.used l.invariant _ c.check_entry-checked.result
+    turn x.bank x.part.now (λ i. omega (arith, c.type_inv.part i)) x.last l.left l.agreed l.used l.invariant _ c.check_entry-checked.result
     (rw (c.in-Entry.is, c.behind-rest.ensures) at c.read_entry.ensures) (rw c.behind-rest.ensures at c.check_entry-checked.ensures) in
     turned.further (not-false _ c.if-not-checked.false)

@@ -25,8 +25,7 @@ take-requires c =
     let verdicts = a.verdicts.now in
     let old = a.out.now in
     let passed = sym (rw c.nobody.ensures at c.accept.ensures) ∙ ap accepting_outcome c.in-Message.is in
-    let fields = c.in-Message.fields in
-    (c.if-out-lt-LONGEST_MESSAGE.false, record { verdicts = verdicts; signers = _; passes = passed }, signers_are AtClient a.client.f nobody bytes verdicts fields passed)
+    (c.if-out-lt-LONGEST_MESSAGE.false, record { verdicts = verdicts; signers = _; passes = passed }, signers_are AtClient a.client.f nobody bytes verdicts c.in-Message.fields passed)
 
 pub returns-in-Message : goal.returns-in-Message
 returns-in-Message c =
@@ -35,9 +34,8 @@ returns-in-Message c =
     let verdicts = a.verdicts.now in
     let old = a.out.now in
     let passed = sym (rw c.nobody.ensures at c.accept.ensures) ∙ ap accepting_outcome c.in-Message.is in
-    let fields = c.in-Message.fields in
     let taken = c.take in
-    step_calls a.client old taken.result taken.new.1.1.1.1.1.0 a.role bytes verdicts (behind_output a.client old taken.result taken.new.1.1.1.1.1.0 (role_step a.role a.client bytes verdicts) _ c.if-out-lt-LONGEST_MESSAGE.false (passed_step a.client bytes verdicts fields _ passed a.role) taken.ensures)
+    step_calls a.client old taken.result taken.new.1.1.1.1.1.0 a.role bytes verdicts (behind_output a.client old taken.result taken.new.1.1.1.1.1.0 (role_step a.role a.client bytes verdicts) _ c.if-out-lt-LONGEST_MESSAGE.false (passed_step a.client bytes verdicts c.in-Message.fields _ passed a.role) taken.ensures)
 
 pub returns-in-Refused : goal.returns-in-Refused
 returns-in-Refused c =
@@ -45,6 +43,5 @@ returns-in-Refused c =
     let bytes = a.message.now in
     let verdicts = a.verdicts.now in
     let old = a.out.now in
-    let number = c.in-Refused.number in
     let no = sym (rw c.nobody.ensures at c.accept.ensures) ∙ ap accepting_outcome c.in-Refused.is in
-    step_calls a.client old c.refused-in-Refused.result old a.role bytes verdicts (is_refused_lem a.client old c.refused-in-Refused.result (role_step a.role a.client bytes verdicts) number c.if-out-lt-LONGEST_MESSAGE.false (step_refused a.role a.client bytes verdicts number no) c.refused-in-Refused.ensures)
+    step_calls a.client old c.refused-in-Refused.result old a.role bytes verdicts (is_refused_lem a.client old c.refused-in-Refused.result (role_step a.role a.client bytes verdicts) c.in-Refused.number c.if-out-lt-LONGEST_MESSAGE.false (step_refused a.role a.client bytes verdicts c.in-Refused.number no) c.refused-in-Refused.ensures)

@@ -12,7 +12,7 @@ use Rattle.client.proofs.messages.take_stamp.Goals as goal
 
 pub on_stamp-requires : goal.on_stamp-requires
 on_stamp-requires c =
-    (c.pre.0, rw c.part.ensures (proof_there c.args.client c.args.message.now c.args.fields c.pre.1), rw c.part.ensures c.pre.2)
+    (c.requires.0, rw c.part.ensures (proof_there c.args.client c.args.message.now c.args.fields c.requires.1), rw c.part.ensures c.requires.2)
 
 pub returns : goal.returns
 returns c =
@@ -20,4 +20,4 @@ returns c =
     let fields = a.fields in
     c.on_stamp.ensures
     ∙ ap₂ (λ (proof : List ℕ) (phase : Phase). client_answers a.client a.out.now (on_stamp a.client (replica fields.sender) fields.nonce (prepared_part proof) fields.addressed phase)) c.part.ensures c.awaiting-phase.ensures
-    ∙ ap (client_answers a.client a.out.now) (sym (stamp_step a.client a.message.now fields c.pre.1 c.pre.3))
+    ∙ ap (client_answers a.client a.out.now) (sym (stamp_step a.client a.message.now fields c.requires.1 c.requires.3))

@@ -12,8 +12,8 @@ use Rattle.client.proofs.messages.take_written.Goals as goal
 
 pub on_written-requires : goal.on_written-requires
 on_written-requires c =
-    let range = written_sender c.args.client c.args.message.now c.args.fields c.pre.0 c.pre.1 in
-    (range.0, range.1, rw c.part.ensures (own_length c.args.client c.args.message.now c.args.fields c.pre.0))
+    let range = written_sender c.args.client c.args.message.now c.args.fields c.requires.0 c.requires.1 in
+    (range.0, range.1, rw c.part.ensures (own_length c.args.client c.args.message.now c.args.fields c.requires.0))
 
 pub returns : goal.returns
 returns c =
@@ -22,4 +22,4 @@ returns c =
     λ old.
     c.on_written.ensures old
     ∙ ap₂ (λ (own : List ℕ) (phase : Phase). client_answers a.client old (on_written a.client (replica fields.sender) (number fields.timestamp) own phase)) c.part.ensures c.awaiting-phase.ensures
-    ∙ ap (client_answers a.client old) (sym (written_step a.client a.message.now fields c.pre.0 c.pre.1))
+    ∙ ap (client_answers a.client old) (sym (written_step a.client a.message.now fields c.requires.0 c.requires.1))

@@ -12,8 +12,8 @@ use Rattle.register_replica.proofs.write.on_write.Goals as goal
 pub write-requires : goal.write-requires
 write-requires c =
     let x = c.args in
-    let passes = c.pre.0.passes in
-    rw c.part.ensures (write_proof x.replica.f x.replica.withdrawn x.message.now c.pre.0.verdicts x.fields passes c.pre.1, write_signers x.replica.f x.replica.withdrawn x.message.now c.pre.0.verdicts x.fields passes c.pre.1, c.pre.2)
+    let passes = c.requires.0.passes in
+    rw c.part.ensures (write_proof x.replica.f x.replica.withdrawn x.message.now c.requires.0.verdicts x.fields passes c.requires.1, write_signers x.replica.f x.replica.withdrawn x.message.now c.requires.0.verdicts x.fields passes c.requires.1, c.requires.2)
 
 pub returns : goal.returns
 returns c =
@@ -21,5 +21,5 @@ returns c =
     let card = c.card in
     let proof = c.part in
     answers x.replica x.message.now x.fields x.out.now _ _ (on_write x.replica card.result.now (prepared_from proof.result.now))
-    (λ verdicts signers e. step_write x.replica x.message.now verdicts x.fields e c.pre.1 ∙ ap₂ (λ (c p : List ℕ). on_write x.replica c (prepared_from p)) (sym card.ensures) (sym proof.ensures))
+    (λ verdicts signers e. step_write x.replica x.message.now verdicts x.fields e c.requires.1 ∙ ap₂ (λ (c p : List ℕ). on_write x.replica c (prepared_from p)) (sym card.ensures) (sym proof.ensures))
     c.write.ensures

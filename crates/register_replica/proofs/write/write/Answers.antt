@@ -35,7 +35,7 @@ returns-then-not-is_before c =
     ∙ ap (λ (n : ℕ). answering (WRITTEN a.replica.id n) (with_held a.replica (after_write a.card.now proof a.replica.register.held))) stamp in
     let a = c.args in
     let later = ap (ltb (held_timestamp a.replica.register.held)) stamp ∙ sym c.is_before.ensures.by_number ∙ not-true _ c.if-not-is_before.true-raw in
-    sends_keeping a.register a.replica a.out.now _ _ _ _ _ _ _ replies.requires.2 c.write_written-encoded.ensures c.answer_of-answer.ensures
+    sends_keeping a.register a.replica a.out.now _ _ _ _ _ _ _ replies c.requires.2 c.write_written-encoded.ensures c.answer_of-answer.ensures
     (sym (not_later a.replica a.card.now (prepared_from a.proof.now) later)) c.keep.ensures
 
 pub holding-next-requires : goal.holding-next-requires
@@ -57,6 +57,6 @@ returns c =
     ∙ ap (λ (n : ℕ). answering (WRITTEN a.replica.id n) (with_held a.replica (after_write a.card.now proof a.replica.register.held))) stamp in
     let a = c.args in
     let later = ap (ltb (held_timestamp a.replica.register.held)) stamp ∙ sym c.is_before.ensures.by_number ∙ not-false _ c.if-not-is_before.false-raw in
-    sends a.register a.replica a.out.now _ _ _ _ _ _ replies.requires.2 c.write_written-encoded.ensures c.answer_of-answer.ensures
+    sends a.register a.replica a.out.now _ _ _ _ _ _ replies c.requires.2 c.write_written-encoded.ensures c.answer_of-answer.ensures
     (c.with_held.ensures ∙ ap (with_held a.replica) (c.holding-next.ensures ∙ sym (is_later a.replica a.card.now (prepared_from a.proof.now) later)))
     (record { only = c.with_held.ensures; first = rw c.nothing_prepared.ensures (omega arith); last = rw c.nothing_prepared.ensures (omega arith) })

@@ -10,12 +10,10 @@ returns-in_default c = let e = ap numeral_of (sym c.in_default.is) ∙ c.read_de
 
 pub returns-then-n-lt256 : goal.returns-then-n-lt256
 returns-then-n-lt256 c =
-    let n = c.n-1.given in
-    let e = ap numeral_of (sym n.1) ∙ c.read_decimal.ensures in
-    rw (← e, lt-ltb n.0.0 256 c.if-n-lt256.true)
+    let e = ap numeral_of (sym c.in-Value.is) ∙ c.read_decimal.ensures in
+    rw (← e, lt-ltb c.in-Value.n 256 c.if-n-lt256.true)
 
 pub returns : goal.returns
 returns c =
-    let n = c.n-1.given in
-    let e = ap numeral_of (sym n.1) ∙ c.read_decimal.ensures in
-    rw (← e, le-ltb n.0.0 256 c.if-n-lt256.false)
+    let e = ap numeral_of (sym c.in-Value.is) ∙ c.read_decimal.ensures in
+    rw (← e, le-ltb c.in-Value.n 256 c.if-n-lt256.false)

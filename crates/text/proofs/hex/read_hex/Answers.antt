@@ -47,14 +47,13 @@ loop-n-preserved c =
     let x = c.args in
     let room = length x.out.now in
     let found = ap digit_of (sym c.in-Value.is) ∙ c.hex_byte.ensures in
-    let byte = c.in-Value.byte in
     let later = hex_pairs (room - (l.n + 1)) (drop (2 * (l.n + 1)) x.line.now) in
-    let rest : hex_pairs (room - l.n) (drop (2 * l.n) x.line.now) ≡ byte ∷ later = pairs_at room l.n x.line.now (omega arith) ∙ rw (← found) in
+    let rest : hex_pairs (room - l.n) (drop (2 * l.n) x.line.now) ≡ c.in-Value.byte ∷ later = pairs_at room l.n x.line.now (omega arith) ∙ rw (← found) in
     let inside : l.n < length l.out = omega arith in (
       omega arith,
-      length-set l.out l.n byte ∙ l.invariant.1,
-      rw rest at l.invariant.2 ∙ rw (add-one, take-suc-set l.out l.n byte, append_assoc),
-      rw (add-one, drop-set-lt (suc l.n) l.out l.n byte (omega arith)) (simp (drop-drop, add-one) at (ap (drop 1) l.invariant.3)),
+      length-set l.out l.n c.in-Value.byte ∙ l.invariant.1,
+      rw rest at l.invariant.2 ∙ rw (add-one, take-suc-set l.out l.n c.in-Value.byte, append_assoc),
+      rw (add-one, drop-set-lt (suc l.n) l.out l.n c.in-Value.byte (omega arith)) (simp (drop-drop, add-one) at (ap (drop 1) l.invariant.3)),
     )
 
 pub returns : goal.returns

@@ -28,7 +28,7 @@ returns-in-Refused-judge c =
     let o = c.open in
     answered (opened a.party a.f a.withdrawn a.bytes.now a.verdicts.now) o.result c.in-Message.fields o.ensures c.in-Message.is in
     let a = c.args in
-    second_refuses a.party a.f a.withdrawn a.bytes.now a.verdicts.now c.in-Message.fields c.judge.result known.judge.ensures c.in-Refused-judge.number c.in-Refused-judge.is
+    second_refuses a.party a.f a.withdrawn a.bytes.now a.verdicts.now c.in-Message.fields c.judge.result known c.judge.ensures c.in-Refused-judge.number c.in-Refused-judge.is
 
 pub returns-in-Refused : goal.returns-in-Refused
 returns-in-Refused c =

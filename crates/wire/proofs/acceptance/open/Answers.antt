@@ -17,7 +17,7 @@ use Rattle.wire.proofs.acceptance.open.Goals as goal
 pub returns-then-not-in_range : goal.returns-then-not-in_range
 returns-then-not-in_range c =
     let fields : Fields = c.in-Message.fields in
-    let known : reading c.args.party c.args.bytes.now ≡ accepted fields = answered (reading c.args.party c.args.bytes.now) c.read.result fields.read.ensures c.in-Message.is in
+    let known : reading c.args.party c.args.bytes.now ≡ accepted fields = answered (reading c.args.party c.args.bytes.now) c.read.result fields c.read.ensures c.in-Message.is in
     let sender : Sender = numbered c.args.party fields.sender in
     let answer : Outcome Fields = let a = c.args in opened a.party a.f a.withdrawn a.bytes.now a.verdicts.now in
     let behind_8 : Outcome Fields = guard 23 (is_served c.args.withdrawn sender) (accepted fields) in
@@ -31,7 +31,7 @@ returns-then-not-in_range c =
 pub returns-then-not-may_send : goal.returns-then-not-may_send
 returns-then-not-may_send c =
     let fields : Fields = c.in-Message.fields in
-    let known : reading c.args.party c.args.bytes.now ≡ accepted fields = answered (reading c.args.party c.args.bytes.now) c.read.result fields.read.ensures c.in-Message.is in
+    let known : reading c.args.party c.args.bytes.now ≡ accepted fields = answered (reading c.args.party c.args.bytes.now) c.read.result fields c.read.ensures c.in-Message.is in
     let sender : Sender = numbered c.args.party fields.sender in
     let answer : Outcome Fields = let a = c.args in opened a.party a.f a.withdrawn a.bytes.now a.verdicts.now in
     let behind_8 : Outcome Fields = guard 23 (is_served c.args.withdrawn sender) (accepted fields) in
@@ -46,7 +46,7 @@ returns-then-not-may_send c =
 pub returns-then-not-is_register : goal.returns-then-not-is_register
 returns-then-not-is_register c =
     let fields : Fields = c.in-Message.fields in
-    let known : reading c.args.party c.args.bytes.now ≡ accepted fields = answered (reading c.args.party c.args.bytes.now) c.read.result fields.read.ensures c.in-Message.is in
+    let known : reading c.args.party c.args.bytes.now ≡ accepted fields = answered (reading c.args.party c.args.bytes.now) c.read.result fields c.read.ensures c.in-Message.is in
     let sender : Sender = numbered c.args.party fields.sender in
     let answer : Outcome Fields = let a = c.args in opened a.party a.f a.withdrawn a.bytes.now a.verdicts.now in
     let behind_8 : Outcome Fields = guard 23 (is_served c.args.withdrawn sender) (accepted fields) in
@@ -62,7 +62,7 @@ returns-then-not-is_register c =
 pub returns-then-not-verdicts_fit : goal.returns-then-not-verdicts_fit
 returns-then-not-verdicts_fit c =
     let fields : Fields = c.in-Message.fields in
-    let known : reading c.args.party c.args.bytes.now ≡ accepted fields = answered (reading c.args.party c.args.bytes.now) c.read.result fields.read.ensures c.in-Message.is in
+    let known : reading c.args.party c.args.bytes.now ≡ accepted fields = answered (reading c.args.party c.args.bytes.now) c.read.result fields c.read.ensures c.in-Message.is in
     let sender : Sender = numbered c.args.party fields.sender in
     let answer : Outcome Fields = let a = c.args in opened a.party a.f a.withdrawn a.bytes.now a.verdicts.now in
     let behind_8 : Outcome Fields = guard 23 (is_served c.args.withdrawn sender) (accepted fields) in
@@ -90,7 +90,7 @@ bounds-verdicts-0 c =
 pub returns-then-verdicts-ne1 : goal.returns-then-verdicts-ne1
 returns-then-verdicts-ne1 c =
     let fields : Fields = c.in-Message.fields in
-    let known : reading c.args.party c.args.bytes.now ≡ accepted fields = answered (reading c.args.party c.args.bytes.now) c.read.result fields.read.ensures c.in-Message.is in
+    let known : reading c.args.party c.args.bytes.now ≡ accepted fields = answered (reading c.args.party c.args.bytes.now) c.read.result fields c.read.ensures c.in-Message.is in
     let sender : Sender = numbered c.args.party fields.sender in
     let answer : Outcome Fields = let a = c.args in opened a.party a.f a.withdrawn a.bytes.now a.verdicts.now in
     let behind_8 : Outcome Fields = guard 23 (is_served c.args.withdrawn sender) (accepted fields) in
@@ -110,7 +110,7 @@ returns-then-verdicts-ne1 c =
 pub returns-then-not-is_served : goal.returns-then-not-is_served
 returns-then-not-is_served c =
     let fields : Fields = c.in-Message.fields in
-    let known : reading c.args.party c.args.bytes.now ≡ accepted fields = answered (reading c.args.party c.args.bytes.now) c.read.result fields.read.ensures c.in-Message.is in
+    let known : reading c.args.party c.args.bytes.now ≡ accepted fields = answered (reading c.args.party c.args.bytes.now) c.read.result fields c.read.ensures c.in-Message.is in
     let sender : Sender = numbered c.args.party fields.sender in
     let answer : Outcome Fields = let a = c.args in opened a.party a.f a.withdrawn a.bytes.now a.verdicts.now in
     let behind_8 : Outcome Fields = guard 23 (is_served c.args.withdrawn sender) (accepted fields) in
@@ -131,7 +131,7 @@ returns-then-not-is_served c =
 pub returns-else-not-is_served : goal.returns-else-not-is_served
 returns-else-not-is_served c =
     let fields : Fields = c.in-Message.fields in
-    let known : reading c.args.party c.args.bytes.now ≡ accepted fields = answered (reading c.args.party c.args.bytes.now) c.read.result fields.read.ensures c.in-Message.is in
+    let known : reading c.args.party c.args.bytes.now ≡ accepted fields = answered (reading c.args.party c.args.bytes.now) c.read.result fields c.read.ensures c.in-Message.is in
     let sender : Sender = numbered c.args.party fields.sender in
     let answer : Outcome Fields = let a = c.args in opened a.party a.f a.withdrawn a.bytes.now a.verdicts.now in
     let behind_8 : Outcome Fields = guard 23 (is_served c.args.withdrawn sender) (accepted fields) in
@@ -152,5 +152,4 @@ returns-else-not-is_served c =
 pub returns-in-Refused : goal.returns-in-Refused
 returns-in-Refused c =
     let a = c.args in
-    let number = c.in-Refused.number in
-    sym (opened_unread a.party a.f a.withdrawn a.bytes.now a.verdicts.now number (turned_down (reading a.party a.bytes.now) c.read.result number c.read.ensures c.in-Refused.is))
+    sym (opened_unread a.party a.f a.withdrawn a.bytes.now a.verdicts.now c.in-Refused.number (turned_down (reading a.party a.bytes.now) c.read.result c.in-Refused.number c.read.ensures c.in-Refused.is))

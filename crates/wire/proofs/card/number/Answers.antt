@@ -17,16 +17,16 @@ pub overflow_mul-n : goal.overflow_mul-n
 overflow_mul-n c = omega (arith, few_bytes c.loop-i.i (omega arith))
 
 pub overflow_cast-n : goal.overflow_cast-n
-overflow_cast-n c = omega (arith, c.shared_slice_known-1.given c.loop-i.i)
+overflow_cast-n c = omega (arith, c.type_inv.bytes c.loop-i.i)
 
 pub overflow_add-n : goal.overflow_add-n
-overflow_add-n c = let i = c.loop-i.i in omega (arith, c.shared_slice_known-1.given i, few_bytes i (omega arith))
+overflow_add-n c = let i = c.loop-i.i in omega (arith, c.type_inv.bytes i, few_bytes i (omega arith))
 
 pub loop-i-preserved : goal.loop-i-preserved
 loop-i-preserved c =
     let i = c.loop-i.i in
     let bytes = c.args.bytes.now in
-    let byte = c.shared_slice_known-1.given i in
+    let byte = c.type_inv.bytes i in
     let inside : i < length bytes = omega arith in
     let more = pow-suc 256 i in
     (omega arith, rw (add-one, take-suc bytes i 0, from_bytes_snoc) (cc), rw add-one (omega arith))

@@ -7,7 +7,6 @@ pub returns : goal.returns
 returns c =
     let a = c.args in
     let s = a.verdicts.now in
-    let byte = c.shared_slice_known-1.given in
     ap (λ (n : ℕ). eqb n 0x0101_0101) c.from_four.ensures
     ∙ four_ones (get_or s a.at 0) (get_or s (a.at + 1) 0) (get_or s (a.at + 2) 0) (get_or s (a.at + 3) 0)
-    (omega (arith, byte a.at)) (omega (arith, byte (a.at + 1))) (omega (arith, byte (a.at + 2))) (omega (arith, byte (a.at + 3)))
+    (omega (arith, c.type_inv.verdicts a.at)) (omega (arith, c.type_inv.verdicts (a.at + 1))) (omega (arith, c.type_inv.verdicts (a.at + 2))) (omega (arith, c.type_inv.verdicts (a.at + 3)))

@@ -15,7 +15,7 @@ pub overflow_cast-map : goal.overflow_cast-map
 unfolding from_bytes
 overflow_cast-map c =
     let r = c.from_two-map.ensures in
-    omega (arith, c.shared_slice_known-2-1.given 0, c.shared_slice_known-2-1.given 1)
+    omega (arith, c.type_inv.bytes 0, c.type_inv.bytes 1)
 
 pub returns-then-map-ne3 : goal.returns-then-map-ne3
 returns-then-map-ne3 c =

@@ -71,4 +71,4 @@ returns c =
     let at4 : (c.in-Next-take_field-3.digest ≡ place c.args.bytes.now 4) × (c.in-Next-take_field-3.digest ≤ 80_002) = taken _ _ _ _ 60_002 _ c.take_field-4.ensures c.in-Next-take_field-3.is at3.1 in
     let at5 : (c.in-Next-take_field-4.card ≡ place c.args.bytes.now 5) × (c.in-Next-take_field-4.card ≤ 100_002) = taken _ _ _ _ 80_002 _ c.take_field-5.ensures c.in-Next-take_field-4.is at4.1 in
     let back = laid _ _ _ c.lay_back.ensures c.in-Back.is in
-    ap accepted (places_found c.args.bytes.now _ _ _ _ _ _ c.pre.0 at2.0 at3.0 at4.0 at5.0 back.0) ∙ sym (guard_passes 4 _ _ (eq-eqb _ _ back.1))
+    ap accepted (places_found c.args.bytes.now _ _ _ _ _ _ c.requires.0 at2.0 at3.0 at4.0 at5.0 back.0) ∙ sym (guard_passes 4 _ _ (eq-eqb _ _ back.1))

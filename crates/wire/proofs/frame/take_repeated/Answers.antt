@@ -5,7 +5,7 @@ use Rattle.wire.proofs.frame.take_repeated.Goals as goal
 pub overflow_mul-next : goal.overflow_mul-next
 overflow_mul-next c =
     let few : c.args.unit * c.wide-count.result ≤ 16_575 = let a = c.args in
-    let byte = c.shared_slice_known-2-1.given (a.at + a.head - 1) in
+    let byte = c.type_inv.bytes (a.at + a.head - 1) in
     let count = c.wide-count.ensures in
     let small : c.wide-count.result ≤ 255 = omega arith in
     mul-le-mul c.requires.2 small in
@@ -14,7 +14,7 @@ overflow_mul-next c =
 pub overflow_add-next : goal.overflow_add-next
 overflow_add-next c =
     let few : c.args.unit * c.wide-count.result ≤ 16_575 = let a = c.args in
-    let byte = c.shared_slice_known-2-1.given (a.at + a.head - 1) in
+    let byte = c.type_inv.bytes (a.at + a.head - 1) in
     let count = c.wide-count.ensures in
     let small : c.wide-count.result ≤ 255 = omega arith in
     mul-le-mul c.requires.2 small in
@@ -23,7 +23,7 @@ overflow_add-next c =
 pub returns : goal.returns
 returns c =
     let few : c.args.unit * c.wide-count.result ≤ 16_575 = let a = c.args in
-    let byte = c.shared_slice_known-2-1.given (a.at + a.head - 1) in
+    let byte = c.type_inv.bytes (a.at + a.head - 1) in
     let count = c.wide-count.ensures in
     let small : c.wide-count.result ≤ 255 = omega arith in
     mul-le-mul c.requires.2 small in

@@ -22,4 +22,4 @@ unfolding suiting kinds
 returns-in-8 c = rw (c.in-8.is, c.without-in-8.ensures)
 
 pub returns-in_default : goal.returns-in_default
-returns-in_default c = let r = c.in-5.rest in sym (no_client_lem _ _ r.0.0.0.1 r.0.0.1 r.0.1 r.1)
+returns-in_default c = sym (no_client_lem _ _ c.in-5.rest.0.0.0.1 c.in-5.rest.0.0.1 c.in-5.rest.0.1 c.in-5.rest.1)

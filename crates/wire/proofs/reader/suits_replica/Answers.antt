@@ -18,4 +18,4 @@ unfolding suiting kinds
 returns-in-3 c = rw c.in-3.is
 
 pub returns-in_default : goal.returns-in_default
-returns-in_default c = let r = c.in-1.rest in sym (no_replica _ _ (λ e. r.0.0.1 (inl e)) r.0.1 r.1 (λ e. r.0.0.1 (inr e)))
+returns-in_default c = sym (no_replica _ _ (λ e. c.in-1.rest.0.0.1 (inl e)) c.in-1.rest.0.1 c.in-1.rest.1 (λ e. c.in-1.rest.0.0.1 (inr e)))

@@ -18,8 +18,7 @@ returns-then-out-lt-LONGEST_MESSAGE c =
 pub of_fields-requires : goal.of_fields-requires
 of_fields-requires c =
     let a = c.args in
-    let fields = c.fields-1.given in
-    (answered (reading a.party a.bytes.now) c.read.result fields.0.0 c.read.ensures fields.1, omega arith)
+    (answered (reading a.party a.bytes.now) c.read.result c.in-Message.fields c.read.ensures c.in-Message.is, omega arith)
 
 pub returns-in-Message : goal.returns-in-Message
 returns-in-Message c =
@@ -29,6 +28,5 @@ returns-in-Message c =
 pub returns-in-Refused : goal.returns-in-Refused
 returns-in-Refused c =
     let a = c.args in
-    let number = c.number-1.given in
     refuses (guard_passes 1 (roomy a.out.now) (signature_to a.party a.bytes.now a.i) (le-leb longest (length a.out.now) (omega arith))
-    ∙ unread_at a.party a.bytes.now a.i number.0.0 (turned_down (reading a.party a.bytes.now) c.read.result number.0.0 c.read.ensures number.1))
+    ∙ unread_at a.party a.bytes.now a.i c.in-Refused.number (turned_down (reading a.party a.bytes.now) c.read.result c.in-Refused.number c.read.ensures c.in-Refused.is))
