@@ -31,7 +31,7 @@ pub returns : goal.returns
 returns c =
     let a = c.args in
     let old = a.out.now in
-    let new = c.ask_cards.new.1.1.0 in
+    let new = c.ask_cards.new.out in
     let (long, named) = unbarred old a.register c.barred_by-barred.result c.barred_by-barred.ensures c.if-barred-ne0.false in
     let free = sym c.may_begin.ensures ∙ not-false _ c.if-not-may_begin.false-raw in
     read_calls a.client old c.ask_cards.result new a.register (behind_output a.client old c.ask_cards.result new (begin_read a.client a.register) _ long (read_begins a.client a.register named free) (c.ask_cards.ensures a.client))

@@ -12,7 +12,7 @@ use Rattle.client.proofs.read.on_card.Goals as goal
 pub returns-in_default : goal.returns-in_default
 returns-in_default c =
     let a = c.args in
-    rw (no_cards (after_cards a.role) a.client a.sender a.nonce a.card.now (prepared_part a.proof.now) a.addressed a.phase c.in-Cards.keys2) (plain_call c.refused.result a.out.now a.client (Refused 18) c.refused.ensures)
+    rw (no_cards (after_cards a.role) a.client a.sender a.nonce a.card.now (prepared_part a.proof.now) a.addressed a.phase c.in_default.not-Cards) (plain_call c.refused.result a.out.now a.client (Refused 18) c.refused.ensures)
 
 pub returns-then-not-is_awaited : goal.returns-then-not-is_awaited
 returns-then-not-is_awaited c =

@@ -26,7 +26,7 @@ overflow_add-result c =
     let few = room in omega arith
 
 pub shape_of-entries : goal.shape_of-entries
-shape_of-entries c = c.put.auto.0 ∙ simp length-set
+shape_of-entries c = c.put.auto.out ∙ simp length-set
 
 pub returns : goal.returns
 returns c =

@@ -11,7 +11,7 @@ use Rattle.client.proofs.write.on_prepared.Goals as goal
 pub returns-in_default : goal.returns-in_default
 returns-in_default c =
     let a = c.args in
-    rw (no_prepareds a.client a.sender (number a.timestamp) a.digest.now a.signature.now a.phase c.in-Prepareds.keys2) (plain_call c.refused.result a.out.now a.client (Refused 18) c.refused.ensures)
+    rw (no_prepareds a.client a.sender (number a.timestamp) a.digest.now a.signature.now a.phase c.in_default.not-Prepareds) (plain_call c.refused.result a.out.now a.client (Refused 18) c.refused.ensures)
 
 pub returns-then-not-is_awaited_prepared : goal.returns-then-not-is_awaited_prepared
 returns-then-not-is_awaited_prepared c =

@@ -11,7 +11,7 @@ use Rattle.client.proofs.write.on_stamp.Goals as goal
 pub returns-in_default : goal.returns-in_default
 returns-in_default c =
     let a = c.args in
-    rw (no_stamps a.client a.sender a.nonce (prepared_part a.proof.now) a.addressed a.phase c.in-Stamps.keys2) (plain_call c.refused.result a.out.now a.client (Refused 18) c.refused.ensures)
+    rw (no_stamps a.client a.sender a.nonce (prepared_part a.proof.now) a.addressed a.phase c.in_default.not-Stamps) (plain_call c.refused.result a.out.now a.client (Refused 18) c.refused.ensures)
 
 pub returns-then-not-is_awaited : goal.returns-then-not-is_awaited
 returns-then-not-is_awaited c =

@@ -35,4 +35,4 @@ returns-else-not-is_awaited_written-2 c =
 pub returns-in_default : goal.returns-in_default
 returns-in_default c =
     let a = c.args in
-    λ old. rw (no_writtens a.client a.sender (number a.timestamp) a.signature.now a.phase c.in-Writtens.keys3) (plain_call c.refused-in_default.result old a.client (Refused 18) c.refused-in_default.ensures)
+    λ old. rw (no_writtens a.client a.sender (number a.timestamp) a.signature.now a.phase c.in_default.not-Writtens c.in_default.not-WriteBack) (plain_call c.refused-in_default.result old a.client (Refused 18) c.refused-in_default.ensures)
