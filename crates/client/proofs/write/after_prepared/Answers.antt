@@ -20,7 +20,7 @@ pub returns-then-not-is_quorum : goal.returns-then-not-is_quorum
 unfolding after_prepared
 returns-then-not-is_quorum c =
     let a = c.args in
-    λ before. rw (sym c.is_quorum.ensures ∙ not-true _ c.if-not-is_quorum.true-raw) (plain_call c.waits.result a.out.now (with_phase (Prepareds a.timestamp a.counted) a.client) Counted c.waits.ensures)
+    λ before. rw (sym c.is_quorum.ensures ∙ c.if-not-is_quorum.true) (plain_call c.waits.result a.out.now (with_phase (Prepareds a.timestamp a.counted) a.client) Counted c.waits.ensures)
 
 pub returns : goal.returns
 unfolding after_prepared
@@ -32,5 +32,5 @@ returns c =
     let proof : PreparedProof = record { timestamp = number a.timestamp; digest = a.client.digest; entries = built a.client a.counted signatures } in
     let to = with_phase (Writtens a.timestamp empty) (with_signers (signer_set proof.entries) (with_signatures (zeros 1_024) a.client)) in
     let sent = rw (c.with_phase-client.ensures, c.with_signers-client.ensures, c.built-proof.ensures.who, c.empty.ensures) at c.sent.ensures in
-    λ before. rw (sym c.is_quorum.ensures ∙ not-false _ c.if-not-is_quorum.false-raw)
+    λ before. rw (sym c.is_quorum.ensures ∙ c.if-not-is_quorum.false)
     (sends a.out.now c.write_write-encoded.new.out (WRITE a.client.id (current_card a.client) proof) c.requires c.write_write-encoded.result c.sent.result to (rw made at c.write_write-encoded.ensures) sent)
