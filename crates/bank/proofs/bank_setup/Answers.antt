@@ -2,7 +2,6 @@
 use mathlib.Core.Path.{sym, ◌∙◌}
 use borrow.Author.Tests.{not-true, not-false}
 use Rattle.base.proofs.Outcome.{guard_passes, guard_refuses}
-use borrow.Author.Rules.{rules}
 use Rattle.bank.proofs.bank_setup.Goals as goal
 
 pub returns-in_default : goal.returns-in_default

@@ -3,7 +3,6 @@ use mathlib.Core.Path.{sym, ◌∙◌}
 use borrow.Author.Tests.{not-true, not-false}
 use Rattle.base.proofs.Outcome.{guard_passes, guard_refuses}
 use Rattle.protocol.specs.Order.{ordered}
-use borrow.Author.Rules.{rules}
 use Rattle.bank.proofs.orders.withdraw.Goals as goal
 
 pub returns-then-not-is_order : goal.returns-then-not-is_order

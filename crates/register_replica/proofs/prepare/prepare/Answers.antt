@@ -4,7 +4,6 @@ use mathlib.Core.Bool.{true, ◌||◌}
 use Prim.Native.Nat.{◌/◌}
 use native.Mathlib.Omega.{arith}
 use borrow.Author.Tests.{not-true, not-false}
-use borrow.Author.Rules.{rules}
 use Rattle.base.specs.Timestamp.{number, of_number, successor}
 use Rattle.base.proofs.Timestamps.{of_number_number}
 use Rattle.protocol.specs.RegisterReplica.{is_timestamp, raised, slot_is, slot_takes, with_slots}

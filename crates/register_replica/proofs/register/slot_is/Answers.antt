@@ -1,7 +1,6 @@
 -- `register_replica::register::slot_is` meets its contract.
 use mathlib.Core.Path.{sym, ◌∙◌}
 use borrow.Author.Tests.{not-true, not-false}
-use borrow.Author.Rules.{rules}
 use Rattle.register_replica.proofs.register.slot_is.Goals as goal
 
 pub returns-then-not-is : goal.returns-then-not-is
