@@ -1,10 +1,8 @@
 -- `client::begin_read` meets its contract.
 use mathlib.Core.Path.{sym, ◌∙◌}
-use borrow.Author.Tests.{not-true, not-false}
 use Rattle.protocol.specs.Client.{begin_read}
 use Rattle.client.proofs.Begins.{unbarred}
 use Rattle.client.proofs.Calling.{read_calls, is_barred, is_refused_lem, behind_output, read_barred, read_17, read_begins}
-use borrow.Author.Rules.{rules}
 use Rattle.client.proofs.begin_read.Goals as goal
 
 pub returns-then-barred-ne0 : goal.returns-then-barred-ne0

@@ -1,11 +1,9 @@
 -- `client::begin_write` meets its contract.
 use mathlib.Core.Path.{sym, ◌∙◌}
-use borrow.Author.Tests.{not-true, not-false}
 use Rattle.wire.proofs.card.Digests.{checked_good, checked_refused, card_short}
 use Rattle.protocol.specs.Client.{begin_write}
 use Rattle.client.proofs.Begins.{unbarred}
 use Rattle.client.proofs.Calling.{write_calls, is_barred, is_refused_lem, behind_output, write_barred, write_14, write_17, write_begins}
-use borrow.Author.Rules.{rules}
 use Rattle.client.proofs.begin_write.Goals as goal
 
 pub returns-then-barred-ne0 : goal.returns-then-barred-ne0

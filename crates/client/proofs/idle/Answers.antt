@@ -1,5 +1,4 @@
 -- `client::idle` meets its contract.
-use borrow.Author.Rules.{rules}
 use Rattle.client.proofs.idle.Goals as goal
 
 pub returns : goal.returns

@@ -1,5 +1,4 @@
 -- `client::set_up` meets its contract.
-use borrow.Author.Rules.{rules}
 use Rattle.client.proofs.set_up.Goals as goal
 
 pub overflow_sub-first_nonce : goal.overflow_sub-first_nonce

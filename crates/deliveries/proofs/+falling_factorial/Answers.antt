@@ -1,5 +1,5 @@
 -- `deliveries::falling_factorial`, which calls itself, meets its contract.
-use Rattle.std.proofs.Common.{◌≡◌, ℕ, ◌*◌, ◌-◌, ◌≤◌, ap, ◌∙◌, arith}
+use Rattle.std.proofs.Common.{◌≡◌, ℕ, ◌*◌, ◌≤◌, ap, ◌∙◌, arith}
 use Rattle.deliveries.specs.ShortRuns.{falling_factorial}
 use Rattle.deliveries.proofs.Factorials.{factorial_few, factorial_step}
 use Rattle.deliveries.proofs.+falling_factorial.Goals as goal

@@ -3,7 +3,7 @@ use Rattle.std.proofs.Common.{ℕ, ap, arith}
 use Rattle.text.proofs.Putting.{then, nothing, same_bytes}
 use Rattle.deliveries.specs.ShortRuns.{delivery_line}
 use Rattle.deliveries.specs.Writing.{delivery_of}
-use Rattle.deliveries.proofs.Places.{Next, next, none_left}
+use Rattle.deliveries.proofs.Places.{next, none_left}
 use Rattle.deliveries.proofs.+put_deliveries.Goals as goal
 
 pub returns-then-k-eq0 : goal.returns-then-k-eq0

@@ -1,6 +1,5 @@
 -- `deliveries::put_all` meets its contract.
 use native.Mathlib.Omega.{arith}
-use borrow.Author.Rules.{rules}
 use Rattle.text.proofs.Putting.{then}
 use Rattle.deliveries.specs.ShortRuns.{printed}
 use Rattle.deliveries.proofs.put_all.Goals as goal

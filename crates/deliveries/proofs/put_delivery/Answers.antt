@@ -1,6 +1,5 @@
 -- `deliveries::put_delivery` meets its contract.
 use native.Mathlib.Omega.{arith}
-use borrow.Author.Rules.{rules}
 use Rattle.text.proofs.Putting.{same_bytes}
 use Rattle.deliveries.proofs.Texts.{line_of}
 use Rattle.deliveries.proofs.put_delivery.Goals as goal

@@ -1,5 +1,4 @@
 -- `deliveries::put_run` meets its contract.
-use borrow.Author.Rules.{rules}
 use Rattle.text.proofs.Putting.{then, same_bytes}
 use Rattle.deliveries.specs.ShortRuns.{opening, run_text}
 use Rattle.deliveries.proofs.Places.{is_place, lines_of_all}

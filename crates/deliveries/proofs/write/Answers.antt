@@ -1,6 +1,5 @@
 -- `deliveries::write` meets its contract.
 use native.Mathlib.Omega.{arith}
-use borrow.Author.Rules.{rules}
 use Rattle.deliveries.proofs.Whole.{too_short, whole}
 use Rattle.deliveries.proofs.write.Goals as goal
 

@@ -4,7 +4,6 @@ use lib.ListN.{length}
 use native.Mathlib.Omega.{arith}
 use Rattle.protocol.specs.Client.{current_card}
 use Rattle.client.proofs.Records.{kept_inside, kept_part, kept_many, current_many, short_digest}
-use borrow.Author.Rules.{rules}
 use Rattle.client.proofs.answers.card_digest.Goals as goal
 
 pub slice_bounds-card-end : goal.slice_bounds-card-end

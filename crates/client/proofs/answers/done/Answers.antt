@@ -3,7 +3,6 @@ use mathlib.Core.Path.{◌≡◌, sym}
 use lib.ListN.{length}
 use native.Mathlib.Omega.{arith}
 use Rattle.client.proofs.Records.{kept_inside, kept_part, kept_many, current_many}
-use borrow.Author.Rules.{rules}
 use Rattle.client.proofs.answers.done.Goals as goal
 
 pub slice_bounds-card-end : goal.slice_bounds-card-end

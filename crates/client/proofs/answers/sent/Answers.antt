@@ -1,5 +1,4 @@
 -- `client::answers::sent` meets its contract.
-use borrow.Author.Rules.{rules}
 use Rattle.client.proofs.answers.sent.Goals as goal
 
 pub returns-in-Length : goal.returns-in-Length

@@ -1,5 +1,4 @@
 -- `client::answers::waits` meets its contract.
-use borrow.Author.Rules.{rules}
 use Rattle.client.proofs.answers.waits.Goals as goal
 
 pub returns : goal.returns

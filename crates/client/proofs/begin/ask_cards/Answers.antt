@@ -9,7 +9,6 @@ use Rattle.protocol.specs.Parts.{start_card}
 use Rattle.protocol.specs.declared.client.Phase.TheVariants.{Cards}
 use Rattle.client.proofs.Answering.{sends}
 use Rattle.client.proofs.Begins.{nonce_left}
-use borrow.Author.Rules.{rules}
 use Rattle.client.proofs.begin.ask_cards.Goals as goal
 
 pub overflow_add-nonce : goal.overflow_add-nonce

@@ -8,7 +8,6 @@ use Rattle.protocol.specs.Client.{beginning}
 use Rattle.protocol.specs.declared.client.Phase.TheVariants.{Stamps}
 use Rattle.client.proofs.Answering.{sends}
 use Rattle.client.proofs.Begins.{nonce_left}
-use borrow.Author.Rules.{rules}
 use Rattle.client.proofs.begin.ask_stamps.Goals as goal
 
 pub overflow_add-nonce : goal.overflow_add-nonce

@@ -1,10 +1,9 @@
 -- `client::begin::barred_by` meets its contract.
 use mathlib.Core.Path.{◌≡◌, sym, ◌∙◌}
 use mathlib.Core.Bool.{true, false}
-use borrow.Author.Tests.{not-true, not-false, lt-leb, le-leb}
+use borrow.Author.Tests.{lt-leb, le-leb}
 use Rattle.base.specs.Party.{is_register}
 use Rattle.wire.specs.Message.{longest}
-use borrow.Author.Rules.{rules}
 use Rattle.client.proofs.begin.barred_by.Goals as goal
 
 pub returns-then-room-lt-LONGEST_MESSAGE : goal.returns-then-room-lt-LONGEST_MESSAGE

@@ -2,7 +2,6 @@
 use mathlib.Core.Path.{ap}
 use Rattle.protocol.specs.Client.{is_idle}
 use Rattle.client.proofs.Begins.{busy, next_fits}
-use borrow.Author.Rules.{rules}
 use Rattle.client.proofs.begin.may_begin.Goals as goal
 
 pub returns-in_default : goal.returns-in_default

@@ -1,7 +1,5 @@
 -- `client::handing::hand` meets its contract.
 use mathlib.Core.Path.{◌≡◌, sym, ap, ◌∙◌}
-use borrow.Author.Rules.{rules}
-use borrow.Author.Tests.{not-true, not-false}
 use Rattle.base.specs.Outcome.{accepted}
 use Rattle.wire.specs.HandedProof.{handed_signers}
 use Rattle.wire.specs.Judging.{proof_check_outcome}

@@ -1,6 +1,5 @@
 -- `client::handing::may_take` meets its contract.
 use mathlib.Core.Path.{ap}
-use borrow.Author.Rules.{rules}
 use Rattle.protocol.specs.Client.{is_idle}
 use Rattle.client.proofs.Begins.{busy}
 use Rattle.client.proofs.handing.may_take.Goals as goal

@@ -1,6 +1,5 @@
 -- `client::handing::with_handed` meets its contract.
 use mathlib.Core.Path.{◌≡◌, ap, ◌∙◌}
-use borrow.Author.Rules.{rules}
 use lib.ListN.{length}
 use Rattle.base.specs.Bytes.{filled}
 use Rattle.base.specs.Timestamp.{of_number}

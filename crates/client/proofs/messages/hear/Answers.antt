@@ -7,7 +7,6 @@ use Rattle.wire.proofs.MessageParts.{signers_are}
 use Rattle.client.specs.Roles.{role_step}
 use Rattle.client.proofs.Calling.{step_calls, too_short, is_refused_lem, behind_output}
 use Rattle.client.proofs.Parting.{step_refused, passed_step}
-use borrow.Author.Rules.{rules}
 use Rattle.client.proofs.messages.hear.Goals as goal
 
 pub returns-then-out-lt-LONGEST_MESSAGE : goal.returns-then-out-lt-LONGEST_MESSAGE

@@ -1,5 +1,4 @@
 -- `client::messages::take` meets its contract.
-use borrow.Author.Rules.{rules}
 use Rattle.client.proofs.messages.take.Goals as goal
 
 pub returns-in-Ordinary : goal.returns-in-Ordinary

@@ -2,8 +2,6 @@
 use mathlib.Core.Path.{◌≡◌, sym, ap₂, ◌∙◌}
 use mathlib.Core.List.{List}
 use Prim.Native.Nat.{ℕ}
-use borrow.Author.Tests.{not-true, not-false}
-use borrow.Author.Rules.{rules}
 use Rattle.base.specs.Counting.{replica}
 use Rattle.base.proofs.Outcome.{guard_passes, guard_refuses}
 use Rattle.wire.specs.Parts.{part_at, card_at, prepared_part}

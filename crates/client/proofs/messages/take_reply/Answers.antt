@@ -1,7 +1,6 @@
 -- `client::messages::take_reply` meets its contract.
 use Rattle.client.proofs.Parting.{last_kind}
 use native.Mathlib.Omega.{arith}
-use borrow.Author.Rules.{rules}
 use Rattle.client.proofs.messages.take_reply.Goals as goal
 
 pub take_card-requires : goal.take_card-requires

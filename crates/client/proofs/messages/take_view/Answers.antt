@@ -2,7 +2,6 @@
 use Rattle.protocol.specs.declared.client.ClientAnswer.TheVariants.{Refused}
 use Rattle.client.proofs.Answering.{plain_call}
 use Rattle.client.proofs.Parting.{no_view}
-use borrow.Author.Rules.{rules}
 use Rattle.client.proofs.messages.take_view.Goals as goal
 
 pub returns-then-kind-ne8 : goal.returns-then-kind-ne8

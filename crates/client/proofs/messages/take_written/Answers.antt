@@ -2,7 +2,6 @@
 use mathlib.Core.Path.{sym, ap, ap₂, ◌∙◌}
 use mathlib.Core.List.{List}
 use Prim.Native.Nat.{ℕ}
-use borrow.Author.Rules.{rules}
 use Rattle.base.specs.Counting.{replica}
 use Rattle.base.specs.Timestamp.{number}
 use Rattle.protocol.specs.Client.{on_written, client_answers}

@@ -3,7 +3,6 @@ use mathlib.Core.Path.{sym, ◌∙◌}
 use Rattle.protocol.specs.Client.{with_phase, current_card, after_card}
 use Rattle.protocol.specs.declared.client.Phase.TheVariants.{Idle}
 use Rattle.client.proofs.Answering.{done_call}
-use borrow.Author.Rules.{rules}
 use Rattle.client.proofs.read.after_card.Goals as goal
 
 pub returns-then-is_quorum : goal.returns-then-is_quorum

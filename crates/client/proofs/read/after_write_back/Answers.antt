@@ -1,11 +1,9 @@
 -- `client::read::after_write_back` meets its contract.
 use mathlib.Core.Path.{sym, ◌∙◌}
-use borrow.Author.Tests.{not-true, not-false}
 use Rattle.protocol.specs.Client.{with_phase, current_card, after_write_back}
 use Rattle.protocol.specs.declared.client.Phase.TheVariants.{Idle, WriteBack}
 use Rattle.protocol.specs.declared.client.ClientAnswer.TheVariants.{Counted}
 use Rattle.client.proofs.Answering.{plain_call, done_call}
-use borrow.Author.Rules.{rules}
 use Rattle.client.proofs.read.after_write_back.Goals as goal
 
 pub returns-then-not-is_quorum : goal.returns-then-not-is_quorum

@@ -1,12 +1,10 @@
 -- `client::read::count_card` meets its contract.
 use mathlib.Core.Path.{sym, ◌∙◌}
-use borrow.Author.Tests.{not-true, not-false}
 use Rattle.protocol.specs.Client.{with_phase, current_card, count_card}
 use Rattle.protocol.specs.Viewer.{after_view}
 use Rattle.protocol.specs.declared.client.Phase.TheVariants.{Idle, Cards}
 use Rattle.protocol.specs.declared.client.ClientAnswer.TheVariants.{Counted}
 use Rattle.client.proofs.Answering.{plain_call, done_call}
-use borrow.Author.Rules.{rules}
 use Rattle.client.proofs.read.count_card.Goals as goal
 
 pub returns-then-not-is_quorum : goal.returns-then-not-is_quorum

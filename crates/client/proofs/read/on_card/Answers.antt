@@ -1,6 +1,5 @@
 -- `client::read::on_card` meets its contract.
 use mathlib.Core.Path.{sym, ◌∙◌}
-use borrow.Author.Tests.{not-true, not-false}
 use Rattle.wire.specs.Parts.{prepared_part}
 use Rattle.protocol.specs.declared.client.ClientAnswer.TheVariants.{Refused}
 use Rattle.client.specs.Roles.{after_cards}

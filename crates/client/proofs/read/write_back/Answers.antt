@@ -3,7 +3,6 @@ use Rattle.wire.specs.Message.{WRITE}
 use Rattle.protocol.specs.Client.{with_phase, current_card, best_proof}
 use Rattle.protocol.specs.declared.client.Phase.TheVariants.{WriteBack}
 use Rattle.client.proofs.Answering.{sends}
-use borrow.Author.Rules.{rules}
 use Rattle.client.proofs.read.write_back.Goals as goal
 
 pub returns : goal.returns

@@ -1,5 +1,4 @@
 -- `client::record::beginning` meets its contract.
-use borrow.Author.Rules.{rules}
 use Rattle.client.proofs.record.beginning.Goals as goal
 
 pub returns : goal.returns

@@ -1,5 +1,4 @@
 -- `client::record::built` meets its contract.
-use borrow.Author.Rules.{rules}
 use Rattle.client.proofs.record.built.Goals as goal
 
 pub returns : goal.returns

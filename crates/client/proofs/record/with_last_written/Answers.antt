@@ -1,6 +1,5 @@
 -- `client::record::with_last_written` meets its contract.
 use mathlib.Core.Path.{◌∙◌}
-use borrow.Author.Rules.{rules}
 use Rattle.client.proofs.record.with_last_written.Goals as goal
 
 pub returns : goal.returns

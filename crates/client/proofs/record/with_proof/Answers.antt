@@ -1,6 +1,5 @@
 -- `client::record::with_proof` meets its contract.
 use mathlib.Core.Path.{◌≡◌, ap, ◌∙◌}
-use borrow.Author.Rules.{rules}
 use Rattle.base.specs.Bytes.{filled}
 use Rattle.base.proofs.Filling.{filled_whole}
 use Rattle.wire.specs.Parts.{digest_part, entries_part}

@@ -1,5 +1,4 @@
 -- `client::record::with_written_for` meets its contract.
-use borrow.Author.Rules.{rules}
 use Rattle.client.proofs.record.with_written_for.Goals as goal
 
 pub returns : goal.returns

@@ -1,5 +1,4 @@
 -- `client::record::written_for` meets its contract.
-use borrow.Author.Rules.{rules}
 use Rattle.client.proofs.record.written_for.Goals as goal
 
 pub returns : goal.returns

@@ -2,7 +2,6 @@
 use mathlib.Core.Path.{◌∙◌}
 use Rattle.wire.proofs.MessageParts.{shown}
 use Rattle.client.proofs.ProofPart.{compared}
-use borrow.Author.Rules.{rules}
 use Rattle.client.proofs.replies.best_of.Goals as goal
 
 pub returns-then-is_before : goal.returns-then-is_before

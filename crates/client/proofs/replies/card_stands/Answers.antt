@@ -1,5 +1,4 @@
 -- `client::replies::card_stands` meets its contract.
-use borrow.Author.Rules.{rules}
 use Rattle.wire.proofs.MessageParts.{by_parts, missing_part, proof_there}
 use Rattle.client.proofs.replies.card_stands.Goals as goal
 

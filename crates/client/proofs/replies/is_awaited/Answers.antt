@@ -1,6 +1,5 @@
 -- `client::replies::is_awaited` meets its contract.
 use borrow.Author.Tests.{eq-eqb, ne_eqb}
-use borrow.Author.Rules.{rules}
 use Rattle.client.proofs.replies.is_awaited.Goals as goal
 
 pub returns-then-nonce-asked : goal.returns-then-nonce-asked

@@ -1,7 +1,5 @@
 -- `client::replies::is_awaited_prepared` meets its contract.
 use mathlib.Core.Path.{sym, ◌∙◌}
-use borrow.Author.Tests.{not-true, not-false}
-use borrow.Author.Rules.{rules}
 use Rattle.client.proofs.replies.is_awaited_prepared.Goals as goal
 
 pub returns-then-not-is : goal.returns-then-not-is

@@ -1,6 +1,5 @@
 -- `client::replies::is_better` meets its contract.
 use mathlib.Core.Path.{sym}
-use borrow.Author.Rules.{rules}
 use Rattle.client.proofs.ProofPart.{compared}
 use Rattle.client.proofs.replies.is_better.Goals as goal
 

@@ -1,7 +1,5 @@
 -- `client::replies::keep_better` meets its contract.
 use mathlib.Core.Path.{sym, ap, ◌∙◌}
-use borrow.Author.Tests.{not-true, not-false}
-use borrow.Author.Rules.{rules}
 use Rattle.base.specs.Timestamp.{number}
 use Rattle.wire.specs.Parts.{prepared_signers}
 use Rattle.client.proofs.ProofPart.{later_there}

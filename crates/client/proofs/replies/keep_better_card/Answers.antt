@@ -1,7 +1,5 @@
 -- `client::replies::keep_better_card` meets its contract.
 use mathlib.Core.Path.{sym, ap, ◌∙◌}
-use borrow.Author.Tests.{not-true, not-false}
-use borrow.Author.Rules.{rules}
 use Rattle.base.specs.Timestamp.{number}
 use Rattle.wire.specs.Parts.{prepared_signers}
 use Rattle.protocol.specs.Client.{with_card}

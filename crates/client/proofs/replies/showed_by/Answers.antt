@@ -1,7 +1,6 @@
 -- `client::replies::showed_by` meets its contract.
 use mathlib.Core.Path.{◌∙◌}
 use Rattle.client.proofs.ProofPart.{compared, equalled}
-use borrow.Author.Rules.{rules}
 use Rattle.client.proofs.replies.showed_by.Goals as goal
 
 pub returns-then-is_before : goal.returns-then-is_before

@@ -1,7 +1,5 @@
 -- `client::signatures::add_signer` meets its contract.
 use mathlib.Core.Path.{sym, ◌∙◌}
-use borrow.Author.Rules.{rules}
-use borrow.Author.Tests.{not-true, not-false}
 use Rattle.client.proofs.signatures.add_signer.Goals as goal
 
 pub returns-then-not-is_taken : goal.returns-then-not-is_taken

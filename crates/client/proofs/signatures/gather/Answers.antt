@@ -1,12 +1,9 @@
 -- `client::signatures::gather` meets its contract: the entries of the replicas up to id are kept.
 use mathlib.Core.Path.{◌≡◌, refl, ◌∙◌}
-use Prim.Native.Nat.{suc, ◌+◌, ◌-◌, ◌≤◌}
+use Prim.Native.Nat.{suc, ◌+◌}
 use native.Mathlib.Numerals.{add-one}
 use native.Mathlib.Omega.{arith}
 use borrow.Author.Rules.{rules}
-use lib.ListN.{length, take}
-use Rattle.protocol.specs.Client.{gathered}
-use Rattle.client.specs.Arrays.{Keeps}
 use Rattle.client.proofs.Gathering.{gathered_more, nothing_gathered}
 use Rattle.client.proofs.signatures.gather.Goals as goal
 

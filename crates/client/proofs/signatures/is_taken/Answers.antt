@@ -1,7 +1,5 @@
 -- `client::signatures::is_taken` meets its contract.
 use mathlib.Core.Path.{sym, ◌∙◌}
-use borrow.Author.Rules.{rules}
-use borrow.Author.Tests.{not-true, not-false}
 use Rattle.client.proofs.signatures.is_taken.Goals as goal
 
 pub returns-then-not-has : goal.returns-then-not-has

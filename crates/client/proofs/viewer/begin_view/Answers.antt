@@ -1,5 +1,4 @@
 -- `client::viewer::begin_view` meets its contract.
-use borrow.Author.Rules.{rules}
 use Rattle.client.proofs.viewer.begin_view.Goals as goal
 
 pub returns : goal.returns

@@ -4,7 +4,6 @@ use Rattle.base.specs.Outcome.{Outcome}
 use Rattle.base.specs.Party.{is_viewer}
 use Rattle.protocol.specs.Client.{fresh_client, client_if_set_up}
 use Rattle.client.proofs.Setups.{nonce_if_good}
-use borrow.Author.Rules.{rules}
 use Rattle.client.proofs.viewer.fresh.Goals as goal
 
 pub set_up-client-requires : goal.set_up-client-requires

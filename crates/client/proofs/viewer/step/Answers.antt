@@ -1,5 +1,4 @@
 -- `client::viewer::step` meets its contract.
-use borrow.Author.Rules.{rules}
 use Rattle.client.proofs.viewer.step.Goals as goal
 
 pub returns : goal.returns

@@ -2,7 +2,6 @@
 use mathlib.Core.Path.{◌≡◌, sym, ◌∙◌}
 use native.Mathlib.Omega.{arith}
 use lib.ListN.{length}
-use borrow.Author.Tests.{not-true, not-false}
 use Rattle.base.specs.ReplicaSet.{empty}
 use Rattle.base.specs.Timestamp.{number}
 use Rattle.wire.specs.Message.{WRITE}
@@ -13,7 +12,6 @@ use Rattle.protocol.specs.declared.client.ClientAnswer.TheVariants.{Counted}
 use Rattle.client.proofs.Records.{kept_built}
 use Rattle.base.proofs.Filling.{zeros}
 use Rattle.client.proofs.Answering.{plain_call, sends}
-use borrow.Author.Rules.{rules}
 use Rattle.client.proofs.write.after_prepared.Goals as goal
 
 pub returns-then-not-is_quorum : goal.returns-then-not-is_quorum

@@ -4,7 +4,6 @@ use Rattle.protocol.specs.Client.{with_phase, after_stamp}
 use Rattle.protocol.specs.declared.client.Phase.TheVariants.{Stamps}
 use Rattle.protocol.specs.declared.client.ClientAnswer.TheVariants.{Counted}
 use Rattle.client.proofs.Answering.{plain_call}
-use borrow.Author.Rules.{rules}
 use Rattle.client.proofs.write.after_stamp.Goals as goal
 
 pub returns-then-is_quorum : goal.returns-then-is_quorum

@@ -1,11 +1,9 @@
 -- `client::write::after_written` meets its contract.
 use mathlib.Core.Path.{sym, ◌∙◌}
-use borrow.Author.Tests.{not-true, not-false}
 use Rattle.protocol.specs.Client.{with_phase, with_last_written, built, current_card, after_written}
 use Rattle.protocol.specs.declared.client.Phase.TheVariants.{Idle, Writtens}
 use Rattle.protocol.specs.declared.client.ClientAnswer.TheVariants.{Counted}
 use Rattle.client.proofs.Answering.{plain_call, done_call}
-use borrow.Author.Rules.{rules}
 use Rattle.client.proofs.write.after_written.Goals as goal
 
 pub returns-then-not-is_quorum : goal.returns-then-not-is_quorum

@@ -1,5 +1,4 @@
 -- `client::write::count_written` meets its contract.
-use borrow.Author.Rules.{rules}
 use Rattle.client.proofs.write.count_written.Goals as goal
 
 pub returns : goal.returns

@@ -1,11 +1,9 @@
 -- `client::write::on_prepared` meets its contract.
 use mathlib.Core.Path.{sym, ◌∙◌}
-use borrow.Author.Tests.{not-true, not-false}
 use Rattle.protocol.specs.declared.client.ClientAnswer.TheVariants.{Refused}
 use Rattle.client.proofs.Answering.{plain_call}
 use Rattle.base.specs.Timestamp.{number}
 use Rattle.client.proofs.Phases.{no_prepareds, prepared_refused, prepared_taken}
-use borrow.Author.Rules.{rules}
 use Rattle.client.proofs.write.on_prepared.Goals as goal
 
 pub returns-in_default : goal.returns-in_default

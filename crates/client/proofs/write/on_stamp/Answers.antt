@@ -1,11 +1,9 @@
 -- `client::write::on_stamp` meets its contract.
 use mathlib.Core.Path.{sym, ◌∙◌}
-use borrow.Author.Tests.{not-true, not-false}
 use Rattle.wire.specs.Parts.{prepared_part}
 use Rattle.protocol.specs.declared.client.ClientAnswer.TheVariants.{Refused}
 use Rattle.client.proofs.Answering.{plain_call}
 use Rattle.client.proofs.Phases.{no_stamps, stamp_refused, stamp_taken}
-use borrow.Author.Rules.{rules}
 use Rattle.client.proofs.write.on_stamp.Goals as goal
 
 pub returns-in_default : goal.returns-in_default

@@ -1,11 +1,9 @@
 -- `client::write::on_written` meets its contract.
 use mathlib.Core.Path.{sym, ◌∙◌}
-use borrow.Author.Tests.{not-true, not-false}
 use Rattle.base.specs.Timestamp.{number}
 use Rattle.protocol.specs.declared.client.ClientAnswer.TheVariants.{Refused}
 use Rattle.client.proofs.Answering.{plain_call}
 use Rattle.client.proofs.Phases.{no_writtens, written_refused, written_taken, back_refused, back_taken}
-use borrow.Author.Rules.{rules}
 use Rattle.client.proofs.write.on_written.Goals as goal
 
 pub returns-then-not-is_awaited_written : goal.returns-then-not-is_awaited_written

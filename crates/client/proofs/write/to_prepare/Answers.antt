@@ -4,7 +4,6 @@ use Rattle.protocol.specs.Client.{with_phase, with_digest}
 use Rattle.protocol.specs.declared.client.Phase.TheVariants.{Idle, Prepareds}
 use Rattle.protocol.specs.declared.client.ClientAnswer.TheVariants.{Ended}
 use Rattle.client.proofs.Answering.{plain_call, sends, no_successor_lem, the_successor}
-use borrow.Author.Rules.{rules}
 use Rattle.client.proofs.write.to_prepare.Goals as goal
 
 pub returns-in_default : goal.returns-in_default

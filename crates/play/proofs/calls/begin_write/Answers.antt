@@ -1,6 +1,5 @@
 -- `play::calls::begin_write` meets its contract.
 use mathlib.Core.Path.{refl}
-use borrow.Author.Rules.{rules}
 use Rattle.play.proofs.Leaving.{client_leaves, card_read_lem}
 use Rattle.play.proofs.calls.begin_write.Goals as goal
 

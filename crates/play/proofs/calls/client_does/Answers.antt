@@ -2,7 +2,6 @@
 use mathlib.Core.Path.{sym, ap, ap₂, ◌∙◌}
 use mathlib.Core.List.{List}
 use Prim.Native.Nat.{ℕ}
-use borrow.Author.Rules.{rules}
 use Rattle.play.proofs.Leaving.{client_leaves, client_behind, same_call, out_free, put_behind}
 use Rattle.play.specs.Calls.{the_register, client_does}
 use Rattle.text.specs.Hex.{hex_pairs}

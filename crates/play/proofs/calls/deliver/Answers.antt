@@ -2,7 +2,6 @@
 use mathlib.Core.Path.{refl, ap₂}
 use mathlib.Core.List.{List}
 use Prim.Native.Nat.{ℕ}
-use borrow.Author.Rules.{rules}
 use Rattle.play.proofs.Leaving.{message_copied, out_free, put_behind, client_behind}
 use Rattle.play.specs.Calls.{verdicts, client_does}
 use Rattle.wire.specs.declared.message.Party.TheVariants.{Client as Here}

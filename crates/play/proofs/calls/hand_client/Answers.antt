@@ -1,5 +1,4 @@
 -- `play::calls::hand_client` meets its contract.
-use borrow.Author.Rules.{rules}
 use Rattle.play.proofs.Leaving.{client_leaves, ones}
 use Rattle.wire.specs.declared.message.Party.TheVariants.{Client as AtClient}
 use Rattle.play.proofs.calls.hand_client.Goals as goal

@@ -1,5 +1,4 @@
 -- `play::calls::hand_replica` meets its contract.
-use borrow.Author.Rules.{rules}
 use Rattle.play.proofs.Leaving.{replica_leaves, ones}
 use Rattle.wire.specs.declared.message.Party.TheVariants.{Replica as AtReplica}
 use Rattle.play.proofs.calls.hand_replica.Goals as goal

@@ -1,12 +1,9 @@
 -- `play::grammar::all_hex` meets its contract. What is left decides.
 use mathlib.Core.Path.{refl, sym, ◌≡◌, ◌∙◌}
 use mathlib.Core.Bool.{true, false}
-use Prim.Native.Nat.{◌-◌, ◌≤◌}
 use native.Mathlib.Omega.{arith}
-use borrow.Author.Tests.{not-true, not-false}
-use lib.ListN.{length, get_or, drop}
+use lib.ListN.{length, get_or}
 use lib.Seq.{drop-length}
-use borrow.Author.Rules.{rules}
 use Rattle.play.specs.Grammar.{is_hex_digit}
 use Rattle.wire.specs.Checks.{all}
 use Rattle.wire.proofs.Verdicts.{all_step}

@@ -1,15 +1,9 @@
 -- `play::grammar::all_hex` meets its contract. What is left decides.
-use mathlib.Core.Path.{refl, sym, ◌≡◌, ◌∙◌}
-use mathlib.Core.Bool.{true, false}
+use mathlib.Core.Path.{◌≡◌}
 use Prim.Native.Nat.{◌-◌, ◌≤◌}
-use native.Mathlib.Omega.{arith}
-use borrow.Author.Tests.{not-true, not-false}
-use lib.ListN.{length, get_or, drop}
-use lib.Seq.{drop-length}
-use borrow.Author.Rules.{rules}
+use lib.ListN.{length, drop}
 use Rattle.play.specs.Grammar.{is_hex_digit}
 use Rattle.wire.specs.Checks.{all}
-use Rattle.wire.proofs.Verdicts.{all_step}
 use Rattle.play.proofs.grammar.all_hex.Given as goal
 
 abbrev pub invariant-loop-i : goal.invariant-loop-i

@@ -1,6 +1,5 @@
 -- `play::grammar::asked` meets its contract.
 use borrow.Author.Tests.{eq-eqb, ne_eqb}
-use borrow.Author.Rules.{rules}
 use Rattle.play.specs.Grammar.{asked}
 use Rattle.play.proofs.grammar.asked.Goals as goal
 

@@ -3,7 +3,6 @@ use native.Mathlib.Omega.{arith}
 use Prim.Native.Nat.{◌%◌}
 use lib.ListN.{length}
 use borrow.Author.Tests.{eq-eqb, ne_eqb}
-use borrow.Author.Rules.{rules}
 use Rattle.play.specs.Grammar.{is_hex_card}
 use Rattle.base.proofs.Range.{inside, below, above}
 use Rattle.play.proofs.grammar.is_card.Goals as goal

@@ -1,5 +1,4 @@
 -- `play::grammar::is_hex_digit` meets its contract.
-use borrow.Author.Rules.{rules}
 use Rattle.play.specs.Grammar.{is_hex_digit}
 use Rattle.play.proofs.grammar.is_hex_digit.Goals as goal
 

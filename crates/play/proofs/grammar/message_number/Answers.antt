@@ -1,6 +1,5 @@
 -- `play::grammar::message_number` meets its contract.
 use borrow.Author.Tests.{eq-eqb, ne_eqb}
-use borrow.Author.Rules.{rules}
 use Rattle.play.specs.Grammar.{message_number}
 use Rattle.play.proofs.grammar.message_number.Goals as goal
 

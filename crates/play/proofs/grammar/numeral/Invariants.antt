@@ -1,18 +1,8 @@
 -- `play::grammar::numeral` meets its contract. What is left decides.
-use mathlib.Core.Path.{refl, sym, ◌≡◌, ◌∙◌}
-use Prim.Native.Nat.{◌-◌, ◌≤◌, ◌<◌, ◌+◌, ◌*◌, ℕ}
-use native.Mathlib.Omega.{arith}
-use mathlib.Core.Bool.{true, false, cond}
-use borrow.Author.Tests.{not-true, not-false, lt-ltb, le-ltb}
-use lib.ListN.{length, get_or, drop}
-use lib.Seq.{drop-cons, drop-length}
-use mathlib.Core.List.{List}
-use native.Mathlib.Numerals.{add-one}
-use lib.Dec.{ltb}
-use borrow.Author.Rules.{rules}
+use mathlib.Core.Path.{◌≡◌}
+use Prim.Native.Nat.{◌-◌, ◌≤◌}
+use lib.ListN.{length, drop}
 use Rattle.play.specs.Grammar.{numeral}
-use Rattle.base.specs.Range.{within}
-use Rattle.base.proofs.Range.{bounds}
 use Rattle.play.proofs.grammar.numeral.Given as goal
 
 abbrev pub invariant-loop-i : goal.invariant-loop-i

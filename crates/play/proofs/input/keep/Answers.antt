@@ -1,12 +1,10 @@
 -- `play::input::keep` meets its contract. Whoever keeps what is left has kept all.
 use mathlib.Core.Path.{◌≡◌, refl, ◌∙◌}
 use mathlib.Core.List.{List}
-use Prim.Native.Nat.{ℕ, ◌-◌, ◌≤◌}
+use Prim.Native.Nat.{ℕ}
 use native.Mathlib.Omega.{arith}
-use borrow.Author.Rules.{rules}
 use lib.ListN.{length, drop}
 use lib.Seq.{drop-length}
-use Rattle.text.specs.Put.{Puts}
 use Rattle.text.proofs.Putting.{then, nothing, same_bytes}
 use Rattle.play.specs.Input.{after, kept_of, Keeps}
 use Rattle.play.specs.declared.input.Kept.{Kept}

@@ -1,6 +1,5 @@
 -- `play::input::keep_byte` meets its contract.
 use native.Mathlib.Omega.{arith}
-use borrow.Author.Rules.{rules}
 use borrow.Author.Tests.{le-leb, lt-leb, eq-eqb, ne_eqb}
 use Rattle.text.proofs.Putting.{nothing}
 use Rattle.play.specs.Input.{step, kept_byte, after, kept_of}

@@ -1,5 +1,4 @@
 -- `play::log::copy_message` meets its contract.
-use borrow.Author.Rules.{rules}
 use Rattle.play.specs.Log.{message}
 use Rattle.play.proofs.log.copy_message.Goals as goal
 

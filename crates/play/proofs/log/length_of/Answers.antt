@@ -1,7 +1,6 @@
 -- `play::log::length_of` meets its contract.
 use borrow.Author.Tests.{lt-ltb, le-ltb}
 use native.Mathlib.Omega.{arith}
-use borrow.Author.Rules.{rules}
 use Rattle.play.specs.Log.{sent_length}
 use Rattle.play.proofs.log.length_of.Goals as goal
 

@@ -1,7 +1,6 @@
 -- `play::log::with` meets its contract.
 use borrow.Author.Tests.{lt-ltb, le-ltb}
 use native.Mathlib.Omega.{arith}
-use borrow.Author.Rules.{rules}
 use Rattle.play.specs.Log.{logged}
 use Rattle.play.proofs.log.with.Goals as goal
 

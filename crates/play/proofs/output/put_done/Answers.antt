@@ -1,5 +1,4 @@
 -- `play::output::put_done` meets its contract.
-use borrow.Author.Rules.{rules}
 use Rattle.text.proofs.Putting.{then}
 use Rattle.play.specs.Output.{said}
 use Rattle.play.proofs.output.put_done.Goals as goal

@@ -1,5 +1,4 @@
 -- `play::output::put_numbered` meets its contract.
-use borrow.Author.Rules.{rules}
 use Rattle.text.proofs.Putting.{then}
 use Rattle.play.proofs.output.put_numbered.Goals as goal
 

@@ -1,5 +1,4 @@
 -- `play::output::put_said` meets its contract.
-use borrow.Author.Rules.{rules}
 use Rattle.play.specs.Output.{said}
 use Rattle.play.proofs.output.put_said.Goals as goal
 

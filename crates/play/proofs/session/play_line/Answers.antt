@@ -2,7 +2,6 @@
 use mathlib.Core.Path.{ap₂}
 use mathlib.Core.List.{List}
 use Prim.Native.Nat.{ℕ}
-use borrow.Author.Rules.{rules}
 use Rattle.text.proofs.Putting.{same_bytes}
 use Rattle.play.specs.Output.{line}
 use Rattle.play.specs.declared.output.Said.{Said}

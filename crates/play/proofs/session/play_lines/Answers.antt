@@ -1,13 +1,7 @@
 -- `play::session::play_lines` meets its contract. Whoever prints what is left has printed all.
-use mathlib.Core.Path.{◌≡◌, refl}
-use mathlib.Core.List.{List}
-use Prim.Native.Nat.{ℕ, ◌+◌, ◌-◌, ◌≤◌}
+use mathlib.Core.Path.{refl}
+use Prim.Native.Nat.{◌+◌, ◌-◌}
 use native.Mathlib.Omega.{arith}
-use borrow.Author.Rules.{rules}
-use lib.ListN.{length, take, drop}
-use Rattle.text.specs.Line.{lines}
-use Rattle.text.specs.Put.{Puts}
-use Rattle.play.specs.Session.{printed_lines}
 use Rattle.play.proofs.Printing.{with_line, none_left, at_end}
 use Rattle.play.proofs.session.play_lines.Goals as goal
 

@@ -1,14 +1,11 @@
 -- `play::session::play_lines` meets its contract. Whoever prints what is left has printed all.
-use mathlib.Core.Path.{◌≡◌, refl}
+use mathlib.Core.Path.{◌≡◌}
 use mathlib.Core.List.{List}
 use Prim.Native.Nat.{ℕ, ◌+◌, ◌-◌, ◌≤◌}
-use native.Mathlib.Omega.{arith}
-use borrow.Author.Rules.{rules}
 use lib.ListN.{length, take, drop}
 use Rattle.text.specs.Line.{lines}
 use Rattle.text.specs.Put.{Puts}
 use Rattle.play.specs.Session.{printed_lines}
-use Rattle.play.proofs.Printing.{with_line, none_left, at_end}
 use Rattle.play.proofs.session.play_lines.Given as goal
 
 abbrev pub invariant-loop-from : goal.invariant-loop-from

@@ -1,5 +1,4 @@
 -- `play::turn::addressed` meets its contract.
-use borrow.Author.Rules.{rules}
 use Rattle.play.specs.Player.{addressee}
 use Rattle.play.proofs.turn.addressed.Goals as goal
 

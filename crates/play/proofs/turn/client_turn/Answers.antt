@@ -2,7 +2,6 @@
 use mathlib.Core.Path.{◌≡◌, refl}
 use native.Mathlib.Omega.{arith}
 use lib.ListN.{length}
-use borrow.Author.Rules.{rules}
 use Rattle.play.proofs.Turning.{default_free, client_plays}
 use Rattle.play.proofs.turn.client_turn.Goals as goal
 

@@ -1,5 +1,4 @@
 -- `play::turn::logged` meets its contract.
-use borrow.Author.Rules.{rules}
 use Rattle.play.specs.Player.{logged_by}
 use Rattle.play.proofs.turn.logged.Goals as goal
 

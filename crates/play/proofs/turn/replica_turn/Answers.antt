@@ -2,7 +2,6 @@
 use mathlib.Core.Path.{◌≡◌}
 use native.Mathlib.Omega.{arith}
 use lib.ListN.{length}
-use borrow.Author.Rules.{rules}
 use Rattle.play.proofs.Turning.{default_free, replica_plays}
 use Rattle.play.proofs.turn.replica_turn.Goals as goal
 

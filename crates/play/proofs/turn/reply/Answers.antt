@@ -1,5 +1,4 @@
 -- `play::turn::reply` meets its contract.
-use borrow.Author.Rules.{rules}
 use Rattle.play.proofs.turn.reply.Goals as goal
 
 pub returns-in-Send : goal.returns-in-Send

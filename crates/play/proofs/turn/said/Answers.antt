@@ -1,5 +1,4 @@
 -- `play::turn::said` meets its contract.
-use borrow.Author.Rules.{rules}
 use Rattle.play.specs.Player.{said_of}
 use Rattle.play.proofs.turn.said.Goals as goal
 

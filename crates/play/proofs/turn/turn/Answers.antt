@@ -1,6 +1,5 @@
 -- `play::turn::turn` meets its contract.
 use mathlib.Core.Path.{refl}
-use borrow.Author.Rules.{rules}
 use Rattle.play.specs.Player.{does}
 use Rattle.play.proofs.Turning.{turn_plays, nobody_plays}
 use Rattle.play.proofs.turn.turn.Goals as goal

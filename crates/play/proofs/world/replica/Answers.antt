@@ -1,5 +1,4 @@
 -- `play::world::replica` meets its contract.
-use borrow.Author.Rules.{rules}
 use Rattle.play.proofs.world.replica.Goals as goal
 
 pub returns : goal.returns

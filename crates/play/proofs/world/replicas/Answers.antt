@@ -1,5 +1,4 @@
 -- `play::world::replicas` meets its contract.
-use borrow.Author.Rules.{rules}
 use Rattle.play.specs.Worlds.{fresh_world}
 use Rattle.play.proofs.world.replicas.Goals as goal
 
