@@ -53,7 +53,7 @@ pub record JudgesPart (bank : Bank) (part : List ℕ) (last : Bool) (r : PartJud
   -- More is awaited only behind a part that is not the last, and what is left of it is shorter than the longest entry.
   pub awaits : r.finding ≡ More → (last ≡ false) × (length part < r.used + longest_entry)
 
--- Where the head is refused there is no replica: the record of `noBank` stands in its place.
+-- Where the head is refused there is no replica: the record of `no_bank` stands in its place.
 pub record SetsUp (log : List ℕ) (r : NewBank) : Type 0 where
   pub set_up : setup_outcome r.setup ≡ head_outcome log
   pub bank_is : r.bank ≡ bank_if_set_up (head_outcome log) (fresh_in log)

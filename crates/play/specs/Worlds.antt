@@ -1,4 +1,4 @@
--- What the player starts with: four replicas with one register each (`Calls.theRegister`; `ForRegister` has why one is enough), and four clients.
+-- What the player starts with: four replicas with one register each (`Calls.the_register`; `ForRegister` has why one is enough), and four clients.
 use Rattle.std.specs.Prelude.{List, [], ◌∷◌, ℕ, ◌+◌, ◌%◌, replicate}
 use Rattle.base.specs.Counting.{replica}
 use Rattle.base.specs.declared.party.ClientId.{ClientId}

@@ -62,7 +62,7 @@ fn store() -> [u8; 158_000]
 }
 
 // Plays a script, and puts all that is printed into the front of a buffer, as far as it has room; answers how many bytes that
-// are. No script prints more than 10,818 bytes (`proofs/Room.printed-room`).
+// are. No script prints more than 10,818 bytes (`proofs/Room.printed_room`).
 pub fn play(script: &[u8], out: &mut [u8]) -> usize
     ensures { Puts out.old 0 (printed script.now) result out.new }
 {

@@ -35,7 +35,7 @@ fn read_script(script: &mut [u8]) -> usize {
     kept.length
 }
 
-// Room for what is kept of any input, and for all that any script prints: `play`'s laws `script-room` and `printed-room`.
+// Room for what is kept of any input, and for all that any script prints: `play`'s laws `script_room` and `printed_room`.
 fn main() {
     let mut script = [0u8; 4_000];
     let n = read_script(&mut script);

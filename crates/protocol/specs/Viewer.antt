@@ -1,5 +1,5 @@
 -- Document 02, #101: a viewing client (viewing desk), which only looks: "READ, then q CARDs, then done with the largest stamp, and no
--- write-back". Its record is a client's, and a view begins as a read does (`beginRead`).
+-- write-back". Its record is a client's, and a view begins as a read does (`begin_read`).
 use Rattle.std.specs.Prelude.{List, ℕ}
 use Rattle.base.specs.ClientSet.{nobody}
 use Rattle.base.specs.Outcome.{Outcome, refused, guard, ◌>>=◌}

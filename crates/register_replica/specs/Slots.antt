@@ -3,7 +3,7 @@ use Rattle.std.specs.Prelude.{Bool, ◌&&◌, ◌||◌, List, ℕ, ◌+◌, ◌*
 use Rattle.base.specs.Same.{same}
 use Rattle.base.specs.declared.party.ClientId.{ClientId}
 
--- `slotIs` and `slotTakes` of a slot with this count and digest.
+-- `slot_is` and `slot_takes` of a slot with this count and digest.
 abbrev pub is_slot : ℕ → List ℕ → ClientId → ℕ → List ℕ → Bool
 is_slot count held client timestamp digest = eqb (count * 256 + client.0) timestamp && same held digest
 

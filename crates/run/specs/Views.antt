@@ -1,4 +1,4 @@
--- What a view of a register shows, beside `view-after`: the order of operations leaves views out, but they show no card of their own.
+-- What a view of a register shows, beside `view_after`: the order of operations leaves views out, but they show no card of their own.
 use Rattle.std.specs.Prelude.{◌≡◌}
 use Rattle.base.specs.Timestamp.{number}
 use Rattle.base.specs.declared.party.RegisterId.{RegisterId}

@@ -72,7 +72,7 @@ padded m = m ++ (0x80 ∷ replicate (padding_zeros (length m)) 0 ++ to_bytes 8 (
 abbrev pub block : List ℕ → ℕ → List ℕ
 block p i = take 64 (drop (64 * i) p)
 
--- How many blocks a message of n bytes has once it is padded: `length-padded` of the proofs says so.
+-- How many blocks a message of n bytes has once it is padded: `length_padded` of the proofs says so.
 abbrev pub block_count : ℕ → ℕ
 block_count n = (n + 8) / 64 + 1
 

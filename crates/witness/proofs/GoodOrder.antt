@@ -1,4 +1,4 @@
--- A withdrawal order of client 4, and a key under which it is good: the law `key-for` gives it, and it stays a name, so that no hash of the check is
+-- A withdrawal order of client 4, and a key under which it is good: the law `key_for` gives it, and it stays a name, so that no hash of the check is
 -- computed. Assumes nothing.
 use mathlib.Core.Path.{◌≡◌, refl}
 use mathlib.Core.Bool.{true}

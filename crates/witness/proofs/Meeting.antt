@@ -28,7 +28,7 @@ pub record Meeting (R : Run) : Type 0 where
   pub faulty : R.correct_replica replica_4 ≡ false
   pub other_write : Finished R register_1
   pub write : Finished R register_2
-  -- The view began when the write of its register was done: what `view-after` says of the two.
+  -- The view began when the write of its register was done: what `view_after` says of the two.
   pub view : Viewed R register_2
   pub follows : write.finished < view.begun
   pub not_earlier : number write.timestamp ≤ number view.timestamp

@@ -33,7 +33,7 @@ use Rattle.witness.proofs.Judging.{passing, AllFair, as_boxes, Made, judged_told
 use Rattle.witness.proofs.NewLaptop.{held_up, story, run, as_told, premises, new_laptop}
 use Rattle.witness.proofs.Story.{◌↝◌}
 
--- As `not-refused`, without one laptop; since the operation began its client was not made again, as long as it lasts.
+-- As `not_refused`, without one laptop; since the operation began its client was not made again, as long as it lasts.
 abbrev pub NotRefused : (R : Run) → RegisterId → (Signature → Type 0) → Type 0
 NotRefused R x Made =
     (o : Invocation R x) (u t : ℕ) (message : Message) (id : ReplicaId) (signature verdicts : List ℕ) → Sends R x o u message → u < t → Lasts R x o t → has (withdrawn_at R id t) o.id ≡ false

@@ -91,7 +91,7 @@ with_replica store id next = record { f = store.f; replicas = set store.replicas
 abbrev with_client : Store → ClientId → Client → Store
 with_client store id next = record { f = store.f; replicas = store.replicas; clients = set store.clients id.0 next }
 
--- How a replica steps as it is played: as `onReplicaEvent` says, or with an order's outcome as told, since no proof computes the hashes of its
+-- How a replica steps as it is played: as `on_replica_event` says, or with an order's outcome as told, since no proof computes the hashes of its
 -- signature check.
 abbrev pub Stepping : Type 0
 Stepping = ReplicaEvent → Bank → Outcome BankTurn

@@ -31,7 +31,7 @@ stands_written row value behind fits in_range_lem =
     stands row (bytes ++ behind) value (rw (length-append bytes behind, wide) (omega arith))
     (rw (take_at bytes behind row.width wide) (sym (from_bytes_to_bytes row.width value (omega arith)))) in_range_lem
 
--- One row of `fields-written`, from what is known of the later rows.
+-- One row of `fields_written`, from what is known of the later rows.
 module _ (row : Row) (rows : List Row) (fields : Fields) (later : read_fields rows (map_of fields) (write_fields rows fields) ≡ some fields) where
   written_missing : read_fields (row ∷ rows) (2 * map_of fields) (write_fields rows fields) ≡ some (none ∷ fields)
   written_missing =

@@ -1,6 +1,5 @@
 -- `wire::checks::all_genuine` meets its contract.
 use Rattle.std.proofs.Common.{◌≡◌, ◌+◌, Bool, ◌&&◌, eqb, length, get_or, drop, sym, refl, ap, ◌∙◌, arith, eq-eqb, ne_eqb}
-use borrow.Author.Tests.{not-true, not-false}
 use lib.Seq.{drop-length}
 use Rattle.wire.specs.Checks.{all, genuine}
 use Rattle.wire.proofs.Verdicts.{all_step, all_four}
@@ -16,14 +15,14 @@ pub returns-then-not-four_genuine : goal.returns-then-not-four_genuine
 returns-then-not-four_genuine c =
     let l = c.loop-i in
     let s = c.args.verdicts.now in
-    let failed = sym c.four_genuine.ensures ∙ not-true _ c.if-not-four_genuine.true-raw in
+    let failed = sym c.four_genuine.ensures ∙ c.if-not-four_genuine.true in
     sym (l.invariant.0 ∙ all_four (λ v. eqb v 1) s l.i (omega arith) ∙ ap (λ (r : Bool). r && genuine (drop (l.i + 4) s)) failed)
 
 pub loop-i-preserved : goal.loop-i-preserved
 loop-i-preserved c =
     let l = c.loop-i in
     let s = c.args.verdicts.now in
-    let passed = sym c.four_genuine.ensures ∙ not-false _ c.if-not-four_genuine.false-raw in
+    let passed = sym c.four_genuine.ensures ∙ c.if-not-four_genuine.false in
     (l.invariant.0 ∙ all_four (λ v. eqb v 1) s l.i (omega arith) ∙ ap (λ (r : Bool). r && genuine (drop (l.i + 4) s)) passed, omega arith)
 
 pub loop-i-2-init : goal.loop-i-2-init

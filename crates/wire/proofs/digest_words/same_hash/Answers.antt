@@ -1,6 +1,5 @@
 -- `wire::digest_words::same_hash` meets its contract: after i turns the first i words agree.
 use Rattle.std.proofs.Common.{◌≡◌, length, sym, refl, ap, ◌∙◌, arith, take_all}
-use borrow.Author.Tests.{not-true, not-false}
 use Rattle.base.specs.Same.{same}
 use Rattle.base.proofs.Same.{same_itself, same_differ}
 use Rattle.wire.specs.Sha256.{hash_bytes}
@@ -22,13 +21,13 @@ pub returns-then-not-same_word : goal.returns-then-not-same_word
 returns-then-not-same_word c =
     let l = c.loop-i in
     let x = c.args in
-    sym (word_differs x.hash.now x.bytes.now l.i (omega arith) (omega arith) l.invariant.1 (sym c.same_word.ensures ∙ not-true _ c.if-not-same_word.true-raw))
+    sym (word_differs x.hash.now x.bytes.now l.i (omega arith) (omega arith) l.invariant.1 (sym c.same_word.ensures ∙ c.if-not-same_word.true))
 
 pub loop-i-preserved : goal.loop-i-preserved
 loop-i-preserved c =
     let l = c.loop-i in
     let x = c.args in
-    (omega arith, word_more x.hash.now x.bytes.now l.i (omega arith) l.invariant.1 (sym c.same_word.ensures ∙ not-false _ c.if-not-same_word.false-raw))
+    (omega arith, word_more x.hash.now x.bytes.now l.i (omega arith) l.invariant.1 (sym c.same_word.ensures ∙ c.if-not-same_word.false))
 
 pub returns : goal.returns
 returns c =

@@ -1,6 +1,5 @@
 -- `wire::order::is_order` meets its contract.
 use Rattle.std.proofs.Common.{◌≡◌, [], ◌∷◌, length, take, sym, ap, ◌∙◌, eq-eqb, ne_eqb}
-use borrow.Author.Tests.{not-true, not-false}
 use Rattle.base.specs.Party.{is_client}
 use Rattle.base.specs.Same.{same}
 use Rattle.wire.specs.Order.{is_order}
@@ -14,11 +13,11 @@ pub returns-then-not-same : goal.returns-then-not-same
 unfolding is_order
 returns-then-not-same c =
     let mapped : same (take 2 c.args.order.now) (0x00 ∷ 0x03 ∷ []) ≡ c.same.result = sym (rw c.front.ensures at c.same.ensures) in
-    rw (eq-eqb (length c.args.order.now) 1299 c.if-order-ne-ORDER.false, mapped ∙ not-true _ c.if-not-same.true-raw)
+    rw (eq-eqb (length c.args.order.now) 1299 c.if-order-ne-ORDER.false, mapped ∙ c.if-not-same.true)
 
 pub returns : goal.returns
 unfolding is_order
 returns c =
     let mapped : same (take 2 c.args.order.now) (0x00 ∷ 0x03 ∷ []) ≡ c.same.result = sym (rw c.front.ensures at c.same.ensures) in
-    rw (eq-eqb (length c.args.order.now) 1299 c.if-order-ne-ORDER.false, mapped ∙ not-false _ c.if-not-same.false-raw)
+    rw (eq-eqb (length c.args.order.now) 1299 c.if-order-ne-ORDER.false, mapped ∙ c.if-not-same.false)
     (c.is_client.ensures ∙ ap is_client c.client_named-client.ensures)

@@ -1,6 +1,5 @@
 -- `wire::reader::read` meets its contract.
 use Rattle.std.proofs.Common.{◌≡◌, get_or, sym, ap, ◌∙◌, arith}
-use borrow.Author.Tests.{not-true, not-false}
 use Rattle.base.specs.Outcome.{accepted}
 use Rattle.wire.specs.Decode.{kinds, framed}
 use Rattle.wire.specs.Kinds.{suiting}
@@ -23,7 +22,7 @@ returns-then-not-suits c =
     let framed_as : framed c.args.bytes.now (accepted (places_in c.args.bytes.now)) ≡ accepted c.in-Whole.places = framing_whole c.args.bytes.now _ _ c.frame.ensures c.in-Whole.is in
     let tested : suiting c.args.party (map_in c.args.bytes.now) (get_or c.args.bytes.now 2 0) kinds ≡ c.suits.result = let k = known _ _ framed_as in
     rw (← ap (λ (p : Places). p.map) k.1) (sym c.suits.ensures) in
-    let k = known _ _ framed_as in sym (not_this_kind _ _ k.0 (tested ∙ not-true _ c.if-not-suits.true-raw))
+    let k = known _ _ framed_as in sym (not_this_kind _ _ k.0 (tested ∙ c.if-not-suits.true))
 
 pub fields-requires : goal.fields-requires
 fields-requires c =
@@ -36,7 +35,7 @@ returns-else-not-suits c =
     let framed_as : framed c.args.bytes.now (accepted (places_in c.args.bytes.now)) ≡ accepted c.in-Whole.places = framing_whole c.args.bytes.now _ _ c.frame.ensures c.in-Whole.is in
     let tested : suiting c.args.party (map_in c.args.bytes.now) (get_or c.args.bytes.now 2 0) kinds ≡ c.suits.result = let k = known _ _ framed_as in
     rw (← ap (λ (p : Places). p.map) k.1) (sym c.suits.ensures) in
-    let k = known _ _ framed_as in ap accepted c.fields.ensures ∙ sym (reads _ _ k.0 (tested ∙ not-false _ c.if-not-suits.false-raw))
+    let k = known _ _ framed_as in ap accepted c.fields.ensures ∙ sym (reads _ _ k.0 (tested ∙ c.if-not-suits.false))
 
 pub returns-in-Refused : goal.returns-in-Refused
 returns-in-Refused c = sym (not_framed c.args.party c.args.bytes.now _ (framing_refused c.args.bytes.now _ _ c.frame.ensures c.in-Refused.is))
