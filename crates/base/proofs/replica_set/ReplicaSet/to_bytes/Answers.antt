@@ -1,0 +1,6 @@
+-- `base::replica_set::ReplicaSet::to_bytes` meets its contract.
+use borrow.Author.Rules.{rules}
+use Rattle.base.proofs.replica_set.ReplicaSet.to_bytes.Goals as goal
+
+pub returns : goal.returns
+returns c = c.to_two.ensures

@@ -1,0 +1,6 @@
+-- `base::timestamp::Timestamp::is` meets its contract.
+use borrow.Author.Rules.{rules}
+use Rattle.base.proofs.timestamp.Timestamp.is.Goals as goal
+
+pub returns : goal.returns
+returns c = cc

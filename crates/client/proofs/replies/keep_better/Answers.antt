@@ -1,0 +1,21 @@
+-- `client::replies::keep_better` meets its contract.
+use mathlib.Core.Path.{sym, ap, ◌∙◌}
+use borrow.Author.Tests.{not-true, not-false}
+use borrow.Author.Rules.{rules}
+use Rattle.base.specs.Timestamp.{number}
+use Rattle.wire.specs.Parts.{prepared_signers}
+use Rattle.client.proofs.ProofPart.{later_there}
+use Rattle.client.proofs.replies.keep_better.Goals as goal
+
+pub returns-then-not-is_better : goal.returns-then-not-is_better
+returns-then-not-is_better c = rw (sym c.is_better.ensures ∙ not-true _ c.if-not-is_better.true-raw)
+
+pub with_proof-requires : goal.with_proof-requires
+with_proof-requires c =
+    let there = later_there (number c.args.best) c.args.proof.now c.requires.0 (sym c.is_better.ensures ∙ not-false _ c.if-not-is_better.false-raw) in
+    (there.whole, c.requires.1 ∙ ap prepared_signers there.is)
+
+pub returns : goal.returns
+returns c =
+    let yes = sym c.is_better.ensures ∙ not-false _ c.if-not-is_better.false-raw in
+    rw (yes, (later_there (number c.args.best) c.args.proof.now c.requires.0 yes).is) c.with_proof.ensures

@@ -1,0 +1,6 @@
+-- `lms::tree::node` meets its contract.
+use borrow.Author.Rules.{rules}
+use Rattle.lms.proofs.tree.node.Goals as goal
+
+pub returns : goal.returns
+returns c = rw (c.node_in.ensures, c.head-head.ensures)

@@ -1,0 +1,18 @@
+-- `play::calls::replica_does` meets its contract.
+use mathlib.Core.Path.{refl, ap₂}
+use mathlib.Core.List.{List}
+use Prim.Native.Nat.{ℕ}
+use borrow.Author.Rules.{rules}
+use Rattle.play.proofs.Leaving.{message_copied, out_free, put_behind, replica_behind}
+use Rattle.play.specs.Calls.{verdicts, replica_does}
+use Rattle.wire.specs.declared.message.Party.TheVariants.{Replica as Here}
+use Rattle.protocol.specs.RegisterReplica.{register_call}
+use Rattle.play.proofs.calls.replica_does.Goals as goal
+
+pub returns : goal.returns
+unfolding replica_does
+returns c =
+    let a = c.args in
+    let text = message_copied a.log a.store.now a.m c.before-2.result _ c.copy_message-n.result _ _ c.before-2.ensures refl c.copy_message-n.ensures c.front.ensures in
+    let out = out_free a.log a.store.now c.start-at.result c.start-at.ensures.0 in
+    replica_behind _ _ _ _ _ _ (ap₂ (λ (bytes old : List ℕ). register_call a.replica bytes (verdicts Here bytes) old) text out) (put_behind a.log a.store.now c.start-at.result c.start-at.ensures.0 _) c.hand_replica.ensures

@@ -1,0 +1,6 @@
+-- `register_replica::answers::keep` meets its contract.
+use borrow.Author.Rules.{rules}
+use Rattle.register_replica.proofs.answers.keep.Goals as goal
+
+pub returns : goal.returns
+returns c = rw (c.nothing_prepared.ensures, c.fresh_held.ensures)

@@ -1,0 +1,11 @@
+-- `register_replica::read_stamp::read_stamp` meets its contract.
+use mathlib.Core.Path.{refl}
+use native.Mathlib.Omega.{arith}
+use borrow.Author.Rules.{rules}
+use Rattle.register_replica.proofs.Replies.{sends_keeping}
+use Rattle.register_replica.proofs.read_stamp.read_stamp.Goals as goal
+
+pub returns : goal.returns
+returns c =
+    let a = c.args in
+    sends_keeping a.register a.replica a.out.now _ _ _ a.replica _ _ _ refl (omega (arith, c.requires)) c.write_stamp-encoded.ensures c.answer_of.ensures refl c.keep.ensures

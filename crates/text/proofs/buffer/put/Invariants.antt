@@ -1,0 +1,18 @@
+-- `text::buffer::put` meets its contract.
+use mathlib.Core.Path.{◌≡◌, refl, ap, ◌∙◌}
+use mathlib.Core.List.{List}
+use Prim.Native.Nat.{ℕ, ◌+◌, ◌-◌, max, ◌≤◌}
+use native.Mathlib.Numerals.{add-one}
+use native.Mathlib.Omega.{arith}
+use borrow.Author.Rules.{rules}
+use lib.ListN.{length, get_or, length-set}
+use lib.Seq.{paste, paste-zero, paste-suc}
+use Rattle.text.specs.Put.{fitting, written, Puts}
+use Rattle.text.proofs.buffer.put.Given as goal
+
+abbrev pub invariant-loop-i : goal.invariant-loop-i
+invariant-loop-i l =
+    (l.i ≤ length l.bytes) × (l.next ≡ l.at + l.i) × (l.next ≤ max l.at (length l.initial.to)) × (l.to ≡ paste l.initial.to l.at l.bytes l.i) × (length l.to ≡ length l.initial.to)
+
+abbrev pub decreases-loop-i : goal.decreases-loop-i
+decreases-loop-i l = length l.bytes - l.i

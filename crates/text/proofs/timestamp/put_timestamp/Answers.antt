@@ -1,0 +1,10 @@
+-- `text::timestamp::put_timestamp` meets its contract.
+use borrow.Author.Rules.{rules}
+use Rattle.text.proofs.Putting.{then}
+use Rattle.text.specs.Timestamp.{stamp}
+use Rattle.text.proofs.timestamp.put_timestamp.Goals as goal
+
+pub returns : goal.returns
+unfolding stamp
+returns c =
+    then (then c.put_number-count.ensures c.put-dot.ensures) c.put_number.ensures

@@ -1,0 +1,12 @@
+-- `wire::card::number` meets its contract.
+use Rattle.std.proofs.Common.{◌≡◌, ℕ, ◌-◌, ◌^◌, ◌<◌, ◌≤◌, length, take, ap, ◌∙◌, pow-suc, add-one, arith, take_all, take-suc, rules}
+use native.Mathlib.Nat.{pow-le-pow_right}
+use Rattle.base.specs.BigEndian.{from_bytes}
+use Rattle.base.proofs.BigEndian.{from_bytes_snoc}
+use Rattle.wire.proofs.card.number.Given as goal
+
+abbrev pub invariant-loop-i : goal.invariant-loop-i
+invariant-loop-i l = (l.i ≤ length l.bytes) × (l.n ≡ from_bytes (take l.i l.bytes)) × (l.n < 256 ^ l.i)
+
+abbrev pub decreases-loop-i : goal.decreases-loop-i
+decreases-loop-i l = length l.bytes - l.i

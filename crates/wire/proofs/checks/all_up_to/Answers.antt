@@ -1,0 +1,32 @@
+-- `wire::checks::all_up_to` meets its contract.
+use Rattle.std.proofs.Common.{◌≡◌, ℕ, ◌+◌, ◌-◌, ◌≤◌, Bool, ◌&&◌, leb, length, get_or, drop, sym, ap, ◌∙◌, arith, rules}
+use mathlib.Core.Bool.{and-true}
+use lib.Dec.{leb-zero}
+use lib.Seq.{drop-length}
+use Rattle.wire.specs.Checks.{all}
+use Rattle.wire.proofs.Verdicts.{all_step, up_to_larger}
+use Rattle.wire.proofs.checks.all_up_to.Goals as goal
+
+pub loop-i-init : goal.loop-i-init
+loop-i-init c = (rw (leb-zero c.args.high), omega arith)
+
+pub loop-i-preserved : goal.loop-i-preserved
+loop-i-preserved c =
+    let l = c.loop-i in
+    let a = c.args in
+    let s = a.numbers.now in
+    let rest = all (λ n. leb n a.high) (drop (l.i + 1) s) in (
+      l.invariant.0
+          ∙ ap (λ (r : Bool). leb l.most a.high && r) (all_step (λ n. leb n a.high) s l.i (omega arith))
+          ∙ up_to_larger l.most (get_or s l.i 0) a.high rest
+          ∙ ap (λ (m : ℕ). leb m a.high && rest) (sym c.larger_byte-most.ensures),
+      omega arith,
+    )
+
+pub returns : goal.returns
+unfolding all
+returns c =
+    let l = c.loop-i in
+    let a = c.args in
+    let past : l.i ≡ length a.numbers.now = omega arith in
+    sym (l.invariant.0 ∙ rw (past, drop-length a.numbers.now) (and-true (leb l.most a.high)))

@@ -1,0 +1,6 @@
+-- `wire::order::order_covered` meets its contract.
+use Rattle.std.proofs.Common.{rules}
+use Rattle.wire.proofs.order.order_covered.Goals as goal
+
+pub returns : goal.returns
+returns c = c.front.ensures

@@ -1,0 +1,6 @@
+-- `wire::order::order_signature` meets its contract.
+use Rattle.std.proofs.Common.{rules}
+use Rattle.wire.proofs.order.order_signature.Goals as goal
+
+pub returns : goal.returns
+returns c = c.behind.ensures

@@ -1,0 +1,6 @@
+-- `wire::parts::card` meets its contract.
+use Rattle.std.proofs.Common.{◌∙◌, rules}
+use Rattle.wire.proofs.parts.card.Goals as goal
+
+pub returns : goal.returns
+returns c = c.behind.ensures ∙ rw c.part.ensures
