@@ -11,7 +11,7 @@ use base::timestamp::Timestamp;
 use console::{print_hex, print_number, print_timestamp};
 use std::io;
 
-#[derive(Drop)]
+#[derive(Clone, Copy)]
 pub enum Outcome {
     // One of the words below.
     Said(u8),
@@ -41,7 +41,7 @@ const TAKEN: u8 = 7;
 pub const COMMENT: u8 = 8;
 
 // An outcome, with the card of Done beside it.
-#[derive(Drop)]
+#[derive(Clone, Copy)]
 pub struct Answer {
     pub outcome: Outcome,
     pub card_length: u8,
