@@ -1,7 +1,7 @@
 // The one-time signature, LM-OTS: the key that its chains end in (Algorithm 4b).
 ghost use Rattle.std.specs.Prelude.{◌≡◌, ◌++◌, ◌+◌, ◌-◌, ◌≤◌, ◌<◌, length, take};
 ghost use Rattle.wire.specs.Sha256.{sha256};
-ghost use Rattle.lms.specs.LmOts.{u8str, head, sum, checked, chain, zs, Kc, Q, D_PBLC};
+ghost use Rattle.lms.specs.LmOts.{u8str, head, sum, checked, chain, zs, Kc, Q, D_PBLC as leaf_domain};
 
 use crate::layout::{C_AT, CHAINS, ENDS, HEAD, IDENTIFIER, MESSAGE, STEP, Y_AT};
 use crate::strings::{hash, head, part};
@@ -141,7 +141,7 @@ fn ends_hash_in<'a>(
     signature: &'a [u8],
 ) -> [u8; DIGEST]
     requires { length signature.now ≡ 1124 }
-    ensures { result ≡ sha256 (head identifier.now q D_PBLC ++ zs identifier.now q values.now signature.now 34) }
+    ensures { result ≡ sha256 (head identifier.now q leaf_domain ++ zs identifier.now q values.now signature.now 34) }
 {
     let head = head(identifier, q, D_PBLC);
     put(buffer, 0, &head);
@@ -156,7 +156,7 @@ fn ends_hash<'a>(
     signature: &'a [u8],
 ) -> [u8; DIGEST]
     requires { length signature.now ≡ 1124 }
-    ensures { result ≡ sha256 (head identifier.now q D_PBLC ++ zs identifier.now q values.now signature.now 34) }
+    ensures { result ≡ sha256 (head identifier.now q leaf_domain ++ zs identifier.now q values.now signature.now 34) }
 {
     let mut buffer = [0u8; ENDS];
     ends_hash_in(&mut buffer, identifier, q, values, signature)

@@ -2,7 +2,7 @@
 ghost use Rattle.std.specs.Prelude.{◌≡◌, ◌++◌, ◌≤◌, ◌<◌, length};
 ghost use Rattle.wire.specs.Sha256.{sha256};
 ghost use Rattle.lms.specs.LmOts.{head};
-ghost use Rattle.lms.specs.Lms.{leaf, parent, climb, Tc, D_INTR};
+ghost use Rattle.lms.specs.Lms.{leaf, parent, climb, Tc, D_INTR as inner_domain};
 
 use crate::layout::{HEAD, IDENTIFIER, LEAF, NODE, ONE_TIME_AT, PATH_AT, TREE_TYPE_AT};
 use crate::one_time::candidate_key;
@@ -56,7 +56,7 @@ fn node<'a>(
     left: &'a [u8; DIGEST],
     right: &'a [u8; DIGEST],
 ) -> [u8; DIGEST]
-    ensures { result ≡ sha256 (head identifier.now number D_INTR ++ (left.now ++ right.now)) }
+    ensures { result ≡ sha256 (head identifier.now number inner_domain ++ (left.now ++ right.now)) }
 {
     let head = head(identifier, number, D_INTR);
     let mut buffer = [0u8; NODE];

@@ -1,7 +1,7 @@
 // The message schedule and the 64 rounds (FIPS 180-4, section 6.2.2).
 ghost use Rattle.std.specs.Prelude.{◌≡◌, ◌+◌, ◌<◌, length, take, slice_index, slice_set};
 ghost use Rattle.wire.specs.declared.sha256.rounds.WorkingVariables.{WorkingVariables};
-ghost use Rattle.wire.specs.Sha256.{K, next_word, schedule, working_variables, T₁, T₂, round, rounds, next_hash, compress};
+ghost use Rattle.wire.specs.Sha256.{K as round_constants, next_word, schedule, working_variables, T₁, T₂, round, rounds, next_hash, compress};
 
 use crate::sha256::functions::{add, big_sigma0, big_sigma1, ch, maj, small_sigma0, small_sigma1};
 
@@ -67,8 +67,8 @@ fn round_and_word(
     w: &mut [u32; 64],
     t: usize,
 ) -> WorkingVariables
-    requires { (t < 48) × (k.now ≡ K) × (length w.old ≡ 64) }
-    ensures { (result ≡ round (slice_index K t) (slice_index w.old t) v) × (w.new ≡ slice_set w.old (t + 16) (next_word w.old t)) × (length w.new ≡ 64) }
+    requires { (t < 48) × (k.now ≡ round_constants) × (length w.old ≡ 64) }
+    ensures { (result ≡ round (slice_index round_constants t) (slice_index w.old t) v) × (w.new ≡ slice_set w.old (t + 16) (next_word w.old t)) × (length w.new ≡ 64) }
 {
     let x = round(v, k[t], w[t]);
     w[t + 16] = next_word(w, t);
@@ -77,15 +77,15 @@ fn round_and_word(
 
 // Round t, with the schedule complete.
 fn round_at(v: WorkingVariables, k: &[u32; 64], w: &[u32; 64], t: usize) -> WorkingVariables
-    requires { (t < 64) × (k.now ≡ K) }
-    ensures { result ≡ round (slice_index K t) (slice_index w.now t) v }
+    requires { (t < 64) × (k.now ≡ round_constants) }
+    ensures { result ≡ round (slice_index round_constants t) (slice_index w.now t) v }
 {
     round(v, k[t], w[t])
 }
 
 // The first 48 rounds, which complete the schedule. Eight rounds a turn leave fewer moves between registers.
 fn first_rounds(start: WorkingVariables, k: &[u32; 64], w: &mut [u32; 64]) -> WorkingVariables
-    requires { (k.now ≡ K) × (length w.old ≡ 64) }
+    requires { (k.now ≡ round_constants) × (length w.old ≡ 64) }
     ensures { (w.new ≡ schedule (take 16 w.old) 48) × (result ≡ rounds w.new start 48) }
 {
     let mut v = start;
@@ -106,7 +106,7 @@ fn first_rounds(start: WorkingVariables, k: &[u32; 64], w: &mut [u32; 64]) -> Wo
 
 // The last 16 rounds: from the variables after 48 rounds, whatever they started as, to those after 64.
 fn last_rounds(middle: WorkingVariables, k: &[u32; 64], w: &[u32; 64]) -> WorkingVariables
-    requires { k.now ≡ K }
+    requires { k.now ≡ round_constants }
     ensures { (start : WorkingVariables) → middle ≡ rounds w.now start 48 → result ≡ rounds w.now start 64 }
 {
     let mut v = middle;

@@ -1,8 +1,9 @@
 -- `wire::card::read_fields` meets its contract.
-use Rattle.std.proofs.Common.{◌-◌, sym, ap, ◌∙◌, ⊎_elim, arith, rules}
+use Rattle.std.proofs.Common.{◌-◌, sym, ap, ◌∙◌, arith}
 use Rattle.wire.specs.Card.{field_of, read_answer}
 use Rattle.wire.proofs.card.BitByBit.{Reading, begun, passed_missing, passed_present, refused_present, refused_longer, finished}
 use Rattle.wire.proofs.card.read_fields.Goals as goal
+use Rattle.wire.proofs.card.read_fields.Goals.{then-rest-eq1+in-Value, else-rest-eq1}
 
 pub loop-bit-init : goal.loop-bit-init
 loop-bit-init c = begun c.args.card.now c.args.map (omega arith)
@@ -20,12 +21,12 @@ overflow_add-at c = omega arith
 pub loop-bit-preserved : goal.loop-bit-preserved
 loop-bit-preserved c =
     let reading = c.loop-bit.invariant in
-    ⊎_elim
-    (λ w.
-    let found = ap field_of (sym w.4.given.1) ∙ w.2.ensures in
-    rw (w.7, w.8) (passed_present reading w.1.result w.1.ensures.0 (omega arith) w.0.taken _ found))
-    (λ w. rw (w.1, w.2) (passed_missing reading (omega arith) w.0.left))
-    c.if-rest-eq1.branch
+    elim c.if-rest-eq1.branch [
+      | then-rest-eq1+in-Value w ↦
+          let found = ap field_of (sym w.in-Value.is) ∙ w.read_field.ensures in
+          rw (w.values-is, w.at-is) (passed_present reading w.row_of-row.result w.row_of-row.ensures.0 (omega arith) w.if-rest-eq1.true _ found)
+      | else-rest-eq1 w ↦ rw (w.values-is, w.at-is) (passed_missing reading (omega arith) w.if-rest-eq1.false)
+    ]
 
 pub returns-then-at-card : goal.returns-then-at-card
 returns-then-at-card c =

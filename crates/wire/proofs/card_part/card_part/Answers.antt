@@ -7,7 +7,7 @@ use Rattle.wire.proofs.card_part.card_part.Goals as goal
 
 pub returns-in_default : goal.returns-in_default
 unfolding card_part card_start
-returns-in_default c = rw (not_found _ _ c.find.ensures c.in_default.is) (refl, record { block = refl; offset = omega arith })
+returns-in_default c = rw (not_found _ _ c.find.ensures c.in_default.is) (record { result_value = refl; part_at = record { block = refl; offset = omega arith } })
 
 pub slice_bounds-result-count-2 : goal.slice_bounds-result-count-2
 slice_bounds-result-count-2 c =
@@ -28,4 +28,4 @@ pub returns : goal.returns
 unfolding card_part card_start
 returns c =
     let carries : Carries c.args.bytes.now c.in-Here.card = found c.args.bytes.now _ _ c.find.ensures c.in-Here.is in
-    let h = carries in rw (h.carries, ← h.starts) (refl, record { block = refl; offset = omega arith })
+    let h = carries in rw (h.carries, ← h.starts) (record { result_value = refl; part_at = record { block = refl; offset = omega arith } })

@@ -7,13 +7,13 @@ use Rattle.wire.proofs.card_part.later_card.Goals as goal
 
 pub returns-in_default : goal.returns-in_default
 unfolding card_start later_card second_later later_start
-returns-in_default c = rw (not_found _ _ c.find.ensures c.in_default.is) (refl, record { block = refl; offset = omega arith })
+returns-in_default c = rw (not_found _ _ c.find.ensures c.in_default.is) (record { result_value = refl; part_at = record { block = refl; offset = omega arith } })
 
 pub returns-in_default-find : goal.returns-in_default-find
 unfolding card_start later_card second_later later_start
 returns-in_default-find c =
     let first_carries : Carries c.args.first.now c.in-Here.one = found c.args.first.now _ _ c.find.ensures c.in-Here.is in
-    rw (first_carries.carries, not_found _ _ c.find-2.ensures c.in_default-find.is) (refl, record { block = refl; offset = omega arith })
+    rw (first_carries.carries, not_found _ _ c.find-2.ensures c.in_default-find.is) (record { result_value = refl; part_at = record { block = refl; offset = omega arith } })
 
 pub slice_bounds-result-count-then-number : goal.slice_bounds-result-count-then-number
 slice_bounds-result-count-then-number c =
@@ -37,7 +37,7 @@ returns-then-number c =
     let second_carries : Carries c.args.second.now c.in-Here-find.two = found c.args.second.now _ _ c.find-2.ensures c.in-Here-find.is in
     let one = first_carries in
     let two = second_carries in
-    rw (one.carries, two.carries, lt-ltb _ _ (rw (c.number.ensures, c.number-2.ensures) at c.if-number.true), ← two.starts) (refl, record { block = refl; offset = omega arith })
+    rw (one.carries, two.carries, lt-ltb _ _ (rw (c.number.ensures, c.number-2.ensures) at c.if-number.true), ← two.starts) (record { result_value = refl; part_at = record { block = refl; offset = omega arith } })
 
 pub slice_bounds-result-count-2 : goal.slice_bounds-result-count-2
 slice_bounds-result-count-2 c =
@@ -61,4 +61,4 @@ returns c =
     let second_carries : Carries c.args.second.now c.in-Here-find.two = found c.args.second.now _ _ c.find-2.ensures c.in-Here-find.is in
     let one = first_carries in
     let two = second_carries in
-    rw (one.carries, two.carries, le-ltb _ _ (rw (c.number.ensures, c.number-2.ensures) at c.if-number.false), ← one.starts) (refl, record { block = refl; offset = omega arith })
+    rw (one.carries, two.carries, le-ltb _ _ (rw (c.number.ensures, c.number-2.ensures) at c.if-number.false), ← one.starts) (record { result_value = refl; part_at = record { block = refl; offset = omega arith } })

@@ -1,5 +1,5 @@
 -- `wire::frame::take_field` meets its contract.
-use Rattle.std.proofs.Common.{◌≡◌, ◌+◌, ◌/◌, ◌%◌, ◌^◌, true, false, arith, rules, eq-eqb, ne_eqb}
+use Rattle.std.proofs.Common.{◌≡◌, ◌+◌, ◌/◌, ◌%◌, ◌^◌, true, false, arith, eq-eqb, ne_eqb}
 use Rattle.base.specs.BitMap.{bit}
 use Rattle.wire.specs.Layout.{fixed, repeated, prepared_rule, written_rule, rules, map_in}
 use Rattle.wire.specs.declared.frame.Taken.TheVariants.{Next}
@@ -68,4 +68,4 @@ returns-in_default c =
     let nz : digit ≡ 0 → ⊥ = c.if-map-bit-eq0.false in
     rw (← c.requires.0) (eq-eqb digit 1 (omega arith)) in
     field_taken c.args.bytes.now _ _ (fixed 1) (Next (c.args.at + 1)) set c.requires.2
-    (one_byte c.args.bit c.requires.1 c.in-2.rest.0.0.0.0.0.1 c.in-2.rest.0.0.0.0.1 c.in-2.rest.0.0.0.1 c.in-2.rest.0.0.1 c.in-2.rest.0.1 c.in-2.rest.1) (omega arith)
+    (one_byte c.args.bit c.requires.1 (λ e. omega arith) (λ e. omega arith) (λ e. omega arith) (λ e. omega arith) (λ e. omega arith) (λ e. omega arith)) (omega arith)

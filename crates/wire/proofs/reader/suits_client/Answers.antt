@@ -1,5 +1,5 @@
 -- `wire::reader::suits_client` meets its contract.
-use Rattle.std.proofs.Common.{sym, rules}
+use Rattle.std.proofs.Common.{sym, arith}
 use Rattle.wire.specs.Decode.{kinds}
 use Rattle.wire.specs.Kinds.{suiting}
 use Rattle.wire.proofs.KindTests.{no_client_lem}
@@ -22,4 +22,4 @@ unfolding suiting kinds
 returns-in-8 c = rw (c.in-8.is, c.without-in-8.ensures)
 
 pub returns-in_default : goal.returns-in_default
-returns-in_default c = sym (no_client_lem _ _ c.in-5.rest.0.0.0.1 c.in-5.rest.0.0.1 c.in-5.rest.0.1 c.in-5.rest.1)
+returns-in_default c = sym (no_client_lem _ _ (λ e. omega arith) (λ e. omega arith) (λ e. omega arith) (λ e. omega arith))

@@ -1,5 +1,5 @@
 -- `wire::reader::suits_replica` meets its contract.
-use Rattle.std.proofs.Common.{sym, inl, inr, ⊎_elim, rules}
+use Rattle.std.proofs.Common.{sym, inl, inr, ⊎_elim, arith}
 use Rattle.wire.specs.Decode.{kinds}
 use Rattle.wire.specs.Kinds.{suiting}
 use Rattle.wire.proofs.KindTests.{no_replica}
@@ -18,4 +18,4 @@ unfolding suiting kinds
 returns-in-3 c = rw c.in-3.is
 
 pub returns-in_default : goal.returns-in_default
-returns-in_default c = sym (no_replica _ _ (λ e. c.in-1.rest.0.0.1 (inl e)) c.in-1.rest.0.1 c.in-1.rest.1 (λ e. c.in-1.rest.0.0.1 (inr e)))
+returns-in_default c = let n = c.in_default.in_default-own.rest in sym (no_replica _ _ (λ e. n.0.0.1 (inl e)) n.0.1 n.1 (λ e. n.0.0.1 (inr e)))
