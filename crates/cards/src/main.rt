@@ -18,13 +18,11 @@ fn print_field(rt: &impl Print, bit: usize, value: u32) -> io::Result<()> {
 fn print_fields(rt: &impl Print, fields: CardFields) -> io::Result<()> {
     let values = fields.values;
     let mut rest = fields.map;
-    let mut bit = 0;
-    while bit < BITS {
+    for bit in 0..BITS {
         if rest % 2 == 1 {
             print_field(rt, bit, values[bit])?;
         }
         rest = rest / 2;
-        bit += 1;
     }
     Ok(())
 }

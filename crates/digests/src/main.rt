@@ -11,10 +11,8 @@ fn print_byte(rt: &impl Print, byte: u8) -> io::Result<()> {
 }
 
 fn print_digest(rt: &impl Print, bytes: &[u8; 32]) -> io::Result<()> {
-    let mut i = 0;
-    while i < 32 {
-        print_byte(rt, bytes[i])?;
-        i += 1;
+    for byte in bytes {
+        print_byte(rt, *byte)?;
     }
     print(rt, b"\n")
 }
@@ -53,11 +51,9 @@ fn show_vectors(rt: &impl Print) -> io::Result<()> {
 // The message of each length has these bytes: byte i is 7 * i + 3, modulo 256.
 fn fill(pattern: &mut [u8]) {
     let mut byte: u8 = 3;
-    let mut i: usize = 0;
-    while i < pattern.len() {
-        pattern[i] = byte;
-        byte = std::num::wrapping_add_u8(byte, 7);
-        i += 1;
+    for place in pattern.iter_mut() {
+        *place = byte;
+        byte = byte.wrapping_add(7);
     }
 }
 
