@@ -10,5 +10,5 @@ pub returns : goal.returns
 returns c =
     let h = c.head-head in
     let k = c.put in
-    let front = laid 0 22 _ k.new.0 [] h.result refl (omega arith) (omega arith) k.ensures in
+    let front = laid 0 22 _ k.new.out [] h.result refl (omega arith) (omega arith) k.ensures in
     (search rules, rw (c.walk.ensures, front, h.ensures))

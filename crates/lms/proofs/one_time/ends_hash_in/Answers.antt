@@ -12,5 +12,5 @@ returns c =
     let h = c.head-head in
     let k = c.put in
     let z = c.put_ends in
-    let front = laid 0 22 _ k.new.0 [] h.result refl (omega arith) (omega arith) k.ensures in
-    c.hash.ensures ∙ ap sha256 (full 1110 z.new.0 _ (omega arith) (rw (front, h.ensures) at z.ensures))
+    let front = laid 0 22 _ k.new.out [] h.result refl (omega arith) (omega arith) k.ensures in
+    c.hash.ensures ∙ ap sha256 (full 1110 z.new.buffer _ (omega arith) (rw (front, h.ensures) at z.ensures))

@@ -18,7 +18,7 @@ returns c =
     let one = c.put in
     let two = c.put-2 in
     let three = c.put-3 in
-    let front = laid 0 22 _ one.new.0 [] a.head.now refl (omega arith) (omega arith) one.ensures in
-    let next = laid 22 54 _ two.new.0 _ a.c.now front (omega arith) (omega arith) two.ensures in
-    let all = laid 54 (54 + length a.message.now) _ three.new.0 _ a.message.now next refl (omega arith) three.ensures in
+    let front = laid 0 22 _ one.new.out [] a.head.now refl (omega arith) (omega arith) one.ensures in
+    let next = laid 22 54 _ two.new.out _ a.c.now front (omega arith) (omega arith) two.ensures in
+    let all = laid 54 (54 + length a.message.now) _ three.new.out _ a.message.now next refl (omega arith) three.ensures in
     c.hash.ensures ∙ ap sha256 (c.front.ensures ∙ all ∙ append_assoc a.head.now a.c.now a.message.now)

@@ -19,7 +19,7 @@ loop-i-preserved c =
     let l = c.loop-i in
     let z = c.chain_end-end in (
       omega arith,
-      zs_next a.identifier.now a.q a.values.now a.signature.now l.i z.ensures.0 (take 22 a.buffer.now) l.buffer c.put.new.0 z.result
+      zs_next a.identifier.now a.q a.values.now a.signature.now l.i z.ensures.0 (take 22 a.buffer.now) l.buffer c.put.new.out z.result
           l.invariant.1 (omega arith) (rw c.part-start.ensures at z.ensures.1) (omega arith) c.put.ensures,
     )
 

@@ -19,8 +19,8 @@ returns c =
     let size : length (set b 22 a.j) ≡ 55 = omega arith in
     let room : length b ≡ 55 = rw length-set at size in
     let front = take-suc-set b 22 a.j (omega arith) in
-    let all = laid 23 55 (set b 22 a.j) k.new.0 (take 22 b ++ a.j ∷ []) a.tmp.now front (omega arith) (omega arith) k.ensures in
-    let whole = full 55 k.new.0 _ (omega arith) all ∙ append_assoc (take 22 b) (a.j ∷ []) a.tmp.now in (
+    let all = laid 23 55 (set b 22 a.j) k.new.out (take 22 b ++ a.j ∷ []) a.tmp.now front (omega arith) (omega arith) k.ensures in
+    let whole = full 55 k.new.out _ (omega arith) all ∙ append_assoc (take 22 b) (a.j ∷ []) a.tmp.now in (
       c.hash.ensures ∙ ap sha256 (whole ∙ ap (λ (x : List ℕ). take 22 b ++ (x ++ a.tmp.now)) (sym (one_byte a.j (search rules)))),
-      front_kept 22 k.new.0 (take 22 b) _ (length-take-le 22 b (omega arith)) whole,
+      front_kept 22 k.new.out (take 22 b) _ (length-take-le 22 b (omega arith)) whole,
     )

@@ -14,8 +14,8 @@ returns c =
     let values = c.args.values.now in
     let one = c.put in
     let two = c.put-2 in
-    let front = laid 0 32 _ one.new.0 [] values refl (omega arith) (omega arith) one.ensures in
-    let both = laid 32 34 _ two.new.0 values _ front (omega arith) (omega arith) two.ensures in
+    let front = laid 0 32 _ one.new.out [] values refl (omega arith) (omega arith) one.ensures in
+    let both = laid 32 34 _ two.new.out values _ front (omega arith) (omega arith) two.ensures in
     let sum = c.checksum-sum.ensures in
     let behind = c.to_two-behind.ensures ∙ ap u16str sum in
-    full 34 two.new.0 _ (omega arith) both ∙ ap (λ (x : List ℕ). values ++ x) behind
+    full 34 two.new.out _ (omega arith) both ∙ ap (λ (x : List ℕ). values ++ x) behind

@@ -11,5 +11,5 @@ pub returns : goal.returns
 returns c =
     let k = c.put in
     let e = c.between.ensures in
-    let front = laid 0 16 _ k.new.0 [] _ refl (rw (e, length-take, length-drop) (omega arith)) (omega arith) k.ensures in
-    full 16 k.new.0 _ (omega arith) front ∙ e
+    let front = laid 0 16 _ k.new.out [] _ refl (rw (e, length-take, length-drop) (omega arith)) (omega arith) k.ensures in
+    full 16 k.new.out _ (omega arith) front ∙ e

@@ -12,6 +12,6 @@ returns c =
     let a = c.args in
     let one = c.put in
     let two = c.put-2 in
-    let front = laid 0 22 _ one.new.0 [] a.head.now refl (omega arith) (omega arith) one.ensures in
-    let all = laid 22 54 _ two.new.0 _ a.key.now front (omega arith) (omega arith) two.ensures in
-    c.hash.ensures ∙ ap sha256 (full 54 two.new.0 _ (omega arith) all)
+    let front = laid 0 22 _ one.new.out [] a.head.now refl (omega arith) (omega arith) one.ensures in
+    let all = laid 22 54 _ two.new.out _ a.key.now front (omega arith) (omega arith) two.ensures in
+    c.hash.ensures ∙ ap sha256 (full 54 two.new.out _ (omega arith) all)

@@ -1,0 +1,5 @@
+-- The number falls.
+use Rattle.text.proofs.decimal.+put_number.Given as goal
+
+abbrev pub decreases-put_number : goal.decreases-put_number
+decreases-put_number l = l.n
