@@ -196,10 +196,8 @@ fn print_signatures(rt: &impl Print, party: Party, bytes: &[u8]) -> io::Result<(
     let count = wire::signatures::signature_count(party, bytes);
     console::print(rt, b"signatures ")?;
     console::print_number(rt, count as u64)?;
-    let mut i = 0;
-    while i <= count {
+    for i in 0..=count {
         print_signature_at(rt, party, bytes, i)?;
-        i += 1;
     }
     console::print(rt, b"\n")
 }
@@ -219,10 +217,8 @@ fn print_proof_signatures(rt: &impl Print, register: u8, proof: &[u8]) -> io::Re
     let count = wire::signatures::handed_signature_count(proof);
     console::print(rt, b"signatures ")?;
     console::print_number(rt, count as u64)?;
-    let mut i = 0;
-    while i <= count {
+    for i in 0..=count {
         print_proof_signature_at(rt, register, proof, i)?;
-        i += 1;
     }
     console::print(rt, b"\n")
 }
