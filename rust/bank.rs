@@ -1,5 +1,5 @@
 //! A replica's bank of sixteen registers, over the static library of the crate `bank`. Safe: nothing that a caller can pass
-//! breaks a promise. Link it with `-L native=target/staticlib -l static=bank`, after `rt staticlib bank`.
+//! breaks a promise. Link it with `-L native=target/staticlib -l static=bank`, after `rust/staticlib bank`.
 use std::mem::{align_of, offset_of, size_of};
 
 /// The longest message, and the shortest output that is not refused.

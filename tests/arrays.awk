@@ -25,14 +25,22 @@ function comment(text,    depth, n) {
     return n
 }
 
-# Contracts and ghost imports are the prover's, and are left out with the word before them.
+# Where the clause begins that a bracket opens, as `ensures`, `requires*` or `ensures low`; 0 for another bracket.
+function clause(    i) {
+    i = tokens
+    if (token[i] ~ /^[A-Za-z_]/ && token[i] !~ /^(requires|ensures)$/) i--
+    if (token[i] == "*") i--
+    return token[i] ~ /^(requires|ensures)$/ ? i : 0
+}
+
+# Contracts and ghost imports are the prover's, and are left out with the words before them.
 function put(word, where) {
     if (contract)
         contract += (word == "{") - (word == "}")
     else if (ghost)
         ghost = word != ";"
-    else if (word == "{" && token[tokens] ~ /^(requires|ensures)$/) {
-        tokens--
+    else if (word == "{" && clause()) {
+        tokens = clause() - 1
         contract = 1
     } else if (word == "use" && token[tokens] == "ghost") {
         tokens--

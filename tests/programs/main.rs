@@ -1,6 +1,6 @@
 //! Compares the programs `cards`, `messages`, `player` and `lms_vectors` with the model, on random input.
 //!
-//! `programs DIRECTORY [SEED]`: DIRECTORY has the programs. Built by
+//! `programs DIRECTORY [SEED]`: DIRECTORY has the crates, in whose folders `out` the programs lie. Built by
 //! `rustc -O --edition 2021 tests/programs/main.rs -o target/programs`.
 mod cards;
 #[allow(dead_code)] // the other comparisons use more of it

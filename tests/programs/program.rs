@@ -62,7 +62,7 @@ fn line_at(text: &str, at: usize) -> String {
 impl Program {
     pub fn new(directory: &str, name: &str) -> Program {
         Program {
-            path: format!("{directory}/{name}"),
+            path: format!("{directory}/{name}/out/{name}"),
         }
     }
 

@@ -1,4 +1,2 @@
 pub mod Calls
-pub mod Item
 pub mod Ordering
-pub mod Registers

@@ -1,4 +1,4 @@
-// The replica for Rust and C: records in C's layout, and numbers in place of enums.
+// The replica for Rust and C: records in C's layout, and numbers in place of enums. The static library `bank_c` exports it.
 ghost use Rattle.std.specs.Prelude.{◌≡◌};
 ghost use Rattle.protocol.specs.Bank.{bank_setup, made_bank};
 ghost use Rattle.bank.specs.Exported.{in_numbers, is_good, StepsInNumbers, taking_in_numbers, OrdersInNumbers};
@@ -47,8 +47,7 @@ fn in_numbers(answer: ReplicaAnswer) -> NumberedAnswer
     }
 }
 
-#[unsafe(no_mangle)]
-pub extern "C" fn bank_fresh(f: u8, id: ReplicaId, key: &[u8]) -> MadeBank
+pub fn bank_fresh(f: u8, id: ReplicaId, key: &[u8]) -> MadeBank
     ensures { (result.good ≡ is_good (bank_setup f id key.now)) × (result.bank ≡ made_bank f id key.now) }
 {
     let made = fresh(f, id, key);
@@ -66,8 +65,7 @@ pub extern "C" fn bank_fresh(f: u8, id: ReplicaId, key: &[u8]) -> MadeBank
     }
 }
 
-#[unsafe(no_mangle)]
-pub extern "C" fn bank_step(
+pub fn bank_step(
     bank: &mut Bank,
     message: &[u8],
     verdicts: &[u8],
@@ -94,8 +92,7 @@ fn taking_in_numbers(taking: Taking) -> NumberedTaking
     }
 }
 
-#[unsafe(no_mangle)]
-pub extern "C" fn bank_take_order(bank: &mut Bank, order: &[u8]) -> NumberedTaking
+pub fn bank_take_order(bank: &mut Bank, order: &[u8]) -> NumberedTaking
     ensures { OrdersInNumbers bank.old order.now result bank.new }
 {
     let taking = take_order_in_place(bank, order);

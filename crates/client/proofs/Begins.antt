@@ -1,15 +1,12 @@
 -- Tests 1, 20 and 17 of a beginning. Assumes nothing.
 use mathlib.Core.Path.{◌≡◌, refl, sym, ap, ◌∙◌}
 use mathlib.Core.Bool.{Bool, true, false, cond}
-use mathlib.Core.Logic.{⊎_elim}
-use mathlib.Core.List.{List, [], ◌∷◌}
+use mathlib.Core.List.{List}
 use Prim.Native.Nat.{ℕ, ◌+◌, ◌^◌, ◌≤◌, ◌<◌}
 use native.Mathlib.Omega.{arith}
 use borrow.Author.Tests.{lt-ltb, le-ltb, ltb-true, ltb-false, leb-true}
 use lib.Dec.{leb, ltb}
 use lib.ListN.{length}
-use types.Run.{OneOf}
-use denote.Enum.Declared.{tag_of}
 use Rattle.base.specs.Outcome.{Outcome, refused, guard}
 use Rattle.base.specs.Party.{is_register}
 use Rattle.base.specs.declared.party.RegisterId.{RegisterId}
@@ -20,7 +17,6 @@ use Rattle.protocol.specs.RegisterReplica.{with_output}
 use Rattle.protocol.specs.declared.client.Client.{Client}
 use Rattle.protocol.specs.declared.client.Phase.{Phase}
 use Rattle.protocol.specs.declared.client.Phase.TheVariants.{Idle, Stamps, Prepareds, Writtens, Cards, WriteBack}
-use Rattle.protocol.specs.contracts.client.Phase.{the_type}
 use Rattle.client.specs.Beginning.{barred_by}
 
 module _ (old : List ℕ) (register : RegisterId) (number : ℕ) (e : number ≡ barred_by (length old) register) where
@@ -43,8 +39,8 @@ module _ (old : List ℕ) (register : RegisterId) (number : ℕ) (e : number ≡
       go true false h = ap refused (sym h)
       go false named h = ap refused (sym h)
 
-pub busy : (phase : Phase) → OneOf (1 ∷ 2 ∷ 3 ∷ 4 ∷ 5 ∷ []) (tag_of the_type phase) → is_idle phase ≡ false
-busy Idle k = absurd (⊎_elim (λ e. omega arith) (⊎_elim (λ e. omega arith) (⊎_elim (λ e. omega arith) (⊎_elim (λ e. omega arith) (λ e. omega arith)))) k)
+pub busy : (phase : Phase) → (phase ≡ Idle → ⊥) → is_idle phase ≡ false
+busy Idle k = absurd (k refl)
 busy (Stamps nonce best counted) k = refl
 busy (Prepareds timestamp counted) k = refl
 busy (Writtens timestamp counted) k = refl

@@ -1,14 +1,10 @@
 -- Replies by the phase that they meet: in the phase that awaits their kind, and in the others. Assumes nothing.
 use mathlib.Core.Path.{◌≡◌, refl, ap, ◌∙◌}
 use mathlib.Core.Bool.{true, false, ◌&&◌}
-use mathlib.Core.Logic.{⊎_elim}
-use mathlib.Core.List.{List, [], ◌∷◌}
+use mathlib.Core.List.{List}
 use mathlib.Core.Option.{Option}
 use Prim.Native.Nat.{ℕ}
-use native.Mathlib.Omega.{arith}
 use lib.Dec.{eqb}
-use types.Run.{OneOf}
-use denote.Enum.Declared.{tag_of}
 use Rattle.base.specs.Outcome.{refused}
 use Rattle.base.specs.ReplicaSet.{with}
 use Rattle.base.specs.Same.{same}
@@ -23,17 +19,12 @@ use Rattle.protocol.specs.Client.{is_new, best_of, keep_better, with_signature, 
 use Rattle.protocol.specs.declared.client.Client.{Client}
 use Rattle.protocol.specs.declared.client.Phase.{Phase}
 use Rattle.protocol.specs.declared.client.Phase.TheVariants.{Idle, Stamps, Prepareds, Writtens, Cards, WriteBack}
-use Rattle.protocol.specs.contracts.client.Phase.{the_type}
-
--- A tag that is none of the five others.
-five : {t a b c d e : ℕ} → OneOf (a ∷ b ∷ c ∷ d ∷ e ∷ []) t → (t ≡ a → ⊥) → (t ≡ b → ⊥) → (t ≡ c → ⊥) → (t ≡ d → ⊥) → (t ≡ e → ⊥) → ⊥
-five k na nb nc nd ne = ⊎_elim na (⊎_elim nb (⊎_elim nc (⊎_elim nd ne))) k
 
 module _ (client : Client) (sender : ReplicaId) (nonce : ℕ) (proof : Option PreparedProof) (addressed : ClientId) where
-  pub no_stamps : (phase : Phase) → OneOf (0 ∷ 2 ∷ 3 ∷ 4 ∷ 5 ∷ []) (tag_of the_type phase) → on_stamp client sender nonce proof addressed phase ≡ refused 18
+  pub no_stamps : (phase : Phase) → ((asked : ℕ) (best : Timestamp) (counted : ReplicaSet) → phase ≡ Stamps asked best counted → ⊥) → on_stamp client sender nonce proof addressed phase ≡ refused 18
   unfolding on_stamp
   no_stamps Idle k = refl
-  no_stamps (Stamps asked best counted) k = absurd (five k (λ e. omega arith) (λ e. omega arith) (λ e. omega arith) (λ e. omega arith) (λ e. omega arith))
+  no_stamps (Stamps asked best counted) k = absurd (k asked best counted refl)
   no_stamps (Prepareds timestamp counted) k = refl
   no_stamps (Writtens timestamp counted) k = refl
   no_stamps (Cards asked best counted showed) k = refl
@@ -50,13 +41,13 @@ module _ (client : Client) (sender : ReplicaId) (nonce : ℕ) (proof : Option Pr
     stamp_taken h = ap (on_stamp client sender nonce proof addressed) e ∙ guard_passes 18 _ _ h
 
 module _ (next : AfterCards) (client : Client) (sender : ReplicaId) (nonce : ℕ) (card : List ℕ) (proof : Option PreparedProof) (addressed : ClientId) where
-  pub no_cards : (phase : Phase) → OneOf (0 ∷ 1 ∷ 2 ∷ 3 ∷ 5 ∷ []) (tag_of the_type phase) → on_card next client sender nonce card proof addressed phase ≡ refused 18
+  pub no_cards : (phase : Phase) → ((asked : ℕ) (best : Timestamp) (counted showed : ReplicaSet) → phase ≡ Cards asked best counted showed → ⊥) → on_card next client sender nonce card proof addressed phase ≡ refused 18
   unfolding on_card
   no_cards Idle k = refl
   no_cards (Stamps asked best counted) k = refl
   no_cards (Prepareds timestamp counted) k = refl
   no_cards (Writtens timestamp counted) k = refl
-  no_cards (Cards asked best counted showed) k = absurd (five k (λ e. omega arith) (λ e. omega arith) (λ e. omega arith) (λ e. omega arith) (λ e. omega arith))
+  no_cards (Cards asked best counted showed) k = absurd (k asked best counted showed refl)
   no_cards (WriteBack timestamp counted) k = refl
 
   module _ (phase : Phase) (asked : ℕ) (best : Timestamp) (counted showed : ReplicaSet) (e : phase ≡ Cards asked best counted showed) where
@@ -71,11 +62,11 @@ module _ (next : AfterCards) (client : Client) (sender : ReplicaId) (nonce : ℕ
     card_taken h = ap (on_card next client sender nonce card proof addressed) e ∙ guard_passes 18 _ _ h
 
 module _ (client : Client) (sender : ReplicaId) (timestamp : ℕ) (digest signature : List ℕ) where
-  pub no_prepareds : (phase : Phase) → OneOf (0 ∷ 1 ∷ 3 ∷ 4 ∷ 5 ∷ []) (tag_of the_type phase) → on_prepared client sender timestamp digest signature phase ≡ refused 18
+  pub no_prepareds : (phase : Phase) → ((asked : Timestamp) (counted : ReplicaSet) → phase ≡ Prepareds asked counted → ⊥) → on_prepared client sender timestamp digest signature phase ≡ refused 18
   unfolding on_prepared
   no_prepareds Idle k = refl
   no_prepareds (Stamps asked best counted) k = refl
-  no_prepareds (Prepareds asked counted) k = absurd (five k (λ e. omega arith) (λ e. omega arith) (λ e. omega arith) (λ e. omega arith) (λ e. omega arith))
+  no_prepareds (Prepareds asked counted) k = absurd (k asked counted refl)
   no_prepareds (Writtens asked counted) k = refl
   no_prepareds (Cards asked best counted showed) k = refl
   no_prepareds (WriteBack asked counted) k = refl
@@ -91,14 +82,14 @@ module _ (client : Client) (sender : ReplicaId) (timestamp : ℕ) (digest signat
     prepared_taken h = ap (on_prepared client sender timestamp digest signature) e ∙ guard_passes 18 _ _ h
 
 module _ (client : Client) (sender : ReplicaId) (timestamp : ℕ) (signature : List ℕ) where
-  pub no_writtens : (phase : Phase) → OneOf (0 ∷ 1 ∷ 2 ∷ 4 ∷ []) (tag_of the_type phase) → on_written client sender timestamp signature phase ≡ refused 18
+  pub no_writtens : (phase : Phase) → ((asked : Timestamp) (counted : ReplicaSet) → phase ≡ Writtens asked counted → ⊥) → ((asked : Timestamp) (counted : ReplicaSet) → phase ≡ WriteBack asked counted → ⊥) → on_written client sender timestamp signature phase ≡ refused 18
   unfolding on_written
-  no_writtens Idle k = refl
-  no_writtens (Stamps asked best counted) k = refl
-  no_writtens (Prepareds asked counted) k = refl
-  no_writtens (Writtens asked counted) k = absurd (⊎_elim (λ e. omega arith) (⊎_elim (λ e. omega arith) (⊎_elim (λ e. omega arith) (λ e. omega arith))) k)
-  no_writtens (Cards asked best counted showed) k = refl
-  no_writtens (WriteBack asked counted) k = absurd (⊎_elim (λ e. omega arith) (⊎_elim (λ e. omega arith) (⊎_elim (λ e. omega arith) (λ e. omega arith))) k)
+  no_writtens Idle k h = refl
+  no_writtens (Stamps asked best counted) k h = refl
+  no_writtens (Prepareds asked counted) k h = refl
+  no_writtens (Writtens asked counted) k h = absurd (k asked counted refl)
+  no_writtens (Cards asked best counted showed) k h = refl
+  no_writtens (WriteBack asked counted) k h = absurd (h asked counted refl)
 
   module _ (phase : Phase) (asked : Timestamp) (counted : ReplicaSet) where
     pub written_refused : phase ≡ Writtens asked counted → (eqb timestamp (number asked) && is_new counted sender) ≡ false → on_written client sender timestamp signature phase ≡ refused 18

@@ -1,5 +1,3 @@
 pub mod Asked
-pub mod Cells
-pub mod Lending
 pub mod Replies
 pub mod Slots

@@ -95,9 +95,9 @@ pub fn sha256(message: &[u8]) -> Digest
     }
 }
 
-// The same for Rust and C, with the digest written to `out`; false if the message is too long.
-#[unsafe(no_mangle)]
-pub extern "C" fn wire_sha256(message: &[u8], out: &mut [u8; DIGEST]) -> bool
+// The same for Rust and C, with the digest written to `out`; false if the message is too long. The static library `wire_c` exports
+// it.
+pub fn wire_sha256(message: &[u8], out: &mut [u8; DIGEST]) -> bool
     ensures { (result ≡ (digest_of message.now).fits) × (out.new ≡ (digest_of message.now).bytes) }
 {
     let digest = sha256(message);

@@ -32,7 +32,7 @@ returns-then-not-may_begin c =
     let card = a.card.now in
     let (long, named) = unbarred old a.register c.barred_by-barred.result c.barred_by-barred.ensures c.if-barred-ne0.false in
     let good = checked_good card c.check.result c.check.ensures c.in-Good.is in
-    let busy = sym c.may_begin.ensures ∙ not-true _ c.if-not-may_begin.true-raw in
+    let busy = sym c.may_begin.ensures ∙ c.if-not-may_begin.true in
     write_calls a.client old c.refused-then-not-may_begin.result old a.register card (is_refused_lem a.client old c.refused-then-not-may_begin.result (begin_write a.client a.register card) 17 long (write_17 a.client a.register named card good busy) c.refused-then-not-may_begin.ensures)
 
 pub ask_stamps-requires : goal.ask_stamps-requires
@@ -40,15 +40,15 @@ ask_stamps-requires c =
     let a = c.args in
     let card = a.card.now in
     let good = checked_good card c.check.result c.check.ensures c.in-Good.is in
-    ((unbarred a.out.now a.register c.barred_by-barred.result c.barred_by-barred.ensures c.if-barred-ne0.false).0, card_short card good, sym c.may_begin.ensures ∙ not-false _ c.if-not-may_begin.false-raw)
+    ((unbarred a.out.now a.register c.barred_by-barred.result c.barred_by-barred.ensures c.if-barred-ne0.false).0, card_short card good, sym c.may_begin.ensures ∙ c.if-not-may_begin.false)
 
 pub returns : goal.returns
 returns c =
     let a = c.args in
     let old = a.out.now in
     let card = a.card.now in
-    let new = c.ask_stamps.new.1.1.1.0 in
+    let new = c.ask_stamps.new.out in
     let (long, named) = unbarred old a.register c.barred_by-barred.result c.barred_by-barred.ensures c.if-barred-ne0.false in
     let good = checked_good card c.check.result c.check.ensures c.in-Good.is in
-    let free = sym c.may_begin.ensures ∙ not-false _ c.if-not-may_begin.false-raw in
+    let free = sym c.may_begin.ensures ∙ c.if-not-may_begin.false in
     write_calls a.client old c.ask_stamps.result new a.register card (behind_output a.client old c.ask_stamps.result new (begin_write a.client a.register card) _ long (write_begins a.client a.register named card good free) (c.ask_stamps.ensures a.client))

@@ -1,4 +1,5 @@
 -- `register_replica::on_message` meets its contract.
+use native.Mathlib.Omega.{arith}
 use borrow.Author.Rules.{rules}
 use Rattle.register_replica.proofs.Asked.{step_read_stamp, step_read, last_kind, answers}
 use Rattle.register_replica.proofs.on_message.Goals as goal
@@ -12,5 +13,5 @@ pub returns-in_default : goal.returns-in_default
 returns-in_default c =
     let x = c.args in
     answers x.replica x.message.now x.fields x.out.now _ _ _
-    (λ verdicts signers e. step_read x.replica x.message.now verdicts x.fields e (last_kind x.replica x.message.now verdicts x.fields e c.in-1.rest.0.0.1 c.in-1.rest.0.1 c.in-1.rest.1))
+    (λ verdicts signers e. step_read x.replica x.message.now verdicts x.fields e (last_kind x.replica x.message.now verdicts x.fields e (omega arith) (omega arith) (omega arith)))
     c.read.ensures

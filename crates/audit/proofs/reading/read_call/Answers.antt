@@ -1,4 +1,5 @@
 -- `audit::reading::read_call` meets its contract.
+use native.Mathlib.Omega.{arith}
 use borrow.Author.Rules.{rules}
 use Rattle.audit.proofs.Places.{no_bytes, opens_otherwise, opens_request, opens_order}
 use Rattle.audit.proofs.reading.read_call.Goals as goal
@@ -15,4 +16,4 @@ returns-in-1 c =
     opens_order c.args.bytes.now c.read_order.result c.if-bytes-eq0.false c.in-1.is c.read_order.ensures
 
 pub returns-in_default : goal.returns-in_default
-returns-in_default c = opens_otherwise c.args.bytes.now c.in-0.rest.0.1 c.in-0.rest.1
+returns-in_default c = opens_otherwise c.args.bytes.now (λ e. omega arith) (λ e. omega arith)

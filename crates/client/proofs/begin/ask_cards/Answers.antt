@@ -21,4 +21,4 @@ returns c =
     let nonce = a.client.last_nonce + 1 in
     let to = beginning a.register nonce (Cards nonce start empty empty) start_card a.client in
     let sent = rw (c.beginning-client.ensures, c.start.ensures, c.empty-none.ensures) at c.sent.ensures in
-    λ before. sends a.out.now c.write_read-encoded.new.0 (READ a.client.id nonce) c.requires.0 c.write_read-encoded.result c.sent.result to c.write_read-encoded.ensures sent
+    λ before. sends a.out.now c.write_read-encoded.new.out (READ a.client.id nonce) c.requires.0 c.write_read-encoded.result c.sent.result to c.write_read-encoded.ensures sent

@@ -20,4 +20,4 @@ returns c =
     let nonce = a.client.last_nonce + 1 in
     let to = beginning a.register nonce (Stamps nonce start empty) a.card.now a.client in
     let sent = rw (c.beginning-client.ensures, c.start.ensures, c.empty.ensures) at c.sent.ensures in
-    λ before. sends a.out.now c.write_read_stamp-encoded.new.0 (READ-STAMP a.client.id nonce) c.requires.0 c.write_read_stamp-encoded.result c.sent.result to c.write_read_stamp-encoded.ensures sent
+    λ before. sends a.out.now c.write_read_stamp-encoded.new.out (READ-STAMP a.client.id nonce) c.requires.0 c.write_read_stamp-encoded.result c.sent.result to c.write_read_stamp-encoded.ensures sent

@@ -12,10 +12,10 @@ returns-then-room-lt-LONGEST_MESSAGE c = rw (lt-leb longest _ c.if-room-lt-LONGE
 
 pub returns-then-not-is_register : goal.returns-then-not-is_register
 returns-then-not-is_register c =
-    let none : is_register c.args.register ≡ false = sym c.is_register.ensures ∙ not-true _ c.if-not-is_register.true-raw in
+    let none : is_register c.args.register ≡ false = sym c.is_register.ensures ∙ c.if-not-is_register.true in
     rw (le-leb longest _ c.if-room-lt-LONGEST_MESSAGE.false, none)
 
 pub returns : goal.returns
 returns c =
-    let named : is_register c.args.register ≡ true = sym c.is_register.ensures ∙ not-false _ c.if-not-is_register.false-raw in
+    let named : is_register c.args.register ≡ true = sym c.is_register.ensures ∙ c.if-not-is_register.false in
     rw (le-leb longest _ c.if-room-lt-LONGEST_MESSAGE.false, named)

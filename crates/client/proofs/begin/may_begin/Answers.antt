@@ -6,7 +6,7 @@ use borrow.Author.Rules.{rules}
 use Rattle.client.proofs.begin.may_begin.Goals as goal
 
 pub returns-in_default : goal.returns-in_default
-returns-in_default c = rw (busy c.args.client.phase c.in-Idle.keys2)
+returns-in_default c = rw (busy c.args.client.phase c.in_default.not-Idle)
 
 pub returns : goal.returns
 returns c = rw (ap is_idle c.in-Idle.is) (next_fits c.args.client.last_nonce)

@@ -13,7 +13,7 @@ returns-then-not-may_take c =
     let passed : handed_signers c.args.client.f c.args.register c.args.proof.now c.args.verdicts.now ≡ accepted c.in-Good.field-0 = sym c.accept.ensures ∙ ap proof_check_outcome c.in-Good.is in
     let a = c.args in
     refuses a.client a.register a.proof.now a.verdicts.now 17
-    (not_free a.client a.register a.proof.now a.verdicts.now _ passed (sym c.may_take.ensures ∙ not-true _ c.if-not-may_take.true-raw))
+    (not_free a.client a.register a.proof.now a.verdicts.now _ passed (sym c.may_take.ensures ∙ c.if-not-may_take.true))
 
 pub with_handed-requires : goal.with_handed-requires
 with_handed-requires c =
@@ -27,7 +27,7 @@ returns-else-not-may_take c =
     let a = c.args in
     rw c.with_handed.ensures
     (takes a.client a.register a.proof.now a.verdicts.now _
-    (free a.client a.register a.proof.now a.verdicts.now _ passed (sym c.may_take.ensures ∙ not-false _ c.if-not-may_take.false-raw)))
+    (free a.client a.register a.proof.now a.verdicts.now _ passed (sym c.may_take.ensures ∙ c.if-not-may_take.false)))
 
 pub returns-in-Refused : goal.returns-in-Refused
 returns-in-Refused c =

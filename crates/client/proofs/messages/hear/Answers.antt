@@ -35,7 +35,7 @@ returns-in-Message c =
     let old = a.out.now in
     let passed = sym (rw c.nobody.ensures at c.accept.ensures) ∙ ap accepting_outcome c.in-Message.is in
     let taken = c.take in
-    step_calls a.client old taken.result taken.new.1.1.1.1.1.0 a.role bytes verdicts (behind_output a.client old taken.result taken.new.1.1.1.1.1.0 (role_step a.role a.client bytes verdicts) _ c.if-out-lt-LONGEST_MESSAGE.false (passed_step a.client bytes verdicts c.in-Message.fields _ passed a.role) taken.ensures)
+    step_calls a.client old taken.result taken.new.out a.role bytes verdicts (behind_output a.client old taken.result taken.new.out (role_step a.role a.client bytes verdicts) _ c.if-out-lt-LONGEST_MESSAGE.false (passed_step a.client bytes verdicts c.in-Message.fields _ passed a.role) taken.ensures)
 
 pub returns-in-Refused : goal.returns-in-Refused
 returns-in-Refused c =

@@ -18,35 +18,27 @@ use Rattle.client.proofs.messages.take_card.Goals as goal
 
 pub card_stands-requires : goal.card_stands-requires
 card_stands-requires c =
-    let start : tie.Start = c in
-    let s = start in
-    rw c.part-proof.ensures (proof_there s.args.client s.args.message.now s.args.fields s.pre.1)
+    rw c.part-proof.ensures (proof_there c.args.client c.args.message.now c.args.fields c.requires.1)
 
 pub returns-then-not-card_stands : goal.returns-then-not-card_stands
 returns-then-not-card_stands c =
-    let start : tie.Start = c in
-    let asked : card_stands (card_at start.args.message.now start.args.fields.card) (prepared_part (part_at start.args.message.now start.args.fields.prepared)) ≡ c.card_stands.result = ap₂ (λ (card proof : List ℕ). card_stands card (prepared_part proof)) (sym c.card-card.ensures) (sym c.part-proof.ensures) ∙ sym c.card_stands.ensures in
-    let s = start in
-    let a = s.args in
-    rw (card_step a.client a.message.now a.fields s.pre.1 a.role s.pre.3, guard_refuses 14 _ _ (asked ∙ not-true _ c.if-not-card_stands.true-raw))
+    let asked : card_stands (card_at c.args.message.now c.args.fields.card) (prepared_part (part_at c.args.message.now c.args.fields.prepared)) ≡ c.card_stands.result = ap₂ (λ (card proof : List ℕ). card_stands card (prepared_part proof)) (sym c.card-card.ensures) (sym c.part-proof.ensures) ∙ sym c.card_stands.ensures in
+    let a = c.args in
+    rw (card_step a.client a.message.now a.fields c.requires.1 a.role c.requires.3, guard_refuses 14 _ _ (asked ∙ c.if-not-card_stands.true))
     (plain_call c.refused.result a.out.now a.client (Refused 14) c.refused.ensures)
 
 pub on_card-requires : goal.on_card-requires
 on_card-requires c =
-    let start : tie.Start = c in
-    let asked : card_stands (card_at start.args.message.now start.args.fields.card) (prepared_part (part_at start.args.message.now start.args.fields.prepared)) ≡ c.card_stands.result = ap₂ (λ (card proof : List ℕ). card_stands card (prepared_part proof)) (sym c.card-card.ensures) (sym c.part-proof.ensures) ∙ sym c.card_stands.ensures in
-    let s = start in
-    let a = s.args in
-    let short = standing_short (card_at a.message.now a.fields.card) (prepared_part (part_at a.message.now a.fields.prepared)) (asked ∙ not-false _ c.if-not-card_stands.false-raw) in
-    (s.pre.0, rw c.part-proof.ensures (proof_there a.client a.message.now a.fields s.pre.1), rw c.part-proof.ensures s.pre.2, rw c.card-card.ensures short)
+    let asked : card_stands (card_at c.args.message.now c.args.fields.card) (prepared_part (part_at c.args.message.now c.args.fields.prepared)) ≡ c.card_stands.result = ap₂ (λ (card proof : List ℕ). card_stands card (prepared_part proof)) (sym c.card-card.ensures) (sym c.part-proof.ensures) ∙ sym c.card_stands.ensures in
+    let a = c.args in
+    let short = standing_short (card_at a.message.now a.fields.card) (prepared_part (part_at a.message.now a.fields.prepared)) (asked ∙ c.if-not-card_stands.false) in
+    (c.requires.0, rw c.part-proof.ensures (proof_there a.client a.message.now a.fields c.requires.1), rw c.part-proof.ensures c.requires.2, rw c.card-card.ensures short)
 
 pub returns : goal.returns
 returns c =
-    let start : tie.Start = c in
-    let asked : card_stands (card_at start.args.message.now start.args.fields.card) (prepared_part (part_at start.args.message.now start.args.fields.prepared)) ≡ c.card_stands.result = ap₂ (λ (card proof : List ℕ). card_stands card (prepared_part proof)) (sym c.card-card.ensures) (sym c.part-proof.ensures) ∙ sym c.card_stands.ensures in
-    let s = start in
-    let a = s.args in
+    let asked : card_stands (card_at c.args.message.now c.args.fields.card) (prepared_part (part_at c.args.message.now c.args.fields.prepared)) ≡ c.card_stands.result = ap₂ (λ (card proof : List ℕ). card_stands card (prepared_part proof)) (sym c.card-card.ensures) (sym c.part-proof.ensures) ∙ sym c.card_stands.ensures in
+    let a = c.args in
     let fields = a.fields in
-    rw (card_step a.client a.message.now fields s.pre.1 a.role s.pre.3, guard_passes 14 _ _ (asked ∙ not-false _ c.if-not-card_stands.false-raw), ← c.awaiting-phase.ensures)
+    rw (card_step a.client a.message.now fields c.requires.1 a.role c.requires.3, guard_passes 14 _ _ (asked ∙ c.if-not-card_stands.false), ← c.awaiting-phase.ensures)
     (c.on_card.ensures
     ∙ ap₂ (λ (card proof : List ℕ). client_answers a.client a.out.now (on_card (after_cards a.role) a.client (replica fields.sender) fields.nonce card (prepared_part proof) fields.addressed c.awaiting-phase.result)) c.card-card.ensures c.part-proof.ensures)

@@ -13,18 +13,14 @@ use Rattle.client.proofs.messages.take_prepared.Goals as goal
 
 pub on_prepared-requires : goal.on_prepared-requires
 on_prepared-requires c =
-    let start : tie.Start = c in
-    let s = start in
-    let range = prepared_sender s.args.client s.args.message.now s.args.fields s.pre.1 s.pre.2 in
-    (s.pre.0, range.0, range.1, rw c.part-2.ensures (own_length s.args.client s.args.message.now s.args.fields s.pre.1))
+    let range = prepared_sender c.args.client c.args.message.now c.args.fields c.requires.1 c.requires.2 in
+    (c.requires.0, range.0, range.1, rw c.part-2.ensures (own_length c.args.client c.args.message.now c.args.fields c.requires.1))
 
 pub returns : goal.returns
 returns c =
-    let start : tie.Start = c in
-    let s = start in
-    let a = s.args in
+    let a = c.args in
     let fields = a.fields in
     c.on_prepared.ensures
     ∙ ap₂ (λ (digest own : List ℕ). client_answers a.client a.out.now (on_prepared a.client (replica fields.sender) (number fields.timestamp) digest own c.awaiting-phase.result)) c.part.ensures c.part-2.ensures
     ∙ ap (λ (phase : Phase). client_answers a.client a.out.now (on_prepared a.client (replica fields.sender) (number fields.timestamp) (part_at a.message.now fields.digest) (part_at a.message.now fields.signature) phase)) c.awaiting-phase.ensures
-    ∙ ap (client_answers a.client a.out.now) (sym (prepared_step a.client a.message.now fields s.pre.1 s.pre.2))
+    ∙ ap (client_answers a.client a.out.now) (sym (prepared_step a.client a.message.now fields c.requires.1 c.requires.2))

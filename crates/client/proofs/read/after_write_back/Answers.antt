@@ -12,10 +12,10 @@ pub returns-then-not-is_quorum : goal.returns-then-not-is_quorum
 unfolding after_write_back
 returns-then-not-is_quorum c =
     let a = c.args in
-    λ old before. rw (sym c.is_quorum.ensures ∙ not-true _ c.if-not-is_quorum.true-raw) (plain_call c.waits.result old (with_phase (WriteBack a.timestamp a.counted) a.client) Counted c.waits.ensures)
+    λ old before. rw (sym c.is_quorum.ensures ∙ c.if-not-is_quorum.true) (plain_call c.waits.result old (with_phase (WriteBack a.timestamp a.counted) a.client) Counted c.waits.ensures)
 
 pub returns : goal.returns
 unfolding after_write_back
 returns c =
     let a = c.args in
-    λ old before. rw (sym c.is_quorum.ensures ∙ not-false _ c.if-not-is_quorum.false-raw) (done_call c.done.result old (with_phase Idle a.client) a.timestamp (current_card a.client) a.client.signers c.done.ensures)
+    λ old before. rw (sym c.is_quorum.ensures ∙ c.if-not-is_quorum.false) (done_call c.done.result old (with_phase Idle a.client) a.timestamp (current_card a.client) a.client.signers c.done.ensures)

@@ -13,16 +13,16 @@ pub returns-then-not-is_quorum : goal.returns-then-not-is_quorum
 unfolding count_card
 returns-then-not-is_quorum c =
     let a = c.args in
-    λ before. rw (sym c.is_quorum.ensures ∙ not-true _ c.if-not-is_quorum.true-raw) (plain_call c.waits.result a.out.now (with_phase (Cards a.nonce a.best a.counted a.showed) a.client) Counted c.waits.ensures)
+    λ before. rw (sym c.is_quorum.ensures ∙ c.if-not-is_quorum.true) (plain_call c.waits.result a.out.now (with_phase (Cards a.nonce a.best a.counted a.showed) a.client) Counted c.waits.ensures)
 
 pub returns-in-Ordinary : goal.returns-in-Ordinary
 unfolding count_card
 returns-in-Ordinary c =
-    λ before. rw (sym c.is_quorum.ensures ∙ not-false _ c.if-not-is_quorum.false-raw, c.in-Ordinary.is) (c.after_card.ensures before)
+    λ before. rw (sym c.is_quorum.ensures ∙ c.if-not-is_quorum.false, c.in-Ordinary.is) (c.after_card.ensures before)
 
 pub returns-in-Viewing : goal.returns-in-Viewing
 unfolding count_card after_view
 returns-in-Viewing c =
     let a = c.args in
-    λ before. rw (sym c.is_quorum.ensures ∙ not-false _ c.if-not-is_quorum.false-raw, c.in-Viewing.is)
+    λ before. rw (sym c.is_quorum.ensures ∙ c.if-not-is_quorum.false, c.in-Viewing.is)
     (done_call c.done.result a.out.now (with_phase Idle a.client) a.best (current_card a.client) a.client.signers c.done.ensures)

@@ -12,12 +12,12 @@ use Rattle.client.proofs.read.on_card.Goals as goal
 pub returns-in_default : goal.returns-in_default
 returns-in_default c =
     let a = c.args in
-    rw (no_cards (after_cards a.role) a.client a.sender a.nonce a.card.now (prepared_part a.proof.now) a.addressed a.phase c.in-Cards.keys2) (plain_call c.refused.result a.out.now a.client (Refused 18) c.refused.ensures)
+    rw (no_cards (after_cards a.role) a.client a.sender a.nonce a.card.now (prepared_part a.proof.now) a.addressed a.phase c.in_default.not-Cards) (plain_call c.refused.result a.out.now a.client (Refused 18) c.refused.ensures)
 
 pub returns-then-not-is_awaited : goal.returns-then-not-is_awaited
 returns-then-not-is_awaited c =
     let a = c.args in
-    let fails = sym c.is_awaited.ensures ∙ not-true _ c.if-not-is_awaited.true-raw in
+    let fails = sym c.is_awaited.ensures ∙ c.if-not-is_awaited.true in
     rw (card_refused (after_cards a.role) a.client a.sender a.nonce a.card.now (prepared_part a.proof.now) a.addressed a.phase c.in-Cards.asked c.in-Cards.best c.in-Cards.counted c.in-Cards.showed c.in-Cards.is fails) (plain_call c.refused-then-not-is_awaited.result a.out.now a.client (Refused 18) c.refused-then-not-is_awaited.ensures)
 
 pub keep_better_card-client-requires : goal.keep_better_card-client-requires
@@ -29,5 +29,5 @@ count_card-requires c = c.requires.0
 pub returns : goal.returns
 returns c =
     let a = c.args in
-    let passes = sym c.is_awaited.ensures ∙ not-false _ c.if-not-is_awaited.false-raw in
+    let passes = sym c.is_awaited.ensures ∙ c.if-not-is_awaited.false in
     rw (card_taken (after_cards a.role) a.client a.sender a.nonce a.card.now (prepared_part a.proof.now) a.addressed a.phase c.in-Cards.asked c.in-Cards.best c.in-Cards.counted c.in-Cards.showed c.in-Cards.is passes) (rw (c.keep_better_card-client.ensures, c.best_of-later.ensures, c.showed_by-shown.ensures, c.with.ensures) at (c.count_card.ensures a.client))

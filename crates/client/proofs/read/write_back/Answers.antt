@@ -10,4 +10,4 @@ pub returns : goal.returns
 returns c =
     let a = c.args in
     let sent = rw c.with_phase-client.ensures at c.sent.ensures in
-    λ before. sends a.out.now c.write_write-encoded.new.0 (WRITE a.client.id (current_card a.client) (best_proof a.client a.best)) c.requires c.write_write-encoded.result c.sent.result (with_phase (WriteBack a.best a.showed) a.client) c.write_write-encoded.ensures sent
+    λ before. sends a.out.now c.write_write-encoded.new.out (WRITE a.client.id (current_card a.client) (best_proof a.client a.best)) c.requires c.write_write-encoded.result c.sent.result (with_phase (WriteBack a.best a.showed) a.client) c.write_write-encoded.ensures sent

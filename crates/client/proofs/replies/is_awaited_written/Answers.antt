@@ -5,7 +5,7 @@ use borrow.Author.Rules.{rules}
 use Rattle.client.proofs.replies.is_awaited_written.Goals as goal
 
 pub returns-then-not-is : goal.returns-then-not-is
-returns-then-not-is c = rw (sym c.is.ensures ∙ not-true _ c.if-not-is.true-raw)
+returns-then-not-is c = rw (sym c.is.ensures ∙ c.if-not-is.true)
 
 pub returns : goal.returns
-returns c = rw (sym c.is.ensures ∙ not-false _ c.if-not-is.false-raw, c.is_new.ensures)
+returns c = rw (sym c.is.ensures ∙ c.if-not-is.false, c.is_new.ensures)

@@ -8,14 +8,14 @@ use Rattle.client.proofs.ProofPart.{later_there}
 use Rattle.client.proofs.replies.keep_better.Goals as goal
 
 pub returns-then-not-is_better : goal.returns-then-not-is_better
-returns-then-not-is_better c = rw (sym c.is_better.ensures ∙ not-true _ c.if-not-is_better.true-raw)
+returns-then-not-is_better c = rw (sym c.is_better.ensures ∙ c.if-not-is_better.true)
 
 pub with_proof-requires : goal.with_proof-requires
 with_proof-requires c =
-    let there = later_there (number c.args.best) c.args.proof.now c.requires.0 (sym c.is_better.ensures ∙ not-false _ c.if-not-is_better.false-raw) in
+    let there = later_there (number c.args.best) c.args.proof.now c.requires.0 (sym c.is_better.ensures ∙ c.if-not-is_better.false) in
     (there.whole, c.requires.1 ∙ ap prepared_signers there.is)
 
 pub returns : goal.returns
 returns c =
-    let yes = sym c.is_better.ensures ∙ not-false _ c.if-not-is_better.false-raw in
+    let yes = sym c.is_better.ensures ∙ c.if-not-is_better.false in
     rw (yes, (later_there (number c.args.best) c.args.proof.now c.requires.0 yes).is) c.with_proof.ensures

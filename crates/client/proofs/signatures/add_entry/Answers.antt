@@ -12,27 +12,27 @@ use Rattle.client.proofs.signatures.add_entry.Goals as goal
 
 pub returns-then-not-is_taken : goal.returns-then-not-is_taken
 returns-then-not-is_taken c =
-    let gone = sym c.is_taken.ensures ∙ not-true _ c.if-not-is_taken.true-raw in
+    let gone = sym c.is_taken.ensures ∙ c.if-not-is_taken.true in
     record { next_is = rw gone; holds = rw gone }
 
 pub bounds-entries-at : goal.bounds-entries-at
 bounds-entries-at c =
-    let room : c.args.count < 11 = let a = c.args in taken_room a.counted a.id a.count (sym c.is_taken.ensures ∙ not-false _ c.if-not-is_taken.false-raw) in
+    let room : c.args.count < 11 = let a = c.args in taken_room a.counted a.id a.count (sym c.is_taken.ensures ∙ c.if-not-is_taken.false) in
     let few = room in omega (arith, c.requires)
 
 pub overflow_add-result : goal.overflow_add-result
 overflow_add-result c =
-    let room : c.args.count < 11 = let a = c.args in taken_room a.counted a.id a.count (sym c.is_taken.ensures ∙ not-false _ c.if-not-is_taken.false-raw) in
+    let room : c.args.count < 11 = let a = c.args in taken_room a.counted a.id a.count (sym c.is_taken.ensures ∙ c.if-not-is_taken.false) in
     let few = room in omega arith
 
 pub shape_of-entries : goal.shape_of-entries
-shape_of-entries c = c.put.auto.0 ∙ simp length-set
+shape_of-entries c = c.put.auto.out ∙ simp length-set
 
 pub returns : goal.returns
 returns c =
-    let room : c.args.count < 11 = let a = c.args in taken_room a.counted a.id a.count (sym c.is_taken.ensures ∙ not-false _ c.if-not-is_taken.false-raw) in
+    let room : c.args.count < 11 = let a = c.args in taken_room a.counted a.id a.count (sym c.is_taken.ensures ∙ c.if-not-is_taken.false) in
     let a = c.args in
-    let there = sym c.is_taken.ensures ∙ not-false _ c.if-not-is_taken.false-raw in
+    let there = sym c.is_taken.ensures ∙ c.if-not-is_taken.false in
     let few = room in
     let at = 65 * a.count in
     let from = 64 * (a.id.0 - 1) in

@@ -31,9 +31,9 @@ loop-id-preserved c =
     let a = c.args in
     let more = c.add_entry-count in
     let next : l.id + 1 ≡ suc l.id = add-one l.id in (
-      rw next (gathered_more a.counted a.signatures.now (omega arith) l.id l.count l.signers l.entries more.result c.add_signer-signers.result more.new.0 (omega arith) l.invariant.0 (rw next at c.add_signer-signers.ensures) (rw next at more.ensures)),
+      rw next (gathered_more a.counted a.signatures.now (omega arith) l.id l.count l.signers l.entries more.result c.add_signer-signers.result more.new.entries (omega arith) l.invariant.0 (rw next at c.add_signer-signers.ensures) (rw next at more.ensures)),
       omega arith,
-      more.auto.0 ∙ l.invariant.2,
+      more.auto.entries ∙ l.invariant.2,
     )
 
 pub returns : goal.returns

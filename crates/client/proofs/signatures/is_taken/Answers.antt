@@ -5,7 +5,7 @@ use borrow.Author.Tests.{not-true, not-false}
 use Rattle.client.proofs.signatures.is_taken.Goals as goal
 
 pub returns-then-not-has : goal.returns-then-not-has
-returns-then-not-has c = rw (sym c.has.ensures ∙ not-true _ c.if-not-has.true-raw)
+returns-then-not-has c = rw (sym c.has.ensures ∙ c.if-not-has.true)
 
 pub returns : goal.returns
-returns c = rw (sym c.has.ensures ∙ not-false _ c.if-not-has.false-raw)
+returns c = rw (sym c.has.ensures ∙ c.if-not-has.false)

@@ -12,11 +12,11 @@ pub returns-then-not-is_quorum : goal.returns-then-not-is_quorum
 unfolding after_written
 returns-then-not-is_quorum c =
     let a = c.args in
-    λ old before. rw (sym c.is_quorum.ensures ∙ not-true _ c.if-not-is_quorum.true-raw) (plain_call c.waits.result old (with_phase (Writtens a.timestamp a.counted) a.client) Counted c.waits.ensures)
+    λ old before. rw (sym c.is_quorum.ensures ∙ c.if-not-is_quorum.true) (plain_call c.waits.result old (with_phase (Writtens a.timestamp a.counted) a.client) Counted c.waits.ensures)
 
 pub returns : goal.returns
 unfolding after_written
 returns c =
     let a = c.args in
     let last = with_last_written a.timestamp (built a.client a.counted a.client.signatures) a.client in
-    λ old before. rw (sym c.is_quorum.ensures ∙ not-false _ c.if-not-is_quorum.false-raw) (done_call c.done.result old (with_phase Idle last) a.timestamp (current_card last) last.signers (rw c.with_last_written-client.ensures at c.done.ensures))
+    λ old before. rw (sym c.is_quorum.ensures ∙ c.if-not-is_quorum.false) (done_call c.done.result old (with_phase Idle last) a.timestamp (current_card last) last.signers (rw c.with_last_written-client.ensures at c.done.ensures))

@@ -20,4 +20,4 @@ returns c =
     let to = with_phase (Prepareds c.in-Next.next empty) (with_digest c.card_digest-digest.result a.client) in
     let sent = rw (c.with_phase-client-2.ensures, c.with_digest-client.ensures, c.empty.ensures) at c.sent.ensures in
     let message = rw c.written_for-last.ensures at c.write_prepare-encoded.ensures in
-    λ before. rw (is, ← c.card_digest-digest.ensures) (sends a.out.now c.write_prepare-encoded.new.0 _ c.requires c.write_prepare-encoded.result c.sent.result to message sent)
+    λ before. rw (is, ← c.card_digest-digest.ensures) (sends a.out.now c.write_prepare-encoded.new.out _ c.requires c.write_prepare-encoded.result c.sent.result to message sent)

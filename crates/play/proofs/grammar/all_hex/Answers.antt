@@ -19,14 +19,14 @@ pub returns-then-not-is_hex_digit : goal.returns-then-not-is_hex_digit
 returns-then-not-is_hex_digit c =
     let l = c.loop-i in
     let a = c.args in
-    let failed : is_hex_digit (get_or a.digits.now l.i 0) ≡ false = sym c.is_hex_digit.ensures ∙ not-true _ c.if-not-is_hex_digit.true-raw in
+    let failed : is_hex_digit (get_or a.digits.now l.i 0) ≡ false = sym c.is_hex_digit.ensures ∙ c.if-not-is_hex_digit.true in
     sym (l.invariant.0 ∙ rw (all_step is_hex_digit a.digits.now l.i (omega arith), failed))
 
 pub loop-i-preserved : goal.loop-i-preserved
 loop-i-preserved c =
     let l = c.loop-i in
     let a = c.args in
-    let passed : is_hex_digit (get_or a.digits.now l.i 0) ≡ true = sym c.is_hex_digit.ensures ∙ not-false _ c.if-not-is_hex_digit.false-raw in
+    let passed : is_hex_digit (get_or a.digits.now l.i 0) ≡ true = sym c.is_hex_digit.ensures ∙ c.if-not-is_hex_digit.false in
     (l.invariant.0 ∙ rw (all_step is_hex_digit a.digits.now l.i (omega arith), passed), omega arith)
 
 pub returns : goal.returns

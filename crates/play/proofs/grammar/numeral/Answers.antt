@@ -28,12 +28,12 @@ pub returns-then-not-within : goal.returns-then-not-within
 returns-then-not-within c =
     let l = c.loop-i in
     let a = c.args in
-    let failed : within 48 57 (get_or a.digits.now l.i 0) ≡ false = sym c.within.ensures ∙ not-true _ c.if-not-within.true-raw in
+    let failed : within 48 57 (get_or a.digits.now l.i 0) ≡ false = sym c.within.ensures ∙ c.if-not-within.true in
     sym (l.invariant.0 ∙ rw (step l.n a.digits.now l.i (omega arith), failed))
 
 pub returns-then-n-gt-LARGEST : goal.returns-then-n-gt-LARGEST
 returns-then-n-gt-LARGEST c =
-    let is_digit : within 48 57 (get_or c.args.digits.now c.loop-i.i 0) ≡ true = sym c.within.ensures ∙ not-false _ c.if-not-within.false-raw in
+    let is_digit : within 48 57 (get_or c.args.digits.now c.loop-i.i 0) ≡ true = sym c.within.ensures ∙ c.if-not-within.false in
     let l = c.loop-i in
     let a = c.args in
     sym (l.invariant.0 ∙ rw (step l.n a.digits.now l.i (omega arith), is_digit, lt-ltb 99 l.n (omega arith)))
@@ -43,25 +43,25 @@ overflow_mul-n c = omega arith
 
 pub overflow_sub-n : goal.overflow_sub-n
 overflow_sub-n c =
-    let is_digit : within 48 57 (get_or c.args.digits.now c.loop-i.i 0) ≡ true = sym c.within.ensures ∙ not-false _ c.if-not-within.false-raw in
+    let is_digit : within 48 57 (get_or c.args.digits.now c.loop-i.i 0) ≡ true = sym c.within.ensures ∙ c.if-not-within.false in
     let small : (48 ≤ get_or c.args.digits.now c.loop-i.i 0) × (get_or c.args.digits.now c.loop-i.i 0 ≤ 57) = bounds 48 57 (get_or c.args.digits.now c.loop-i.i 0) is_digit in
     omega (arith, small)
 
 pub overflow_cast-n : goal.overflow_cast-n
 overflow_cast-n c =
-    let is_digit : within 48 57 (get_or c.args.digits.now c.loop-i.i 0) ≡ true = sym c.within.ensures ∙ not-false _ c.if-not-within.false-raw in
+    let is_digit : within 48 57 (get_or c.args.digits.now c.loop-i.i 0) ≡ true = sym c.within.ensures ∙ c.if-not-within.false in
     let small : (48 ≤ get_or c.args.digits.now c.loop-i.i 0) × (get_or c.args.digits.now c.loop-i.i 0 ≤ 57) = bounds 48 57 (get_or c.args.digits.now c.loop-i.i 0) is_digit in
     omega (arith, small)
 
 pub overflow_add-n : goal.overflow_add-n
 overflow_add-n c =
-    let is_digit : within 48 57 (get_or c.args.digits.now c.loop-i.i 0) ≡ true = sym c.within.ensures ∙ not-false _ c.if-not-within.false-raw in
+    let is_digit : within 48 57 (get_or c.args.digits.now c.loop-i.i 0) ≡ true = sym c.within.ensures ∙ c.if-not-within.false in
     let small : (48 ≤ get_or c.args.digits.now c.loop-i.i 0) × (get_or c.args.digits.now c.loop-i.i 0 ≤ 57) = bounds 48 57 (get_or c.args.digits.now c.loop-i.i 0) is_digit in
     omega (arith, small)
 
 pub loop-i-preserved : goal.loop-i-preserved
 loop-i-preserved c =
-    let is_digit : within 48 57 (get_or c.args.digits.now c.loop-i.i 0) ≡ true = sym c.within.ensures ∙ not-false _ c.if-not-within.false-raw in
+    let is_digit : within 48 57 (get_or c.args.digits.now c.loop-i.i 0) ≡ true = sym c.within.ensures ∙ c.if-not-within.false in
     let small : (48 ≤ get_or c.args.digits.now c.loop-i.i 0) × (get_or c.args.digits.now c.loop-i.i 0 ≤ 57) = bounds 48 57 (get_or c.args.digits.now c.loop-i.i 0) is_digit in
     let l = c.loop-i in
     let a = c.args in

@@ -36,16 +36,16 @@ pub returns-then-byte_at-ne32 : goal.returns-then-byte_at-ne32
 returns-then-byte_at-ne32 c = sym (no_space c.args.line.now c.byte_at.result c.byte_at-party.result c.byte_at.ensures c.byte_at-party.ensures c.if-byte_at-ne32.true)
 
 pub returns-then-not-within : goal.returns-then-not-within
-returns-then-not-within c = sym (no_party c.args.line.now c.byte_at.result c.byte_at-party.result c.byte_at.ensures c.byte_at-party.ensures c.if-byte_at-ne32.false (sym c.within.ensures ∙ not-true _ c.if-not-within.true-raw))
+returns-then-not-within c = sym (no_party c.args.line.now c.byte_at.result c.byte_at-party.result c.byte_at.ensures c.byte_at-party.ensures c.if-byte_at-ne32.false (sym c.within.ensures ∙ c.if-not-within.true))
 
 pub overflow_sub-party : goal.overflow_sub-party
 overflow_sub-party c =
-    let in_range_lem : within 49 52 c.byte_at-party.result ≡ true = sym c.within.ensures ∙ not-false _ c.if-not-within.false-raw in
+    let in_range_lem : within 49 52 c.byte_at-party.result ≡ true = sym c.within.ensures ∙ c.if-not-within.false in
     let h = bounds 49 52 c.byte_at-party.result in_range_lem in omega arith
 
 pub returns-then-byte_at-eq32 : goal.returns-then-byte_at-eq32
 returns-then-byte_at-eq32 c =
-    let in_range_lem : within 49 52 c.byte_at-party.result ≡ true = sym c.within.ensures ∙ not-false _ c.if-not-within.false-raw in
+    let in_range_lem : within 49 52 c.byte_at-party.result ≡ true = sym c.within.ensures ∙ c.if-not-within.false in
     sym (longer c.args.line.now c.byte_at.result c.byte_at-party.result c.byte_at.ensures c.byte_at-party.ensures
     c.byte_at-letter.result c.byte_at-2.result c.byte_at-letter.ensures c.byte_at-2.ensures c.if-byte_at-ne32.false in_range_lem c.if-byte_at-eq32.true
     ∙ rw (← c.behind.ensures) (sym c.asked.ensures))
@@ -53,7 +53,7 @@ returns-then-byte_at-eq32 c =
 pub returns-then-line-ne3 : goal.returns-then-line-ne3
 unfolding short
 returns-then-line-ne3 c =
-    let in_range_lem : within 49 52 c.byte_at-party.result ≡ true = sym c.within.ensures ∙ not-false _ c.if-not-within.false-raw in
+    let in_range_lem : within 49 52 c.byte_at-party.result ≡ true = sym c.within.ensures ∙ c.if-not-within.false in
     let is_short : command c.args.line.now ≡ short c.byte_at-letter.result (c.byte_at-party.result - 48) c.args.line.now = shorter c.args.line.now c.byte_at.result c.byte_at-party.result c.byte_at.ensures c.byte_at-party.ensures
     c.byte_at-letter.result c.byte_at-2.result c.byte_at-letter.ensures c.byte_at-2.ensures c.if-byte_at-ne32.false in_range_lem c.if-byte_at-eq32.false in
     let line = c.args.line.now in sym (is_short ∙ rw (ne_eqb (length line) 3 c.if-line-ne3.true))
@@ -61,20 +61,20 @@ returns-then-line-ne3 c =
 pub returns-then-letter-ne114 : goal.returns-then-letter-ne114
 unfolding short
 returns-then-letter-ne114 c =
-    let in_range_lem : within 49 52 c.byte_at-party.result ≡ true = sym c.within.ensures ∙ not-false _ c.if-not-within.false-raw in
+    let in_range_lem : within 49 52 c.byte_at-party.result ≡ true = sym c.within.ensures ∙ c.if-not-within.false in
     let is_short : command c.args.line.now ≡ short c.byte_at-letter.result (c.byte_at-party.result - 48) c.args.line.now = shorter c.args.line.now c.byte_at.result c.byte_at-party.result c.byte_at.ensures c.byte_at-party.ensures
     c.byte_at-letter.result c.byte_at-2.result c.byte_at-letter.ensures c.byte_at-2.ensures c.if-byte_at-ne32.false in_range_lem c.if-byte_at-eq32.false in
     let line = c.args.line.now in sym (is_short ∙ rw (eq-eqb (length line) 3 c.if-line-ne3.false, ne_eqb c.byte_at-letter.result 114 c.if-letter-ne114.true))
 
 pub overflow_sub-result : goal.overflow_sub-result
 overflow_sub-result c =
-    let in_range_lem : within 49 52 c.byte_at-party.result ≡ true = sym c.within.ensures ∙ not-false _ c.if-not-within.false-raw in
+    let in_range_lem : within 49 52 c.byte_at-party.result ≡ true = sym c.within.ensures ∙ c.if-not-within.false in
     let h = bounds 49 52 c.byte_at-party.result in_range_lem in omega arith
 
 pub returns : goal.returns
 unfolding short
 returns c =
-    let in_range_lem : within 49 52 c.byte_at-party.result ≡ true = sym c.within.ensures ∙ not-false _ c.if-not-within.false-raw in
+    let in_range_lem : within 49 52 c.byte_at-party.result ≡ true = sym c.within.ensures ∙ c.if-not-within.false in
     let is_short : command c.args.line.now ≡ short c.byte_at-letter.result (c.byte_at-party.result - 48) c.args.line.now = shorter c.args.line.now c.byte_at.result c.byte_at-party.result c.byte_at.ensures c.byte_at-party.ensures
     c.byte_at-letter.result c.byte_at-2.result c.byte_at-letter.ensures c.byte_at-2.ensures c.if-byte_at-ne32.false in_range_lem c.if-byte_at-eq32.false in
     let line = c.args.line.now in sym (is_short ∙ rw (eq-eqb (length line) 3 c.if-line-ne3.false, eq-eqb c.byte_at-letter.result 114 c.if-letter-ne114.false))

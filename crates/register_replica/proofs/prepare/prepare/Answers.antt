@@ -35,7 +35,7 @@ returns-then-is_kept c =
     let asked : c.slot_admits.result ≡ (slot_is c.args.client (number c.args.timestamp) c.args.digest.now c.args.replica.register.slots || slot_takes c.args.client (number c.args.timestamp) (raised (number c.args.last) c.args.replica.register.slots) c.args.replica.register.slots) = rw (c.slot_is-again.ensures, c.later-written.ensures) at c.slot_admits.ensures in
     let a = c.args in
     let is_kept = rw (c.slot_is-again.ensures, c.later-written.ensures) at c.is_kept.ensures in
-    let same = kept a.client (number a.timestamp) a.digest.now a.replica.register.slots c.requires.0.0 (omega (arith, c.requires.0.1)) (number a.last) (omega (arith, c.good.0)) (sym is_kept ∙ c.if-is_kept.true) in
+    let same = kept a.client (number a.timestamp) a.digest.now a.replica.register.slots c.requires.0.0 (omega (arith, c.requires.0.1)) (number a.last) (omega arith) (sym is_kept ∙ c.if-is_kept.true) in
     sends_keeping a.register a.replica a.out.now _ _ _ _ _ _ _
     (is_taken a.replica a.client (number a.timestamp) a.digest.now (number a.shown) (number a.last) follows c.requires.0.0 (omega (arith, c.requires.0.1)) c.slot_admits.result asked (not-false _ c.if-not-slot_admits.false-raw))
     c.requires.1 c.write_prepared-encoded.ensures c.answer_of-answer.ensures (ap (with_slots a.replica) same) c.keep.ensures
@@ -47,7 +47,7 @@ returns c =
     let asked : c.slot_admits.result ≡ (slot_is c.args.client (number c.args.timestamp) c.args.digest.now c.args.replica.register.slots || slot_takes c.args.client (number c.args.timestamp) (raised (number c.args.last) c.args.replica.register.slots) c.args.replica.register.slots) = rw (c.slot_is-again.ensures, c.later-written.ensures) at c.slot_admits.ensures in
     let a = c.args in
     let slots = c.put_slot-slots.ensures in
-    let count : number a.timestamp / 256 ≡ a.timestamp.count = omega (arith, c.good.1.1.1.0) in
+    let count : number a.timestamp / 256 ≡ a.timestamp.count = omega arith in
     let written : of_number (raised (number a.last) a.replica.register.slots) ≡ c.later-written.result = rw (← c.later-written.ensures) (of_number_number c.later-written.result (omega (arith, c.later-written.type_inv))) in
     sends a.register a.replica a.out.now _ _ _ _ _ _
     (is_taken a.replica a.client (number a.timestamp) a.digest.now (number a.shown) (number a.last) follows c.requires.0.0 (omega (arith, c.requires.0.1)) c.slot_admits.result asked (not-false _ c.if-not-slot_admits.false-raw))
