@@ -76,12 +76,10 @@ pub fn taking(answer: Taking) -> Outcome {
 }
 
 fn touched(rest: &[u8]) -> bool {
-    let mut i = 0;
-    while i < rest.len() {
-        if rest[i] != UNTOUCHED {
+    for byte in rest {
+        if *byte != UNTOUCHED {
             return true;
         }
-        i += 1;
     }
     false
 }
@@ -170,7 +168,7 @@ fn sent_length(outcome: Outcome) -> usize {
 fn sent_after(answer: Answer, sent: usize) -> usize {
     let outcome = answer.outcome;
     match outcome {
-        Outcome::Sent(_) => std::num::wrapping_add_usize(sent, 1),
+        Outcome::Sent(_) => sent.wrapping_add(1),
         Outcome::Said(said) => if said == NEW { 0 } else { sent },
         _ => sent,
     }
@@ -185,7 +183,7 @@ fn report(
     store: &mut Store,
     sent: usize,
 ) -> io::Result<()> {
-    let number = std::num::wrapping_add_usize(sent, 1);
+    let number = sent.wrapping_add(1);
     let outcome = answer.outcome;
     let length = sent_length(outcome);
     print(rt, answer, line, number, out)?;

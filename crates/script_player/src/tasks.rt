@@ -191,8 +191,7 @@ fn of_party(whom: Whom, call: Call, taken: usize, left: usize, held: &Held) -> T
 
 // Which command a word is, by its place among them.
 fn command(name: &[u8]) -> usize {
-    let mut n = 0;
-    while n < NO_COMMAND {
+    for n in 0..NO_COMMAND {
         let listed = word(
             b"to-replica to-client to-viewer write read view lent replica client viewer keep restore order hand",
             n,
@@ -200,9 +199,8 @@ fn command(name: &[u8]) -> usize {
         if check::same(listed, name) {
             return n;
         }
-        n += 1;
     }
-    n
+    NO_COMMAND
 }
 
 fn set_up(whom: Whom, f: &[u8], id: &[u8], nonce: &[u8]) -> Task {
