@@ -65,12 +65,7 @@ pub fn bank_fresh(f: u8, id: ReplicaId, key: &[u8]) -> MadeBank
     }
 }
 
-pub fn bank_step(
-    bank: &mut Bank,
-    message: &[u8],
-    verdicts: &[u8],
-    out: &mut [u8],
-) -> NumberedAnswer
+pub fn bank_step(bank: &mut Bank, message: &[u8], verdicts: &[u8], out: &mut [u8]) -> NumberedAnswer
     ensures { StepsInNumbers bank.old message.now verdicts.now out.old result bank.new out.new }
 {
     let answer = step_in_place(bank, message, verdicts, out);

@@ -27,7 +27,7 @@ use Rattle.wire.proofs.FieldPlaces.{field_absent, place_present}
 use Rattle.wire.proofs.ReadingByKind.{ProofBit, prepared_bit, written_bit, Parsed, parsed, proof_at, proof_ends, taken_kind, decode_splits, replica_kind, client_kind, reads_1, reads_2, reads_3, reads_4, reads_5, reads_6, reads_7, reads_8}
 use Rattle.wire.proofs.Tests7To11.{Passed}
 use Rattle.wire.proofs.ProofBytes.{length_read, entries_read, extent_is}
-use Rattle.wire.proofs.Rows.{Taken, prepare, write, prepared}
+use Rattle.wire.proofs.Rows.{Taken, prepare, write}
 
 -- ---- A proof by its parts
 

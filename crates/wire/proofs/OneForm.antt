@@ -8,7 +8,7 @@ use Rattle.base.specs.Outcome.{accepted}
 use Rattle.base.specs.declared.party.RegisterId.{RegisterId}
 use Rattle.wire.specs.Decode.{for_register, decode, kind_in, card_in, register_in}
 use Rattle.wire.specs.Layout.{Rule, fixed, extent, rules, map_in, place, field, signature}
-use Rattle.wire.specs.Message.{Message, proof_field, fields, joined, body, encode, IsDigest, IsSignature, ProofFits, IfThere, CardFits, Fits, Legal, size}
+use Rattle.wire.specs.Message.{Message, proof_field, fields, joined, body, encode, IsDigest, IsSignature, ProofFits, IfThere, CardFits, Fits, Legal}
 use Rattle.wire.specs.Proof.{proof_bytes, proof_from}
 use Rattle.wire.specs.declared.message.Party.{Party}
 use Rattle.wire.proofs.FieldPlaces.{Framed, Headed, place_next, field_absent, field_whole, bytes_field, map_small, first_bits}

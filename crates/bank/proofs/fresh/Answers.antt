@@ -5,7 +5,6 @@ use Prim.Native.Nat.{ℕ}
 use Rattle.base.proofs.Filling.{filled_whole}
 use Rattle.protocol.specs.Bank.{fresh_bank, made_bank}
 use Rattle.protocol.proofs.SetUp.{set_up_key}
-use borrow.Author.Rules.{rules}
 use Rattle.bank.proofs.fresh.Goals as goal
 
 pub returns-in_default : goal.returns-in_default

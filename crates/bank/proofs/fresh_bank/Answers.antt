@@ -5,7 +5,6 @@ use Rattle.base.specs.declared.client_set.ClientSet.{ClientSet}
 use Rattle.protocol.specs.RegisterReplica.{fresh_register}
 use Rattle.protocol.specs.declared.replica.Bank.{Bank}
 use Rattle.protocol.specs.declared.replica.Register.{Register}
-use borrow.Author.Rules.{rules}
 use Rattle.bank.proofs.fresh_bank.Goals as goal
 
 pub returns : goal.returns

@@ -1,7 +1,6 @@
 -- `bank::key_array` meets its contract.
 use mathlib.Core.Path.{◌∙◌}
 use Rattle.base.proofs.Filling.{filled_stored}
-use borrow.Author.Rules.{rules}
 use Rattle.bank.proofs.key_array.Goals as goal
 
 pub returns : goal.returns

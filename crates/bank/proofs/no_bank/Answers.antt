@@ -1,5 +1,4 @@
 -- `bank::no_bank` meets its contract.
-use borrow.Author.Rules.{rules}
 use Rattle.bank.proofs.no_bank.Goals as goal
 
 pub returns : goal.returns

@@ -1,6 +1,5 @@
 -- `bank::part_at` meets its contract.
 use mathlib.Core.Path.{refl}
-use borrow.Author.Rules.{rules}
 use Rattle.protocol.specs.Bank.{no_register}
 use Rattle.bank.proofs.part_at.Goals as goal
 

@@ -1,6 +1,5 @@
 -- `bank::place_of` meets its contract.
 use mathlib.Core.Path.{ap, ◌∙◌}
-use borrow.Author.Rules.{rules}
 use Rattle.base.specs.Party.{register_place}
 use Rattle.bank.proofs.place_of.Goals as goal
 

@@ -1,7 +1,6 @@
 -- `bank::step` meets its contract.
 use Prim.Native.Nat.{◌<◌}
 use native.Mathlib.Omega.{arith}
-use borrow.Author.Rules.{rules}
 use Rattle.base.proofs.Registers.{place_below}
 use Rattle.wire.specs.Parts.{last_register}
 use Rattle.bank.proofs.Calls.{bank_steps}

@@ -1,6 +1,5 @@
 -- `bank::take_order` meets its contract.
 use Rattle.bank.proofs.Ordering.{order_steps}
-use borrow.Author.Rules.{rules}
 use Rattle.bank.proofs.take_order.Goals as goal
 
 pub returns : goal.returns

@@ -1,5 +1,4 @@
 -- `register_replica::fresh_held` meets its contract.
-use borrow.Author.Rules.{rules}
 use Rattle.protocol.specs.RegisterReplica.{fresh_register}
 use Rattle.register_replica.proofs.fresh_held.Goals as goal
 

@@ -1,6 +1,5 @@
 -- `register_replica::on_message` meets its contract.
 use native.Mathlib.Omega.{arith}
-use borrow.Author.Rules.{rules}
 use Rattle.register_replica.proofs.Asked.{step_read_stamp, step_read, last_kind, answers}
 use Rattle.register_replica.proofs.on_message.Goals as goal
 

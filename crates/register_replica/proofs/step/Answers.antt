@@ -1,7 +1,6 @@
 -- `register_replica::step` meets its contract.
 use mathlib.Core.Path.{◌≡◌, sym}
 use native.Mathlib.Omega.{arith}
-use borrow.Author.Rules.{rules}
 use Rattle.base.specs.Outcome.{accepted, refused}
 use Rattle.wire.specs.Acceptance.{acceptance}
 use Rattle.wire.specs.Decode.{register_in}

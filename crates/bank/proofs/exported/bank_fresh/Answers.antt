@@ -1,5 +1,4 @@
 -- `bank::exported::bank_fresh` meets its contract.
-use borrow.Author.Rules.{rules}
 use Rattle.bank.proofs.exported.bank_fresh.Goals as goal
 
 pub returns-in_default : goal.returns-in_default

@@ -1,5 +1,4 @@
 -- `bank::exported::in_numbers` meets its contract.
-use borrow.Author.Rules.{rules}
 use Rattle.bank.proofs.exported.in_numbers.Goals as goal
 
 pub returns-in-Send : goal.returns-in-Send

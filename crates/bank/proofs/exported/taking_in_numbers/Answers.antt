@@ -1,5 +1,4 @@
 -- `bank::exported::taking_in_numbers` meets its contract.
-use borrow.Author.Rules.{rules}
 use Rattle.bank.proofs.exported.taking_in_numbers.Goals as goal
 
 pub returns-in-Taken : goal.returns-in-Taken

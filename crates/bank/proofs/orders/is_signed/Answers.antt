@@ -1,5 +1,4 @@
 -- `bank::orders::is_signed` meets its contract.
-use borrow.Author.Rules.{rules}
 use Rattle.bank.proofs.orders.is_signed.Goals as goal
 
 pub returns : goal.returns

@@ -1,7 +1,6 @@
 -- `base::big_endian::to_two` meets its contract.
 use mathlib.Core.Path.{refl}
 use Rattle.base.specs.BigEndian.{to_bytes}
-use borrow.Author.Rules.{rules}
 use Rattle.base.proofs.big_endian.to_two.Goals as goal
 
 pub returns : goal.returns

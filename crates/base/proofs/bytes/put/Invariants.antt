@@ -1,13 +1,8 @@
 -- `base::bytes::put` meets its contract: after i turns the first i bytes are pasted in.
-use mathlib.Core.Path.{◌≡◌, refl, sym, ◌∙◌}
-use mathlib.Core.List.{append_assoc}
+use mathlib.Core.Path.{◌≡◌}
 use Prim.Native.Nat.{◌+◌, ◌-◌, ◌≤◌}
-use native.Mathlib.Numerals.{add-one}
-use native.Mathlib.Omega.{arith}
-use borrow.Author.Rules.{rules}
-use lib.ListN.{length, take, drop, length-set}
-use lib.Seq.{paste, paste-zero, paste-suc, take-length}
-use Rattle.base.proofs.Stored.{stored_fits, stored_short}
+use lib.ListN.{length}
+use lib.Seq.{paste}
 use Rattle.base.proofs.bytes.put.Given as goal
 
 abbrev pub invariant-loop-i : goal.invariant-loop-i

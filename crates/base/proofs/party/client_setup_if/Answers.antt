@@ -1,7 +1,6 @@
 -- `base::party::client_setup_if` meets its contract.
 use mathlib.Core.Path.{sym, ◌∙◌}
 use native.Mathlib.Omega.{arith}
-use borrow.Author.Rules.{rules}
 use borrow.Author.Tests.{not-true, not-false, le-leb, lt-leb}
 use Rattle.base.proofs.Outcome.{guard_passes, guard_refuses}
 use Rattle.base.proofs.party.client_setup_if.Goals as goal

@@ -1,5 +1,4 @@
 -- `base::party::is_replica` meets its contract.
-use borrow.Author.Rules.{rules}
 use Rattle.base.proofs.party.is_replica.Goals as goal
 
 pub returns : goal.returns

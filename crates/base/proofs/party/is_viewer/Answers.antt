@@ -2,7 +2,6 @@
 use mathlib.Core.Path.{sym, ap, ◌∙◌}
 use mathlib.Core.Bool.{not}
 use borrow.Author.Tests.{not-true, not-false}
-use borrow.Author.Rules.{rules}
 use Rattle.base.proofs.party.is_viewer.Goals as goal
 
 pub returns-then-not-is_client : goal.returns-then-not-is_client

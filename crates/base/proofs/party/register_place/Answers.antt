@@ -2,7 +2,6 @@
 use mathlib.Core.Path.{sym, ◌∙◌}
 use native.Mathlib.Omega.{arith}
 use borrow.Author.Tests.{not-true, not-false}
-use borrow.Author.Rules.{rules}
 use Rattle.base.proofs.Range.{bounds}
 use Rattle.base.proofs.Registers.{place_of, place_of_none, place_below}
 use Rattle.base.proofs.party.register_place.Goals as goal

@@ -1,6 +1,5 @@
 -- `base::party::replica_setup` meets its contract.
 use mathlib.Core.Path.{sym, ◌∙◌}
-use borrow.Author.Rules.{rules}
 use borrow.Author.Tests.{not-true, not-false}
 use Rattle.base.proofs.Outcome.{guard_passes, guard_refuses}
 use Rattle.base.proofs.party.replica_setup.Goals as goal

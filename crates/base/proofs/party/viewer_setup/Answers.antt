@@ -1,7 +1,6 @@
 -- `base::party::viewer_setup` meets its contract.
 use mathlib.Core.Path.{◌∙◌, ap}
 use mathlib.Core.Bool.{Bool}
-use borrow.Author.Rules.{rules}
 use Rattle.base.specs.Party.{client_setup_if}
 use Rattle.base.proofs.party.viewer_setup.Goals as goal
 

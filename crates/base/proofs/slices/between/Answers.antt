@@ -1,5 +1,4 @@
 -- `base::slices::between` meets its contract.
-use borrow.Author.Rules.{rules}
 use Rattle.base.proofs.Cuts.{between_cut}
 use Rattle.base.proofs.slices.between.Goals as goal
 

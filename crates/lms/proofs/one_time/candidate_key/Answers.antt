@@ -1,6 +1,5 @@
 -- `lms::one_time::candidate_key` meets its contract.
 use Rattle.lms.specs.LmOts.{Kc}
-use borrow.Author.Rules.{rules}
 use Rattle.lms.proofs.one_time.candidate_key.Goals as goal
 
 pub returns : goal.returns

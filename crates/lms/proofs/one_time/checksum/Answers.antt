@@ -1,10 +1,8 @@
 -- `lms::one_time::checksum` meets its contract: after i turns it has the sum over the first i values.
 use mathlib.Core.Path.{◌≡◌, refl}
-use Prim.Native.Nat.{◌-◌, ◌*◌, ◌≤◌}
 use native.Mathlib.Omega.{arith}
 use Rattle.lms.specs.LmOts.{sum}
 use Rattle.lms.proofs.Values.{sum_next}
-use borrow.Author.Rules.{rules}
 use Rattle.lms.proofs.one_time.checksum.Goals as goal
 
 pub loop-i-init : goal.loop-i-init

@@ -1,10 +1,7 @@
 -- `lms::one_time::checksum` meets its contract: after i turns it has the sum over the first i values.
-use mathlib.Core.Path.{◌≡◌, refl}
+use mathlib.Core.Path.{◌≡◌}
 use Prim.Native.Nat.{◌-◌, ◌*◌, ◌≤◌}
-use native.Mathlib.Omega.{arith}
 use Rattle.lms.specs.LmOts.{sum}
-use Rattle.lms.proofs.Values.{sum_next}
-use borrow.Author.Rules.{rules}
 use Rattle.lms.proofs.one_time.checksum.Given as goal
 
 abbrev pub invariant-loop-i : goal.invariant-loop-i

@@ -1,6 +1,5 @@
 -- `lms::one_time::message_hash` meets its contract.
 use Rattle.lms.specs.LmOts.{Q}
-use borrow.Author.Rules.{rules}
 use Rattle.lms.proofs.one_time.message_hash.Goals as goal
 
 pub returns : goal.returns

@@ -6,7 +6,6 @@ use native.Mathlib.Omega.{arith}
 use lib.ListN.{length, length-take}
 use Rattle.wire.specs.Sha256.{sha256}
 use Rattle.lms.proofs.Laying.{laid}
-use borrow.Author.Rules.{rules}
 use Rattle.lms.proofs.one_time.message_hash_in.Goals as goal
 
 pub hash-requires : goal.hash-requires

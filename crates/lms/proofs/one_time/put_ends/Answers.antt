@@ -1,12 +1,10 @@
 -- `lms::one_time::put_ends` meets its contract: after i turns the ends of the first i chains are stored.
 use mathlib.Core.Path.{◌≡◌}
-use mathlib.Core.List.{◌++◌, append-nil}
-use Prim.Native.Nat.{◌+◌, ◌-◌, ◌*◌, ◌≤◌}
+use mathlib.Core.List.{append-nil}
 use native.Mathlib.Omega.{arith}
 use lib.ListN.{take}
 use Rattle.lms.specs.LmOts.{zs}
 use Rattle.lms.proofs.Chains.{zs_next}
-use borrow.Author.Rules.{rules}
 use Rattle.lms.proofs.one_time.put_ends.Goals as goal
 
 pub loop-i-init : goal.loop-i-init

@@ -1,9 +1,7 @@
 -- `lms::one_time::walk` meets its contract: before step j the steps from `from` to j - 1 are done.
 use mathlib.Core.Path.{◌≡◌, refl, ◌∙◌}
-use Prim.Native.Nat.{◌-◌, ◌≤◌}
 use native.Mathlib.Omega.{arith}
 use lib.ListN.{take}
-use Rattle.lms.specs.LmOts.{chain}
 use Rattle.lms.proofs.Chains.{chain_start, chain_next}
 use borrow.Author.Rules.{rules}
 use Rattle.lms.proofs.one_time.walk.Goals as goal

@@ -1,11 +1,8 @@
 -- `lms::one_time::walk` meets its contract: before step j the steps from `from` to j - 1 are done.
-use mathlib.Core.Path.{◌≡◌, refl, ◌∙◌}
+use mathlib.Core.Path.{◌≡◌}
 use Prim.Native.Nat.{◌-◌, ◌≤◌}
-use native.Mathlib.Omega.{arith}
 use lib.ListN.{take}
 use Rattle.lms.specs.LmOts.{chain}
-use Rattle.lms.proofs.Chains.{chain_start, chain_next}
-use borrow.Author.Rules.{rules}
 use Rattle.lms.proofs.one_time.walk.Given as goal
 
 abbrev pub invariant-loop-j : goal.invariant-loop-j

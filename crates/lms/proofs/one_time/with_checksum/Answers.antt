@@ -5,7 +5,6 @@ use Prim.Native.Nat.{ℕ}
 use native.Mathlib.Omega.{arith}
 use Rattle.lms.specs.LmOts.{u16str, Cksm, checked}
 use Rattle.lms.proofs.Laying.{laid, full}
-use borrow.Author.Rules.{rules}
 use Rattle.lms.proofs.one_time.with_checksum.Goals as goal
 
 pub returns : goal.returns

@@ -4,7 +4,6 @@ use mathlib.Core.List.{[]}
 use native.Mathlib.Omega.{arith}
 use lib.ListN.{length-take, length-drop}
 use Rattle.lms.proofs.Laying.{laid, full}
-use borrow.Author.Rules.{rules}
 use Rattle.lms.proofs.signature.identifier.Goals as goal
 
 pub returns : goal.returns

@@ -7,7 +7,6 @@ use lib.ListN.{length}
 use Rattle.lms.specs.LmOts.{number}
 use Rattle.lms.specs.Lms.{is_public_key}
 use Rattle.lms.proofs.Tested.{is_code, no_code}
-use borrow.Author.Rules.{rules}
 use Rattle.lms.proofs.signature.is_public_key.Goals as goal
 
 pub returns-then-key-ne-KEY : goal.returns-then-key-ne-KEY

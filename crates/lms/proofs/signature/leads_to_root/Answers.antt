@@ -1,5 +1,4 @@
 -- `lms::signature::leads_to_root` meets its contract.
-use borrow.Author.Rules.{rules}
 use Rattle.lms.proofs.signature.leads_to_root.Goals as goal
 
 pub returns : goal.returns

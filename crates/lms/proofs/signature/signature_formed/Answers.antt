@@ -7,7 +7,6 @@ use lib.ListN.{length}
 use Rattle.lms.specs.LmOts.{number}
 use Rattle.lms.specs.Lms.{signature_formed}
 use Rattle.lms.proofs.Tested.{is_code, no_code}
-use borrow.Author.Rules.{rules}
 use Rattle.lms.proofs.signature.signature_formed.Goals as goal
 
 pub returns-then-signature-ne-SIGNATURE : goal.returns-then-signature-ne-SIGNATURE

@@ -3,7 +3,6 @@ use mathlib.Core.Path.{sym, ◌∙◌}
 use native.Mathlib.Omega.{arith}
 use borrow.Author.Tests.{not-true, not-false}
 use Rattle.lms.proofs.Tested.{public_key_long, signature_facts, no_key, no_signature, too_long, genuine_when}
-use borrow.Author.Rules.{rules}
 use Rattle.lms.proofs.signature.verify.Goals as goal
 
 pub returns-then-not-is_public_key : goal.returns-then-not-is_public_key

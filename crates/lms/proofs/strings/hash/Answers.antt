@@ -3,7 +3,6 @@ use mathlib.Core.Path.{ap, ◌∙◌}
 use native.Mathlib.Omega.{arith}
 use Rattle.wire.specs.declared.sha256.Digest.{Digest}
 use Rattle.lms.proofs.Hashing.{hashed}
-use borrow.Author.Rules.{rules}
 use Rattle.lms.proofs.strings.hash.Goals as goal
 
 pub returns : goal.returns

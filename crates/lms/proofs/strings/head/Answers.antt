@@ -4,7 +4,6 @@ use mathlib.Core.List.{[], append_assoc}
 use native.Mathlib.Omega.{arith}
 use Rattle.lms.specs.LmOts.{u16str, u32str, head}
 use Rattle.lms.proofs.Laying.{laid, full}
-use borrow.Author.Rules.{rules}
 use Rattle.lms.proofs.strings.head.Goals as goal
 
 pub returns : goal.returns

@@ -2,7 +2,6 @@
 use mathlib.Core.Path.{◌∙◌}
 use native.Mathlib.Omega.{arith}
 use Rattle.lms.proofs.Laying.{part_filled}
-use borrow.Author.Rules.{rules}
 use Rattle.lms.proofs.strings.part.Goals as goal
 
 pub returns : goal.returns

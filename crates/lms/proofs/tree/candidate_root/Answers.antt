@@ -2,7 +2,6 @@
 use native.Mathlib.Omega.{arith}
 use lib.ListN.{length-take, length-drop}
 use Rattle.lms.specs.Lms.{Tc}
-use borrow.Author.Rules.{rules}
 use Rattle.lms.proofs.tree.candidate_root.Goals as goal
 
 pub candidate_key-key-requires : goal.candidate_key-key-requires

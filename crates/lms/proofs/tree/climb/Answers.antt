@@ -1,10 +1,8 @@
 -- `lms::tree::climb` meets its contract: after i turns it stands i levels above the leaf.
 use mathlib.Core.Path.{◌≡◌, refl}
-use Prim.Native.Nat.{◌-◌, ◌≤◌}
 use native.Mathlib.Omega.{arith}
 use Rattle.lms.specs.Lms.{above, climb}
 use Rattle.lms.proofs.Climbing.{above_next, climb_next}
-use borrow.Author.Rules.{rules}
 use Rattle.lms.proofs.tree.climb.Goals as goal
 
 pub loop-i-init : goal.loop-i-init

@@ -1,10 +1,7 @@
 -- `lms::tree::climb` meets its contract: after i turns it stands i levels above the leaf.
-use mathlib.Core.Path.{◌≡◌, refl}
+use mathlib.Core.Path.{◌≡◌}
 use Prim.Native.Nat.{◌-◌, ◌≤◌}
-use native.Mathlib.Omega.{arith}
 use Rattle.lms.specs.Lms.{above, climb}
-use Rattle.lms.proofs.Climbing.{above_next, climb_next}
-use borrow.Author.Rules.{rules}
 use Rattle.lms.proofs.tree.climb.Given as goal
 
 abbrev pub invariant-loop-i : goal.invariant-loop-i

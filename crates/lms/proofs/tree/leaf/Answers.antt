@@ -1,6 +1,5 @@
 -- `lms::tree::leaf` meets its contract.
 use Rattle.lms.specs.Lms.{leaf}
-use borrow.Author.Rules.{rules}
 use Rattle.lms.proofs.tree.leaf.Goals as goal
 
 pub returns : goal.returns

@@ -1,5 +1,4 @@
 -- `lms::tree::node` meets its contract.
-use borrow.Author.Rules.{rules}
 use Rattle.lms.proofs.tree.node.Goals as goal
 
 pub returns : goal.returns

@@ -4,7 +4,6 @@ use mathlib.Core.List.{[], append_assoc}
 use native.Mathlib.Omega.{arith}
 use Rattle.wire.specs.Sha256.{sha256}
 use Rattle.lms.proofs.Laying.{laid, full}
-use borrow.Author.Rules.{rules}
 use Rattle.lms.proofs.tree.node_in.Goals as goal
 
 pub returns : goal.returns

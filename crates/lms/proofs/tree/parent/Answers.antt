@@ -2,7 +2,6 @@
 use mathlib.Core.Path.{◌∙◌}
 use borrow.Author.Tests.{eq-eqb, ne_eqb}
 use Rattle.lms.specs.Lms.{parent}
-use borrow.Author.Rules.{rules}
 use Rattle.lms.proofs.tree.parent.Goals as goal
 
 pub returns-then-number-eq1 : goal.returns-then-number-eq1

@@ -1,5 +1,4 @@
 -- `register_replica::answers::answer_of` meets its contract.
-use borrow.Author.Rules.{rules}
 use Rattle.register_replica.proofs.answers.answer_of.Goals as goal
 
 pub returns-in-Length : goal.returns-in-Length

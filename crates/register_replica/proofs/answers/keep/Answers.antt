@@ -1,5 +1,4 @@
 -- `register_replica::answers::keep` meets its contract.
-use borrow.Author.Rules.{rules}
 use Rattle.register_replica.proofs.answers.keep.Goals as goal
 
 pub returns : goal.returns

@@ -1,5 +1,4 @@
 -- `register_replica::answers::nothing_prepared` meets its contract.
-use borrow.Author.Rules.{rules}
 use Rattle.register_replica.proofs.answers.nothing_prepared.Goals as goal
 
 pub returns : goal.returns

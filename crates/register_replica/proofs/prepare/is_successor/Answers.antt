@@ -1,7 +1,6 @@
 -- `register_replica::prepare::is_successor` meets its contract.
 use mathlib.Core.Path.{◌∙◌}
 use native.Mathlib.Omega.{arith}
-use borrow.Author.Rules.{rules}
 use Rattle.base.specs.Timestamp.{number}
 use Rattle.register_replica.proofs.Replies.{follows_next, follows_none}
 use Rattle.register_replica.proofs.prepare.is_successor.Goals as goal

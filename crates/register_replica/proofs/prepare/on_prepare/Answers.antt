@@ -1,6 +1,5 @@
 -- `register_replica::prepare::on_prepare` meets its contract.
 use mathlib.Core.Path.{◌≡◌, ap, ◌∙◌}
-use borrow.Author.Rules.{rules}
 use Rattle.base.specs.Bytes.{filled}
 use Rattle.base.proofs.Filling.{filled_whole}
 use Rattle.wire.specs.Parts.{part_at, timestamp_part}

@@ -1,7 +1,6 @@
 -- `register_replica::read::read` meets its contract.
 use mathlib.Core.Path.{refl}
 use native.Mathlib.Omega.{arith}
-use borrow.Author.Rules.{rules}
 use Rattle.register_replica.proofs.Replies.{sends_keeping}
 use Rattle.register_replica.proofs.read.read.Goals as goal
 

@@ -1,7 +1,6 @@
 -- `register_replica::register::holding` meets its contract.
 use mathlib.Core.Path.{◌≡◌, ◌∙◌}
 use native.Mathlib.Omega.{arith}
-use borrow.Author.Rules.{rules}
 use Rattle.base.proofs.Filling.{filled_whole}
 use Rattle.base.proofs.Timestamps.{of_number_number}
 use Rattle.wire.specs.Parts.{digest_part}

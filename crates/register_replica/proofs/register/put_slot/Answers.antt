@@ -1,5 +1,4 @@
 -- `register_replica::register::put_slot` meets its contract.
-use borrow.Author.Rules.{rules}
 use Rattle.register_replica.proofs.register.put_slot.Goals as goal
 
 pub returns : goal.returns

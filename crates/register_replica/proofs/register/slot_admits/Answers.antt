@@ -1,5 +1,4 @@
 -- `register_replica::register::slot_admits` meets its contract.
-use borrow.Author.Rules.{rules}
 use Rattle.register_replica.proofs.register.slot_admits.Goals as goal
 
 pub returns-then-again : goal.returns-then-again

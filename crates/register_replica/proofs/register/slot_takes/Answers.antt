@@ -1,7 +1,6 @@
 -- `register_replica::register::slot_takes` meets its contract.
 use mathlib.Core.Path.{sym, ◌∙◌}
 use borrow.Author.Tests.{eq-eqb, ne_eqb, lt-leb, le-leb, ltb-true, ltb-false}
-use borrow.Author.Rules.{rules}
 use Rattle.register_replica.proofs.register.slot_takes.Goals as goal
 
 pub returns-then-count-eq0 : goal.returns-then-count-eq0

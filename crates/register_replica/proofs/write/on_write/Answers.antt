@@ -2,7 +2,6 @@
 use mathlib.Core.Path.{sym, ap₂, ◌∙◌}
 use mathlib.Core.List.{List}
 use Prim.Native.Nat.{ℕ}
-use borrow.Author.Rules.{rules}
 use Rattle.wire.specs.Proof.{prepared_from}
 use Rattle.wire.proofs.MessageParts.{write_proof, write_signers}
 use Rattle.protocol.specs.RegisterReplica.{on_write}

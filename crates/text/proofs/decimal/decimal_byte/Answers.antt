@@ -1,6 +1,5 @@
 -- `text::decimal::decimal_byte` meets its contract.
 use mathlib.Core.Path.{sym, ap, ◌∙◌}
-use borrow.Author.Rules.{rules}
 use borrow.Author.Tests.{lt-ltb, le-ltb}
 use Rattle.text.specs.Decimal.{numeral_of}
 use Rattle.text.proofs.decimal.decimal_byte.Goals as goal

@@ -1,6 +1,5 @@
 -- `text::decimal::decimal_or_zero` meets its contract.
 use mathlib.Core.Path.{sym, ap, ◌∙◌}
-use borrow.Author.Rules.{rules}
 use Rattle.text.specs.Decimal.{numeral_of}
 use Rattle.text.proofs.decimal.decimal_or_zero.Goals as goal
 

@@ -1,15 +1,8 @@
 -- `text::decimal::read_decimal` meets its contract. What is left decides.
-use mathlib.Core.Path.{◌≡◌, refl, sym, ap, ◌∙◌}
-use mathlib.Core.List.{List, [], ◌∷◌}
-use mathlib.Core.Option.{none}
-use Prim.Native.Nat.{ℕ, ◌+◌, ◌-◌, ◌≤◌, ◌<◌}
-use native.Mathlib.Numerals.{add-one}
-use native.Mathlib.Omega.{arith}
-use borrow.Author.Rules.{rules}
-use lib.ListN.{length, get_or, drop}
-use lib.Seq.{drop-cons, drop-length}
-use Rattle.text.specs.Decimal.{with_digits, numeral, numeral_of}
-use Rattle.text.proofs.Decimals.{none_further, further, some_digits}
+use mathlib.Core.Path.{◌≡◌}
+use Prim.Native.Nat.{◌-◌, ◌≤◌}
+use lib.ListN.{length, drop}
+use Rattle.text.specs.Decimal.{with_digits, numeral}
 use Rattle.text.proofs.decimal.read_decimal.Given as goal
 
 abbrev pub invariant-loop-i : goal.invariant-loop-i

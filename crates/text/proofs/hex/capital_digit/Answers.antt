@@ -1,6 +1,5 @@
 -- `text::hex::capital_digit` meets its contract.
 use native.Mathlib.Omega.{arith}
-use borrow.Author.Rules.{rules}
 use borrow.Author.Tests.{lt-ltb, le-ltb}
 use Rattle.text.specs.Hex.{hex_digit}
 use Rattle.text.proofs.hex.capital_digit.Goals as goal

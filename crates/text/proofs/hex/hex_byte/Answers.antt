@@ -7,7 +7,6 @@ use native.Mathlib.Omega.{arith}
 use lib.ListN.{length, get_or, get_or-eq_default}
 use Rattle.base.specs.Range.{within}
 use Rattle.text.specs.Hex.{hex_value, joined, pair_value, digit_of}
-use borrow.Author.Rules.{rules}
 use Rattle.text.proofs.hex.hex_byte.Goals as goal
 
 without_low : (high : Option ℕ) → joined high none ≡ none

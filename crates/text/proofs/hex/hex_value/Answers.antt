@@ -1,7 +1,6 @@
 -- `text::hex::hex_value` meets its contract.
 use mathlib.Core.Path.{sym, ◌∙◌}
 use native.Mathlib.Omega.{arith}
-use borrow.Author.Rules.{rules}
 use Rattle.base.proofs.Range.{bounds}
 use Rattle.text.specs.Hex.{hex_value}
 use Rattle.text.proofs.hex.hex_value.Goals as goal

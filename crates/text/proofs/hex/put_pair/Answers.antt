@@ -1,5 +1,4 @@
 -- `text::hex::put_pair` meets its contract.
-use borrow.Author.Rules.{rules}
 use Rattle.text.proofs.hex.put_pair.Goals as goal
 
 pub returns : goal.returns

@@ -4,7 +4,6 @@ use mathlib.Core.List.{List, [], ◌∷◌, ◌++◌, append_assoc, append-nil}
 use Prim.Native.Nat.{ℕ, suc, ◌+◌, ◌-◌, ◌*◌, ◌≤◌, ◌<◌}
 use native.Mathlib.Numerals.{add-one}
 use native.Mathlib.Omega.{arith}
-use borrow.Author.Rules.{rules}
 use lib.ListN.{length, get_or, take, drop, length-set, take-append-drop}
 use lib.Seq.{get_or-drop, drop-drop, take-suc-set, drop-set-lt, length-take-le}
 use Rattle.text.specs.Hex.{pair_value, pairs_from, hex_pairs, digit_of, HexRead}

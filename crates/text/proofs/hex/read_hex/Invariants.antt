@@ -1,13 +1,9 @@
 -- `text::hex::read_hex` meets its contract.
-use mathlib.Core.Path.{◌≡◌, refl, sym, ap, ◌∙◌}
-use mathlib.Core.List.{List, [], ◌∷◌, ◌++◌, append_assoc, append-nil}
-use Prim.Native.Nat.{ℕ, suc, ◌+◌, ◌-◌, ◌*◌, ◌≤◌, ◌<◌}
-use native.Mathlib.Numerals.{add-one}
-use native.Mathlib.Omega.{arith}
-use borrow.Author.Rules.{rules}
-use lib.ListN.{length, get_or, take, drop, length-set, take-append-drop}
-use lib.Seq.{get_or-drop, drop-drop, take-suc-set, drop-set-lt, length-take-le}
-use Rattle.text.specs.Hex.{pair_value, pairs_from, hex_pairs, digit_of, HexRead}
+use mathlib.Core.Path.{◌≡◌}
+use mathlib.Core.List.{◌++◌}
+use Prim.Native.Nat.{◌-◌, ◌*◌, ◌≤◌}
+use lib.ListN.{length, take, drop}
+use Rattle.text.specs.Hex.{hex_pairs}
 use Rattle.text.proofs.hex.read_hex.Given as goal
 
 abbrev pub invariant-loop-n : goal.invariant-loop-n

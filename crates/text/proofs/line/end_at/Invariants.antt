@@ -1,13 +1,7 @@
 -- `text::line::end_at` meets its contract.
 use mathlib.Core.Path.{◌≡◌}
-use mathlib.Core.List.{List}
-use Prim.Native.Nat.{ℕ, suc, ◌+◌, ◌-◌, max, ◌≤◌, ◌<◌}
-use native.Mathlib.Numerals.{add-one}
-use native.Mathlib.Omega.{arith}
-use borrow.Author.Rules.{rules}
-use borrow.Author.Tests.{eq-eqb, ne_eqb}
-use lib.ListN.{length, get_or, drop, drop_of_length-le}
-use lib.Seq.{drop-cons}
+use Prim.Native.Nat.{◌+◌, ◌-◌, max, ◌≤◌}
+use lib.ListN.{length, drop}
 use Rattle.text.specs.Line.{length_to}
 use Rattle.text.proofs.line.end_at.Given as goal
 

@@ -1,5 +1,4 @@
 -- `text::timestamp::put_timestamp` meets its contract.
-use borrow.Author.Rules.{rules}
 use Rattle.text.proofs.Putting.{then}
 use Rattle.text.specs.Timestamp.{stamp}
 use Rattle.text.proofs.timestamp.put_timestamp.Goals as goal

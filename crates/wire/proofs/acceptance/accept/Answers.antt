@@ -1,5 +1,5 @@
 -- `wire::acceptance::accept` meets its contract.
-use Rattle.std.proofs.Common.{◌≡◌, rules}
+use Rattle.std.proofs.Common.{◌≡◌}
 use Rattle.base.specs.Outcome.{accepted}
 use Rattle.wire.specs.Accepting.{opened}
 use Rattle.wire.proofs.AcceptanceInHalves.{opened_accepted, both_good, second_refuses, first_refuses}

@@ -1,5 +1,5 @@
 -- `wire::acceptance::check_between` meets its contract.
-use Rattle.std.proofs.Common.{◌+◌, ◌≤◌, ◌∙◌, arith, rules, eq-eqb}
+use Rattle.std.proofs.Common.{◌+◌, ◌≤◌, ◌∙◌, arith, eq-eqb}
 use Rattle.wire.specs.Accepting.{proof_between}
 use Rattle.wire.proofs.Tests6To11.{checked_there}
 use Rattle.wire.proofs.acceptance.check_between.Goals as goal

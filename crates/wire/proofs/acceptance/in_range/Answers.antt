@@ -1,5 +1,4 @@
 -- `wire::acceptance::in_range` meets its contract.
-use Rattle.std.proofs.Common.{rules}
 use Rattle.wire.proofs.acceptance.in_range.Goals as goal
 
 pub returns-in-Replica : goal.returns-in-Replica

@@ -1,5 +1,5 @@
 -- `wire::acceptance::is_served` meets its contract.
-use Rattle.std.proofs.Common.{not, ap, rules}
+use Rattle.std.proofs.Common.{not, ap}
 use Rattle.wire.proofs.acceptance.is_served.Goals as goal
 
 pub returns : goal.returns

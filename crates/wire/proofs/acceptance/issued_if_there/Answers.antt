@@ -1,5 +1,5 @@
 -- `wire::acceptance::issued_if_there` meets its contract.
-use Rattle.std.proofs.Common.{◌/◌, ◌%◌, ◌^◌, rules, eq-eqb, ne_eqb}
+use Rattle.std.proofs.Common.{◌/◌, ◌%◌, ◌^◌, eq-eqb, ne_eqb}
 use Rattle.wire.proofs.acceptance.issued_if_there.Goals as goal
 
 pub returns-then-map-eq1 : goal.returns-then-map-eq1

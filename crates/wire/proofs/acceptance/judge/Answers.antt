@@ -1,5 +1,5 @@
 -- `wire::acceptance::judge` meets its contract.
-use Rattle.std.proofs.Common.{◌+◌, ◌≤◌, length, ◌∙◌, arith, rules}
+use Rattle.std.proofs.Common.{◌+◌, ◌≤◌, length, ◌∙◌, arith}
 use Rattle.wire.specs.Accepting.{signature_count}
 use Rattle.wire.specs.Decode.{fields_in}
 use Rattle.wire.proofs.Tests6To11.{Placed, fields_placed, judged_parts}

@@ -1,5 +1,5 @@
 -- `wire::acceptance::may_send` meets its contract.
-use Rattle.std.proofs.Common.{rules, eq-eqb, ne_eqb}
+use Rattle.std.proofs.Common.{eq-eqb, ne_eqb}
 use Rattle.wire.proofs.acceptance.may_send.Goals as goal
 
 pub returns-then-kind-eq4 : goal.returns-then-kind-eq4

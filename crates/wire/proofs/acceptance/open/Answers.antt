@@ -1,5 +1,5 @@
 -- `wire::acceptance::open` meets its contract: a test that is passed leaves those behind it.
-use Rattle.std.proofs.Common.{◌≡◌, true, ◌&&◌, eqb, leb, length, get_or, sym, ◌∙◌, arith, rules, eq-eqb, ne_eqb, eqb-true}
+use Rattle.std.proofs.Common.{◌≡◌, true, ◌&&◌, eqb, leb, length, get_or, sym, ◌∙◌, arith, eq-eqb, ne_eqb, eqb-true}
 use borrow.Author.Tests.{not-true, not-false}
 use Rattle.base.specs.Party.{is_register}
 use Rattle.base.specs.Outcome.{Outcome, accepted, guard}

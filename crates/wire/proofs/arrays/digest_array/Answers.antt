@@ -1,5 +1,5 @@
 -- `wire::arrays::digest_array` meets its contract.
-use Rattle.std.proofs.Common.{◌∙◌, rules}
+use Rattle.std.proofs.Common.{◌∙◌}
 use Rattle.base.proofs.Filling.{filled_stored}
 use Rattle.wire.proofs.arrays.digest_array.Goals as goal
 

@@ -1,5 +1,5 @@
 -- `wire::arrays::entries_array` meets its contract.
-use Rattle.std.proofs.Common.{◌≡◌, ℕ, ◌-◌, List, [], ◌∷◌, length, sym, ap, ◌∙◌, arith, rules}
+use Rattle.std.proofs.Common.{◌≡◌, ℕ, ◌-◌, List, [], ◌∷◌, length, sym, ap, ◌∙◌, arith}
 use Rattle.base.specs.Bytes.{filled}
 use Rattle.base.proofs.Filling.{zeros, filled_zeros, filled_stored}
 use Rattle.wire.proofs.arrays.entries_array.Goals as goal

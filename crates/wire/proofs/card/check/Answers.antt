@@ -1,5 +1,5 @@
 -- `wire::card::check` meets its contract.
-use Rattle.std.proofs.Common.{ap, ◌∙◌, rules}
+use Rattle.std.proofs.Common.{ap, ◌∙◌}
 use Rattle.wire.specs.Card.{card_outcome, read_card}
 use Rattle.wire.specs.declared.card.CardRead.{CardRead}
 use Rattle.wire.proofs.card.FieldsAndMap.{outcome_read}

@@ -1,5 +1,5 @@
 -- `wire::card::number` meets its contract.
-use Rattle.std.proofs.Common.{◌≡◌, ℕ, ◌-◌, ◌^◌, ◌<◌, ◌≤◌, length, take, ap, ◌∙◌, pow-suc, add-one, arith, take_all, take-suc, rules}
+use Rattle.std.proofs.Common.{ℕ, ◌^◌, ◌<◌, ◌≤◌, length, ap, ◌∙◌, pow-suc, add-one, arith, take_all, take-suc}
 use native.Mathlib.Nat.{pow-le-pow_right}
 use Rattle.base.specs.BigEndian.{from_bytes}
 use Rattle.base.proofs.BigEndian.{from_bytes_snoc}

@@ -1,8 +1,6 @@
 -- `wire::card::number` meets its contract.
-use Rattle.std.proofs.Common.{◌≡◌, ℕ, ◌-◌, ◌^◌, ◌<◌, ◌≤◌, length, take, ap, ◌∙◌, pow-suc, add-one, arith, take_all, take-suc, rules}
-use native.Mathlib.Nat.{pow-le-pow_right}
+use Rattle.std.proofs.Common.{◌≡◌, ◌-◌, ◌^◌, ◌<◌, ◌≤◌, length, take}
 use Rattle.base.specs.BigEndian.{from_bytes}
-use Rattle.base.proofs.BigEndian.{from_bytes_snoc}
 use Rattle.wire.proofs.card.number.Given as goal
 
 abbrev pub invariant-loop-i : goal.invariant-loop-i

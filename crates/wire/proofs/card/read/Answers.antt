@@ -1,5 +1,5 @@
 -- `wire::card::read` meets its contract.
-use Rattle.std.proofs.Common.{sym, ap, ◌∙◌, arith, length-take-le, rules}
+use Rattle.std.proofs.Common.{sym, ap, ◌∙◌, arith, length-take-le}
 use borrow.Author.Tests.{not-true, not-false}
 use Rattle.wire.specs.Card.{read_answer}
 use Rattle.wire.proofs.card.FieldsAndMap.{good_small, without_map, with_bad_map, with_good_map}

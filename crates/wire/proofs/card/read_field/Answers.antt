@@ -1,5 +1,5 @@
 -- `wire::card::read_field` meets its contract.
-use Rattle.std.proofs.Common.{◌≡◌, ◌+◌, ◌-◌, ◌≤◌, length, take, drop, sym, arith, length-drop, rules}
+use Rattle.std.proofs.Common.{◌≡◌, ◌+◌, ◌-◌, ◌≤◌, length, take, drop, sym, arith, length-drop}
 use Rattle.base.specs.BigEndian.{from_bytes}
 use Rattle.base.proofs.Range.{inside, below, above}
 use Rattle.wire.proofs.card.FieldsAndMap.{too_short, stands, stands_not}

@@ -1,7 +1,7 @@
 -- `wire::card::read_fields` meets its contract.
-use Rattle.std.proofs.Common.{◌-◌, sym, ap, ◌∙◌, arith}
+use Rattle.std.proofs.Common.{sym, ap, ◌∙◌, arith}
 use Rattle.wire.specs.Card.{field_of, read_answer}
-use Rattle.wire.proofs.card.BitByBit.{Reading, begun, passed_missing, passed_present, refused_present, refused_longer, finished}
+use Rattle.wire.proofs.card.BitByBit.{begun, passed_missing, passed_present, refused_present, refused_longer, finished}
 use Rattle.wire.proofs.card.read_fields.Goals as goal
 use Rattle.wire.proofs.card.read_fields.Goals.{then-rest-eq1+in-Value, else-rest-eq1}
 

@@ -1,7 +1,6 @@
 -- `wire::card::read_fields` meets its contract.
-use Rattle.std.proofs.Common.{◌-◌, sym, ap, ◌∙◌, ⊎_elim, arith, rules}
-use Rattle.wire.specs.Card.{field_of, read_answer}
-use Rattle.wire.proofs.card.BitByBit.{Reading, begun, passed_missing, passed_present, refused_present, refused_longer, finished}
+use Rattle.std.proofs.Common.{◌-◌}
+use Rattle.wire.proofs.card.BitByBit.{Reading}
 use Rattle.wire.proofs.card.read_fields.Given as goal
 
 abbrev pub invariant-loop-bit : goal.invariant-loop-bit

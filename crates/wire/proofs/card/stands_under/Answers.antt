@@ -1,5 +1,5 @@
 -- `wire::card::stands_under` meets its contract.
-use Rattle.std.proofs.Common.{arith, rules}
+use Rattle.std.proofs.Common.{arith}
 use Rattle.wire.specs.Sha256.{sha256}
 use Rattle.wire.proofs.card.Digests.{checked_good, checked_refused, card_short}
 use Rattle.wire.proofs.card.stands_under.Goals as goal

@@ -1,5 +1,5 @@
 -- `wire::card_part::find` meets its contract.
-use Rattle.std.proofs.Common.{◌≡◌, ap, arith, rules}
+use Rattle.std.proofs.Common.{◌≡◌, ap, arith}
 use Rattle.base.specs.Outcome.{accepted}
 use Rattle.wire.specs.Decode.{framed}
 use Rattle.wire.specs.Layout.{place}

@@ -1,5 +1,5 @@
 -- `wire::checks::all_genuine` meets its contract.
-use Rattle.std.proofs.Common.{◌≡◌, ◌+◌, ◌-◌, ◌≤◌, Bool, ◌&&◌, eqb, length, get_or, drop, sym, refl, ap, ◌∙◌, arith, rules, eq-eqb, ne_eqb}
+use Rattle.std.proofs.Common.{◌≡◌, ◌+◌, Bool, ◌&&◌, eqb, length, get_or, drop, sym, refl, ap, ◌∙◌, arith, eq-eqb, ne_eqb}
 use borrow.Author.Tests.{not-true, not-false}
 use lib.Seq.{drop-length}
 use Rattle.wire.specs.Checks.{all, genuine}

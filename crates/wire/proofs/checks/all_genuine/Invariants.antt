@@ -1,9 +1,6 @@
 -- `wire::checks::all_genuine` meets its contract.
-use Rattle.std.proofs.Common.{◌≡◌, ◌+◌, ◌-◌, ◌≤◌, Bool, ◌&&◌, eqb, length, get_or, drop, sym, refl, ap, ◌∙◌, arith, rules, eq-eqb, ne_eqb}
-use borrow.Author.Tests.{not-true, not-false}
-use lib.Seq.{drop-length}
-use Rattle.wire.specs.Checks.{all, genuine}
-use Rattle.wire.proofs.Verdicts.{all_step, all_four}
+use Rattle.std.proofs.Common.{◌≡◌, ◌-◌, ◌≤◌, length, drop}
+use Rattle.wire.specs.Checks.{genuine}
 use Rattle.wire.proofs.checks.all_genuine.Given as goal
 
 abbrev pub invariant-loop-i : goal.invariant-loop-i

@@ -1,5 +1,5 @@
 -- `wire::checks::all_up_to` meets its contract.
-use Rattle.std.proofs.Common.{◌≡◌, ℕ, ◌+◌, ◌-◌, ◌≤◌, Bool, ◌&&◌, leb, length, get_or, drop, sym, ap, ◌∙◌, arith, rules}
+use Rattle.std.proofs.Common.{◌≡◌, ℕ, ◌+◌, Bool, ◌&&◌, leb, length, get_or, drop, sym, ap, ◌∙◌, arith}
 use mathlib.Core.Bool.{and-true}
 use lib.Dec.{leb-zero}
 use lib.Seq.{drop-length}

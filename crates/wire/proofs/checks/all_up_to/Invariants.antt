@@ -1,10 +1,6 @@
 -- `wire::checks::all_up_to` meets its contract.
-use Rattle.std.proofs.Common.{◌≡◌, ℕ, ◌+◌, ◌-◌, ◌≤◌, Bool, ◌&&◌, leb, length, get_or, drop, sym, ap, ◌∙◌, arith, rules}
-use mathlib.Core.Bool.{and-true}
-use lib.Dec.{leb-zero}
-use lib.Seq.{drop-length}
+use Rattle.std.proofs.Common.{◌≡◌, ◌-◌, ◌≤◌, ◌&&◌, leb, length, drop}
 use Rattle.wire.specs.Checks.{all}
-use Rattle.wire.proofs.Verdicts.{all_step, up_to_larger}
 use Rattle.wire.proofs.checks.all_up_to.Given as goal
 
 abbrev pub invariant-loop-i : goal.invariant-loop-i

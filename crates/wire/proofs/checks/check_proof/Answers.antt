@@ -1,5 +1,5 @@
 -- `wire::checks::check_proof` meets its contract.
-use Rattle.std.proofs.Common.{◌≡◌, sym, ap, ◌∙◌, arith, rules}
+use Rattle.std.proofs.Common.{◌≡◌, sym, ap, ◌∙◌, arith}
 use borrow.Author.Tests.{not-true, not-false}
 use Rattle.base.specs.Outcome.{accepted, guard}
 use Rattle.base.specs.Timestamp.{number, is_issued}

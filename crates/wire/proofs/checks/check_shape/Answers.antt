@@ -1,5 +1,5 @@
 -- `wire::checks::check_shape` meets its contract.
-use Rattle.std.proofs.Common.{◌/◌, length, sym, ◌∙◌, rules, eq-eqb, ne_eqb}
+use Rattle.std.proofs.Common.{◌/◌, length, sym, ◌∙◌, eq-eqb, ne_eqb}
 use Rattle.base.specs.Outcome.{guard}
 use Rattle.base.specs.Party.{quorum_size}
 use Rattle.wire.specs.Checks.{shaped}

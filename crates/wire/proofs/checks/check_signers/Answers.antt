@@ -1,10 +1,9 @@
 -- `wire::checks::check_signers` meets its contract.
-use Rattle.std.proofs.Common.{◌-◌, ◌*◌, ◌/◌, ◌%◌, ◌≤◌, length, get_or, sym, ap, arith, rules}
+use Rattle.std.proofs.Common.{◌*◌, ◌/◌, ◌%◌, length, get_or, sym, ap, arith}
 use lib.Bits.{bit_or}
 use Rattle.base.specs.ReplicaSet.{empty}
 use Rattle.base.proofs.Digits.{shifted_one}
-use Rattle.wire.specs.Judging.{entries_in, rising_signers}
-use Rattle.wire.proofs.Signers.{from, from_start, Gathered, gather_falls, gather_next, gather_all}
+use Rattle.wire.proofs.Signers.{from_start, gather_falls, gather_next, gather_all}
 use Rattle.wire.proofs.checks.check_signers.Goals as goal
 
 pub loop-i-init : goal.loop-i-init

@@ -1,5 +1,5 @@
 -- `wire::checks::four_genuine` meets its contract.
-use Rattle.std.proofs.Common.{ℕ, ◌+◌, eqb, get_or, ap, ◌∙◌, arith, rules}
+use Rattle.std.proofs.Common.{ℕ, ◌+◌, eqb, get_or, ap, ◌∙◌, arith}
 use Rattle.wire.proofs.Verdicts.{four_ones}
 use Rattle.wire.proofs.checks.four_genuine.Goals as goal
 

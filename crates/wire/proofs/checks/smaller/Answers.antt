@@ -1,5 +1,5 @@
 -- `wire::checks::smaller` meets its contract.
-use Rattle.std.proofs.Common.{sym, ap, arith, rules}
+use Rattle.std.proofs.Common.{sym, ap, arith}
 use native.Mathlib.Nat.{min-eq_left, min-eq_right}
 use Rattle.base.specs.Outcome.{refused}
 use Rattle.wire.proofs.checks.smaller.Goals as goal

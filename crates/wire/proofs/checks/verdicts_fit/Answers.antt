@@ -1,5 +1,5 @@
 -- `wire::checks::verdicts_fit` meets its contract.
-use Rattle.std.proofs.Common.{length, rules, eq-eqb, ne_eqb}
+use Rattle.std.proofs.Common.{length, eq-eqb, ne_eqb}
 use Rattle.wire.proofs.checks.verdicts_fit.Goals as goal
 
 pub returns-then-verdicts-signatures : goal.returns-then-verdicts-signatures

@@ -1,5 +1,5 @@
 -- `wire::digest_words::same_hash` meets its contract: after i turns the first i words agree.
-use Rattle.std.proofs.Common.{◌≡◌, ◌-◌, ◌*◌, ◌≤◌, length, take, sym, refl, ap, ◌∙◌, arith, take_all, rules}
+use Rattle.std.proofs.Common.{◌≡◌, length, sym, refl, ap, ◌∙◌, arith, take_all}
 use borrow.Author.Tests.{not-true, not-false}
 use Rattle.base.specs.Same.{same}
 use Rattle.base.proofs.Same.{same_itself, same_differ}

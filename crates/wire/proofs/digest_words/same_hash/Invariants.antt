@@ -1,11 +1,6 @@
 -- `wire::digest_words::same_hash` meets its contract: after i turns the first i words agree.
-use Rattle.std.proofs.Common.{◌≡◌, ◌-◌, ◌*◌, ◌≤◌, length, take, sym, refl, ap, ◌∙◌, arith, take_all, rules}
-use borrow.Author.Tests.{not-true, not-false}
-use Rattle.base.specs.Same.{same}
-use Rattle.base.proofs.Same.{same_itself, same_differ}
+use Rattle.std.proofs.Common.{◌≡◌, ◌-◌, ◌*◌, ◌≤◌, take}
 use Rattle.wire.specs.Sha256.{hash_bytes}
-use Rattle.wire.proofs.DigestBytes.{hash_length}
-use Rattle.wire.proofs.Words.{word_more, word_differs}
 use Rattle.wire.proofs.digest_words.same_hash.Given as goal
 
 abbrev pub invariant-loop-i : goal.invariant-loop-i

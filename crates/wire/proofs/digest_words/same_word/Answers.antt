@@ -1,5 +1,5 @@
 -- `wire::digest_words::same_word` meets its contract.
-use Rattle.std.proofs.Common.{arith, rules}
+use Rattle.std.proofs.Common.{arith}
 use Rattle.wire.proofs.Words.{word_same}
 use Rattle.wire.proofs.digest_words.same_word.Goals as goal
 

@@ -1,5 +1,5 @@
 -- `wire::frame::frame` meets its contract.
-use Rattle.std.proofs.Common.{◌≡◌, sym, ◌∙◌, arith, rules}
+use Rattle.std.proofs.Common.{◌≡◌, sym, ◌∙◌, arith}
 use Rattle.base.specs.BigEndian.{from_bytes}
 use Rattle.wire.specs.Layout.{map_in}
 use Rattle.wire.proofs.FrameTests.{map_at, too_short, too_long, bad_map, to_end, lacks_bits, has_more, good_map_lem}

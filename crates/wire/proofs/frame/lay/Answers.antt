@@ -1,5 +1,5 @@
 -- `wire::frame::lay` meets its contract.
-use Rattle.std.proofs.Common.{◌≡◌, ◌≤◌, sym, ap, ◌∙◌, arith, rules, eq-eqb}
+use Rattle.std.proofs.Common.{◌≡◌, ◌≤◌, sym, ap, ◌∙◌, arith, eq-eqb}
 use Rattle.base.specs.Outcome.{accepted}
 use Rattle.base.proofs.Outcome.{guard_passes}
 use Rattle.wire.specs.Layout.{place}

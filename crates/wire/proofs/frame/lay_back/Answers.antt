@@ -1,5 +1,5 @@
 -- `wire::frame::lay_back` meets its contract.
-use Rattle.std.proofs.Common.{◌≡◌, ◌≤◌, arith, rules}
+use Rattle.std.proofs.Common.{◌≡◌, ◌≤◌, arith}
 use Rattle.wire.specs.Layout.{place}
 use Rattle.wire.proofs.FieldEnds.{taken, cut_short, back_found}
 use Rattle.wire.proofs.frame.lay_back.Goals as goal

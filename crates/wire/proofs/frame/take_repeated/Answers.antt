@@ -1,5 +1,5 @@
 -- `wire::frame::take_repeated` meets its contract.
-use Rattle.std.proofs.Common.{◌≡◌, ◌+◌, ◌-◌, ◌*◌, ◌≤◌, get_or, drop, sym, mul-le-mul, arith, get_or-drop, rules}
+use Rattle.std.proofs.Common.{◌≡◌, ◌+◌, ◌-◌, ◌*◌, ◌≤◌, get_or, drop, sym, mul-le-mul, arith, get_or-drop}
 use Rattle.wire.proofs.frame.take_repeated.Goals as goal
 
 pub overflow_mul-next : goal.overflow_mul-next

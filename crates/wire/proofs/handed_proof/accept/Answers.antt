@@ -1,5 +1,5 @@
 -- `wire::handed_proof::accept` meets its contract.
-use Rattle.std.proofs.Common.{◌≡◌, true, eqb, length, sym, ◌∙◌, rules}
+use Rattle.std.proofs.Common.{◌≡◌, true, eqb, length, sym, ◌∙◌}
 use borrow.Author.Tests.{not-true, not-false}
 use Rattle.base.specs.Party.{is_register}
 use Rattle.wire.specs.Checks.{verdicts_fit}

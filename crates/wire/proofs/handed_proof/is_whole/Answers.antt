@@ -1,5 +1,4 @@
 -- `wire::handed_proof::is_whole` meets its contract.
-use Rattle.std.proofs.Common.{rules}
 use Rattle.wire.specs.Parts.{count_part}
 use Rattle.wire.proofs.handed_proof.is_whole.Goals as goal
 

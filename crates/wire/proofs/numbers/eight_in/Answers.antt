@@ -1,5 +1,5 @@
 -- `wire::numbers::eight_in` meets its contract.
-use Rattle.std.proofs.Common.{◌+◌, ◌≤◌, arith, rules}
+use Rattle.std.proofs.Common.{◌+◌, ◌≤◌, arith}
 use Rattle.base.specs.BigEndian.{from_bytes}
 use Rattle.wire.proofs.Windows.{front_none, front_some, eight_bytes}
 use Rattle.wire.proofs.numbers.eight_in.Goals as goal

@@ -1,5 +1,4 @@
 -- `wire::numbers::four_at` meets its contract.
-use Rattle.std.proofs.Common.{rules}
 use Rattle.wire.proofs.Windows.{front}
 use Rattle.wire.proofs.numbers.four_at.Goals as goal
 

@@ -1,5 +1,5 @@
 -- `wire::numbers::timestamp_in` meets its contract.
-use Rattle.std.proofs.Common.{◌+◌, ◌≤◌, arith, rules}
+use Rattle.std.proofs.Common.{◌+◌, ◌≤◌, arith}
 use Rattle.base.specs.BigEndian.{from_bytes}
 use Rattle.wire.proofs.Windows.{front, front_none, front_some}
 use Rattle.wire.proofs.numbers.timestamp_in.Goals as goal

@@ -1,5 +1,5 @@
 -- `wire::order::client_named` meets its contract.
-use Rattle.std.proofs.Common.{ℕ, sym, ap, rules}
+use Rattle.std.proofs.Common.{ℕ, sym, ap}
 use lib.ListN.{get_or-eq_default}
 use Rattle.base.specs.declared.party.ClientId.{ClientId}
 use Rattle.wire.proofs.order.client_named.Goals as goal

@@ -1,5 +1,4 @@
 -- `wire::order::order_covered` meets its contract.
-use Rattle.std.proofs.Common.{rules}
 use Rattle.wire.proofs.order.order_covered.Goals as goal
 
 pub returns : goal.returns

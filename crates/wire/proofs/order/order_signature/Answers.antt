@@ -1,5 +1,4 @@
 -- `wire::order::order_signature` meets its contract.
-use Rattle.std.proofs.Common.{rules}
 use Rattle.wire.proofs.order.order_signature.Goals as goal
 
 pub returns : goal.returns

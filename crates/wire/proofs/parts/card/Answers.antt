@@ -1,5 +1,5 @@
 -- `wire::parts::card` meets its contract.
-use Rattle.std.proofs.Common.{◌∙◌, rules}
+use Rattle.std.proofs.Common.{◌∙◌}
 use Rattle.wire.proofs.parts.card.Goals as goal
 
 pub returns : goal.returns

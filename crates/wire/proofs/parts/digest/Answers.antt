@@ -1,5 +1,5 @@
 -- `wire::parts::digest` meets its contract.
-use Rattle.std.proofs.Common.{length, arith, rules, le-ltb, lt-ltb}
+use Rattle.std.proofs.Common.{length, arith, le-ltb, lt-ltb}
 use Rattle.wire.specs.Parts.{digest_part}
 use Rattle.wire.proofs.parts.digest.Goals as goal
 

@@ -1,5 +1,5 @@
 -- `wire::parts::last_register` meets its contract.
-use Rattle.std.proofs.Common.{rules, le-ltb, lt-ltb}
+use Rattle.std.proofs.Common.{le-ltb, lt-ltb}
 use Rattle.wire.specs.Parts.{last_register}
 use Rattle.wire.proofs.parts.last_register.Goals as goal
 

@@ -1,5 +1,5 @@
 -- `wire::parts::timestamp` meets its contract.
-use Rattle.std.proofs.Common.{length, ◌∙◌, arith, take-take, rules, le-ltb, lt-ltb}
+use Rattle.std.proofs.Common.{length, ◌∙◌, arith, take-take, le-ltb, lt-ltb}
 use Rattle.wire.specs.Parts.{timestamp_part}
 use Rattle.wire.proofs.parts.timestamp.Goals as goal
 

@@ -1,5 +1,4 @@
 -- `wire::parts::written_entries` meets its contract.
-use Rattle.std.proofs.Common.{rules}
 use Rattle.wire.specs.Parts.{entries_part}
 use Rattle.wire.proofs.parts.written_entries.Goals as goal
 

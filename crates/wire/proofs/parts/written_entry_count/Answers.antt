@@ -1,5 +1,5 @@
 -- `wire::parts::written_entry_count` meets its contract.
-use Rattle.std.proofs.Common.{sym, refl, arith, rules}
+use Rattle.std.proofs.Common.{sym, refl, arith}
 use lib.ListN.{get_or-eq_default}
 use Rattle.wire.specs.Parts.{count_part}
 use Rattle.wire.proofs.parts.written_entry_count.Goals as goal

@@ -1,5 +1,5 @@
 -- `wire::reader::read` meets its contract.
-use Rattle.std.proofs.Common.{◌≡◌, get_or, sym, ap, ◌∙◌, arith, rules}
+use Rattle.std.proofs.Common.{◌≡◌, get_or, sym, ap, ◌∙◌, arith}
 use borrow.Author.Tests.{not-true, not-false}
 use Rattle.base.specs.Outcome.{accepted}
 use Rattle.wire.specs.Decode.{kinds, framed}

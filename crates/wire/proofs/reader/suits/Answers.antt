@@ -1,5 +1,4 @@
 -- `wire::reader::suits` meets its contract.
-use Rattle.std.proofs.Common.{rules}
 use Rattle.wire.proofs.reader.suits.Goals as goal
 
 pub returns-in-Replica : goal.returns-in-Replica

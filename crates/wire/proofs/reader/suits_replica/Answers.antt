@@ -1,5 +1,5 @@
 -- `wire::reader::suits_replica` meets its contract.
-use Rattle.std.proofs.Common.{sym, inl, inr, ⊎_elim, arith}
+use Rattle.std.proofs.Common.{sym, inl, inr, ⊎_elim}
 use Rattle.wire.specs.Decode.{kinds}
 use Rattle.wire.specs.Kinds.{suiting}
 use Rattle.wire.proofs.KindTests.{no_replica}

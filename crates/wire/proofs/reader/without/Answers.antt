@@ -1,5 +1,5 @@
 -- `wire::reader::without` meets its contract.
-use Rattle.std.proofs.Common.{◌/◌, ◌%◌, ◌^◌, rules, eq-eqb, ne_eqb}
+use Rattle.std.proofs.Common.{◌/◌, ◌%◌, ◌^◌, eq-eqb, ne_eqb}
 use Rattle.base.proofs.Digits.{shifted_one}
 use Rattle.wire.proofs.KindTests.{bit_at_most}
 use Rattle.wire.proofs.reader.without.Goals as goal

@@ -1,5 +1,5 @@
 -- `byte` is a remainder by 256: a mask of eight ones takes it.
-use Rattle.std.proofs.Common.{◌/◌, ◌^◌, rules}
+use Rattle.std.proofs.Common.{◌/◌, ◌^◌}
 use lib.Bits.{and_mask, mask_lt}
 use Rattle.wire.proofs.sha256.byte.Goals as goal
 

@@ -1,5 +1,4 @@
 -- `hash_block` compresses the words that it loads.
-use Rattle.std.proofs.Common.{rules}
 use Rattle.wire.proofs.sha256.hash_block.Goals as goal
 
 pub returns : goal.returns

@@ -1,5 +1,5 @@
 -- `hash_bytes`: after i turns the bytes of the first i words are written.
-use Rattle.std.proofs.Common.{◌≡◌, ◌-◌, ◌*◌, ◌≤◌, length, take, sym, refl, ◌∙◌, arith, length-set, take_all, rules}
+use Rattle.std.proofs.Common.{◌≡◌, sym, refl, ◌∙◌, arith, length-set, take_all}
 use Rattle.wire.specs.Sha256.{hash_bytes}
 use Rattle.wire.proofs.sha256.HashBytes.{word_bytes}
 use Rattle.wire.proofs.sha256.hash_bytes.Goals as goal

@@ -1,7 +1,6 @@
 -- `hash_bytes`: after i turns the bytes of the first i words are written.
-use Rattle.std.proofs.Common.{◌≡◌, ◌-◌, ◌*◌, ◌≤◌, length, take, sym, refl, ◌∙◌, arith, length-set, take_all, rules}
+use Rattle.std.proofs.Common.{◌≡◌, ◌-◌, ◌*◌, ◌≤◌, length, take}
 use Rattle.wire.specs.Sha256.{hash_bytes}
-use Rattle.wire.proofs.sha256.HashBytes.{word_bytes}
 use Rattle.wire.proofs.sha256.hash_bytes.Given as goal
 
 abbrev pub invariant-loop-i : goal.invariant-loop-i

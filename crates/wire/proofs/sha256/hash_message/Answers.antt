@@ -1,5 +1,5 @@
 -- `hash_message`: after i turns the hash value is that of i blocks.
-use Rattle.std.proofs.Common.{◌≡◌, ◌-◌, ◌/◌, ◌≤◌, length, refl, add-one, arith, rules}
+use Rattle.std.proofs.Common.{◌≡◌, ◌/◌, length, refl, add-one, arith}
 use Rattle.wire.specs.Sha256.{H⁰, padded, hash_value}
 use Rattle.wire.proofs.sha256.padding.Padded.{length_padded}
 use Rattle.wire.proofs.sha256.hash_message.Goals as goal

@@ -1,7 +1,6 @@
 -- `hash_message`: after i turns the hash value is that of i blocks.
-use Rattle.std.proofs.Common.{◌≡◌, ◌-◌, ◌/◌, ◌≤◌, length, refl, add-one, arith, rules}
-use Rattle.wire.specs.Sha256.{H⁰, padded, hash_value}
-use Rattle.wire.proofs.sha256.padding.Padded.{length_padded}
+use Rattle.std.proofs.Common.{◌≡◌, ◌-◌, ◌≤◌}
+use Rattle.wire.specs.Sha256.{padded, hash_value}
 use Rattle.wire.proofs.sha256.hash_message.Given as goal
 
 abbrev pub invariant-loop-i : goal.invariant-loop-i

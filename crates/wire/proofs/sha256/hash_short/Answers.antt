@@ -1,5 +1,5 @@
 -- `hash_short`: the hash value of the one block.
-use Rattle.std.proofs.Common.{◌≡◌, ◌/◌, length, arith, rules}
+use Rattle.std.proofs.Common.{◌≡◌, ◌/◌, length, arith}
 use Rattle.wire.specs.Sha256.{H⁰, padded, hash_value}
 use Rattle.wire.proofs.sha256.padding.Padded.{length_padded}
 use Rattle.wire.proofs.sha256.hash_short.Goals as goal

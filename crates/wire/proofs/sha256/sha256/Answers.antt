@@ -1,5 +1,5 @@
 -- `sha256`: the digest, or 32 zero bytes if the message is too long.
-use Rattle.std.proofs.Common.{length, arith, rules, le-leb}
+use Rattle.std.proofs.Common.{length, arith, le-leb}
 use borrow.Author.Tests.{lt-leb}
 use Rattle.wire.specs.Sha256.{longest_input, sha256, digest_of}
 use Rattle.wire.proofs.sha256.sha256.Goals as goal

@@ -1,5 +1,5 @@
 -- `wire_sha256` hands on what `sha256` ensures.
-use Rattle.std.proofs.Common.{ap, rules}
+use Rattle.std.proofs.Common.{ap}
 use Rattle.wire.specs.declared.sha256.Digest.{Digest}
 use Rattle.wire.proofs.sha256.wire_sha256.Goals as goal
 

@@ -1,5 +1,5 @@
 -- `wire::signatures::handed_signature` meets its contract.
-use Rattle.std.proofs.Common.{◌≡◌, true, eqb, length, sym, ◌∙◌, arith, rules, le-leb}
+use Rattle.std.proofs.Common.{◌≡◌, true, eqb, length, sym, ◌∙◌, arith, le-leb}
 use borrow.Author.Tests.{lt-leb, not-true, not-false}
 use Rattle.base.specs.Outcome.{guard}
 use Rattle.base.proofs.Outcome.{guard_passes, guard_refuses}

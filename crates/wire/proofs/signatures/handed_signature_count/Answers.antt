@@ -1,5 +1,5 @@
 -- `wire::signatures::handed_signature_count` meets its contract.
-use Rattle.std.proofs.Common.{sym, ◌∙◌, arith, rules}
+use Rattle.std.proofs.Common.{sym, ◌∙◌, arith}
 use borrow.Author.Tests.{not-true, not-false}
 use Rattle.wire.proofs.ProofSignatures.{none_counted, all_counted}
 use Rattle.wire.proofs.signatures.handed_signature_count.Goals as goal

@@ -1,5 +1,5 @@
 -- `wire::signatures::of_entries` meets its contract.
-use Rattle.std.proofs.Common.{ap, arith, rules}
+use Rattle.std.proofs.Common.{ap, arith}
 use Rattle.base.specs.Outcome.{accepted}
 use Rattle.wire.proofs.MessageSignatures.{of_first, of_second, of_neither, found_so, no_answer}
 use Rattle.wire.proofs.signatures.of_entries.Goals as goal

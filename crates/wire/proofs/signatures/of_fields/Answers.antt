@@ -1,5 +1,5 @@
 -- `wire::signatures::of_fields` meets its contract.
-use Rattle.std.proofs.Common.{◌≡◌, suc, ◌-◌, sym, ◌∙◌, arith, rules}
+use Rattle.std.proofs.Common.{◌≡◌, suc, ◌-◌, sym, ◌∙◌, arith}
 use Rattle.wire.proofs.ReadingByKind.{parsed}
 use Rattle.wire.proofs.MessageSignatures.{own_at, entry_at, prepared_stand, written_stand, found_so}
 use Rattle.wire.proofs.signatures.of_fields.Goals as goal

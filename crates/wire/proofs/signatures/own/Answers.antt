@@ -1,5 +1,5 @@
 -- `wire::signatures::own` meets its contract.
-use Rattle.std.proofs.Common.{◌≡◌, ◌-◌, length, take, refl, ◌∙◌, arith, length-take-le, rules}
+use Rattle.std.proofs.Common.{◌≡◌, ◌-◌, length, take, refl, ◌∙◌, arith, length-take-le}
 use Rattle.base.proofs.Stored.{stored_fits}
 use Rattle.wire.proofs.MessageSignatures.{answers}
 use Rattle.wire.proofs.signatures.own.Goals as goal

@@ -1,5 +1,4 @@
 -- `wire::signatures::sender` meets its contract.
-use Rattle.std.proofs.Common.{rules}
 use Rattle.wire.proofs.signatures.sender.Goals as goal
 
 pub returns-in-Replica : goal.returns-in-Replica

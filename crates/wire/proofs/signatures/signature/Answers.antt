@@ -1,5 +1,5 @@
 -- `wire::signatures::signature` meets its contract.
-use Rattle.std.proofs.Common.{length, sym, ◌∙◌, arith, rules, le-leb}
+use Rattle.std.proofs.Common.{length, sym, ◌∙◌, arith, le-leb}
 use borrow.Author.Tests.{lt-leb}
 use Rattle.base.proofs.Outcome.{guard_passes, guard_refuses}
 use Rattle.wire.specs.Decode.{reading}

@@ -1,5 +1,5 @@
 -- `wire::signatures::signature_count` meets its contract.
-use Rattle.std.proofs.Common.{◌≡◌, sym, ◌∙◌, arith, rules}
+use Rattle.std.proofs.Common.{◌≡◌, sym, ◌∙◌, arith}
 use Rattle.base.specs.Outcome.{accepted, refused}
 use Rattle.wire.specs.Decode.{reading}
 use Rattle.wire.proofs.Tests6To11.{placed_reading, answered, turned_down}

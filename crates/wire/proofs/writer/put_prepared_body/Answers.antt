@@ -1,5 +1,5 @@
 -- `wire::writer::put_prepared_body` meets its contract.
-use Rattle.std.proofs.Common.{arith, rules}
+use Rattle.std.proofs.Common.{arith}
 use Rattle.base.specs.Timestamp.{number}
 use Rattle.wire.proofs.Stores.{then, restated}
 use Rattle.wire.proofs.WrittenParts.{prepared_body}

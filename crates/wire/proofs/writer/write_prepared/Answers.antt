@@ -1,5 +1,5 @@
 -- `wire::writer::write_prepared` meets its contract.
-use Rattle.std.proofs.Common.{arith, rules}
+use Rattle.std.proofs.Common.{arith}
 use Rattle.base.specs.Timestamp.{number}
 use Rattle.wire.specs.Message.{PREPARED}
 use Rattle.wire.proofs.Stores.{then, wrote, turned_down}

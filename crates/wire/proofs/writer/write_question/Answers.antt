@@ -1,5 +1,5 @@
 -- `wire::writer::write_question` meets its contract.
-use Rattle.std.proofs.Common.{arith, rules}
+use Rattle.std.proofs.Common.{arith}
 use Rattle.wire.proofs.Stores.{then, wrote, turned_down}
 use Rattle.wire.proofs.WrittenParts.{question_parts}
 use Rattle.wire.proofs.writer.write_question.Goals as goal

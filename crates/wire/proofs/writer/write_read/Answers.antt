@@ -1,6 +1,5 @@
 -- `wire::writer::write_read` meets its contract.
 use Rattle.wire.proofs.WrittenParts.{read_bytes}
-use Rattle.std.proofs.Common.{rules}
 use Rattle.wire.proofs.writer.write_read.Goals as goal
 
 pub returns : goal.returns

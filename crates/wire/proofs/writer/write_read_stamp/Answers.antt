@@ -1,6 +1,5 @@
 -- `wire::writer::write_read_stamp` meets its contract.
 use Rattle.wire.proofs.WrittenParts.{read_stamp_bytes}
-use Rattle.std.proofs.Common.{rules}
 use Rattle.wire.proofs.writer.write_read_stamp.Goals as goal
 
 pub returns : goal.returns

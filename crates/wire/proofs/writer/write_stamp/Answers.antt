@@ -1,5 +1,5 @@
 -- `wire::writer::write_stamp` meets its contract.
-use Rattle.std.proofs.Common.{◌+◌, arith, rules}
+use Rattle.std.proofs.Common.{◌+◌, arith}
 use Rattle.wire.specs.Writing.{missing, kept_prepared}
 use Rattle.wire.proofs.Stores.{then, wrote, turned_down}
 use Rattle.wire.proofs.WrittenParts.{stamp_parts}

@@ -1,5 +1,5 @@
 -- `wire::writer::write_written` meets its contract.
-use Rattle.std.proofs.Common.{arith, rules}
+use Rattle.std.proofs.Common.{arith}
 use Rattle.base.specs.Timestamp.{number}
 use Rattle.wire.specs.Message.{WRITTEN}
 use Rattle.wire.proofs.Stores.{then, wrote, turned_down}

@@ -1,7 +1,6 @@
 -- `base::client_set::ClientSet::has` meets its contract.
 use mathlib.Core.Bool.{false, or_comm}
 use native.Mathlib.Omega.{arith}
-use borrow.Author.Rules.{rules}
 use Rattle.base.specs.ClientSet.{has}
 use Rattle.base.proofs.Range.{inside, below, above}
 use Rattle.base.proofs.client_set.ClientSet.has.Goals as goal

@@ -1,7 +1,6 @@
 -- `base::client_set::ClientSet::with` meets its contract.
 use Prim.Native.Nat.{◌-◌}
 use native.Mathlib.Omega.{arith}
-use borrow.Author.Rules.{rules}
 use Rattle.base.specs.ClientSet.{with}
 use Rattle.base.proofs.Digits.{shifted_one}
 use Rattle.base.proofs.Range.{inside, below, above}

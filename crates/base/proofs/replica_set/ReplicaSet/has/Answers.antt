@@ -1,5 +1,4 @@
 -- `base::replica_set::ReplicaSet::has` meets its contract.
-use borrow.Author.Rules.{rules}
 use Rattle.base.specs.ReplicaSet.{has}
 use Rattle.base.proofs.Range.{inside, below, above}
 use Rattle.base.proofs.replica_set.ReplicaSet.has.Goals as goal

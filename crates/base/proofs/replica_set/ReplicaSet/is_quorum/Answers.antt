@@ -1,7 +1,6 @@
 -- `base::replica_set::ReplicaSet::is_quorum` meets its contract.
 use Prim.Native.Nat.{◌≤◌}
 use native.Mathlib.Omega.{arith}
-use borrow.Author.Rules.{rules}
 use lib.Pow.{pow_pos}
 use Rattle.base.specs.Party.{replica_count}
 use Rattle.base.proofs.Digits.{shifted_one}

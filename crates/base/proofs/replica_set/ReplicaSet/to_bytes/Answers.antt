@@ -1,5 +1,4 @@
 -- `base::replica_set::ReplicaSet::to_bytes` meets its contract.
-use borrow.Author.Rules.{rules}
 use Rattle.base.proofs.replica_set.ReplicaSet.to_bytes.Goals as goal
 
 pub returns : goal.returns

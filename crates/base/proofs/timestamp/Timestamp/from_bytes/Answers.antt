@@ -3,7 +3,6 @@ use mathlib.Core.Path.{◌≡◌}
 use mathlib.Core.List.{[], ◌∷◌}
 use Prim.Native.Nat.{◌+◌, ◌*◌, ◌/◌, ◌%◌}
 use native.Mathlib.Omega.{arith}
-use borrow.Author.Rules.{rules}
 use Rattle.base.specs.BigEndian.{from_bytes}
 use Rattle.base.proofs.BigEndian.{from_bytes_snoc}
 use Rattle.base.proofs.timestamp.Timestamp.from_bytes.Goals as goal

@@ -1,5 +1,4 @@
 -- `base::timestamp::Timestamp::is` meets its contract.
-use borrow.Author.Rules.{rules}
 use Rattle.base.proofs.timestamp.Timestamp.is.Goals as goal
 
 pub returns : goal.returns

@@ -1,7 +1,6 @@
 -- `base::timestamp::Timestamp::is_before` meets its contract.
 use mathlib.Core.Path.{◌≡◌, ◌∙◌}
 use native.Mathlib.Omega.{arith}
-use borrow.Author.Rules.{rules}
 use lib.Dec.{ltb}
 use Rattle.base.specs.Timestamp.{number}
 use Rattle.base.proofs.Timestamps.{counts_first}

@@ -1,7 +1,6 @@
 -- `base::timestamp::Timestamp::is_issued` meets its contract.
 use native.Mathlib.Omega.{arith}
 use borrow.Author.Tests.{lt-leb, le-leb}
-use borrow.Author.Rules.{rules}
 use Rattle.base.proofs.timestamp.Timestamp.is_issued.Goals as goal
 
 pub returns-then-self-eq0 : goal.returns-then-self-eq0

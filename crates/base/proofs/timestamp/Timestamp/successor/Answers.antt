@@ -1,6 +1,5 @@
 -- `base::timestamp::Timestamp::successor` meets its contract.
 use borrow.Author.Tests.{eq-eqb, ne_eqb}
-use borrow.Author.Rules.{rules}
 use Rattle.base.proofs.timestamp.Timestamp.successor.Goals as goal
 
 pub returns-then-self-eq-LAST_COUNT : goal.returns-then-self-eq-LAST_COUNT

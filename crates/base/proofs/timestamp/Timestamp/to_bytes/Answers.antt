@@ -4,7 +4,6 @@ use Prim.Native.Nat.{◌/◌, ◌%◌}
 use Rattle.base.specs.Timestamp.{number}
 use native.Mathlib.Omega.{arith}
 use Rattle.base.specs.BigEndian.{to_bytes}
-use borrow.Author.Rules.{rules}
 use Rattle.base.proofs.timestamp.Timestamp.to_bytes.Goals as goal
 
 pub returns : goal.returns

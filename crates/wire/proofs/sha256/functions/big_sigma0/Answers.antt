@@ -1,6 +1,5 @@
 -- `big_sigma0` is Σ₀: its rotations are the standard's.
 use Rattle.wire.specs.Sha256.{Σ₀}
-use Rattle.std.proofs.Common.{rules}
 use Rattle.wire.proofs.sha256.functions.big_sigma0.Goals as goal
 
 pub returns : goal.returns

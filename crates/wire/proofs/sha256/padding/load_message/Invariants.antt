@@ -1,7 +1,6 @@
 -- `load_message`: after j turns the first j words are the block's, and the others as before.
-use Rattle.std.proofs.Common.{◌≡◌, ◌+◌, ◌-◌, ◌*◌, ◌≤◌, length, take, drop, refl, ◌∙◌, arith, length-set, drop-set-lt, rules}
+use Rattle.std.proofs.Common.{◌≡◌, ◌-◌, ◌≤◌, length, take, drop}
 use Rattle.wire.specs.Sha256.{padded, block, words}
-use Rattle.wire.proofs.sha256.padding.Padded.{word_message, load_next}
 use Rattle.wire.proofs.sha256.padding.load_message.Given as goal
 
 abbrev pub invariant-loop-j : goal.invariant-loop-j

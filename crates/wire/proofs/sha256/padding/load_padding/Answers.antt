@@ -1,5 +1,5 @@
 -- `load_padding` stores the first word and the last; those between are zero.
-use Rattle.std.proofs.Common.{◌≡◌, ◌+◌, arith, length-set, rules}
+use Rattle.std.proofs.Common.{◌≡◌, ◌+◌, arith, length-set}
 use Rattle.wire.proofs.sha256.padding.Padded.{load_next, padding_there}
 use Rattle.wire.proofs.sha256.padding.load_padding.Goals as goal
 

@@ -1,5 +1,5 @@
 -- `padding_word`, by where the message ends.
-use Rattle.std.proofs.Common.{◌∙◌, arith, rules}
+use Rattle.std.proofs.Common.{◌∙◌, arith}
 use Rattle.wire.proofs.sha256.padding.Padded.{word_zero, word_length_lem, word_mark_0, word_mark_1, word_mark_2, word_mark_3}
 use Rattle.wire.proofs.sha256.padding.padding_word.Goals as goal
 

@@ -1,5 +1,5 @@
 -- `compress`: the first 48 rounds, the last 16, and the addition.
-use Rattle.std.proofs.Common.{refl, rules}
+use Rattle.std.proofs.Common.{refl}
 use Rattle.wire.specs.Sha256.{K, compress}
 use Rattle.wire.proofs.sha256.rounds.compress.Goals as goal
 

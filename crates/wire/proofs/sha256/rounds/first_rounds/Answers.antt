@@ -1,7 +1,7 @@
 -- `first_rounds`: after t rounds the schedule has t more words.
-use Rattle.std.proofs.Common.{◌≡◌, ◌+◌, ◌-◌, ◌%◌, ◌≤◌, take, refl, arith}
+use Rattle.std.proofs.Common.{◌+◌, refl, arith}
 use Rattle.wire.specs.Sha256.{schedule, rounds}
-use Rattle.wire.proofs.sha256.rounds.Schedule.{Turned, turn, turned_all}
+use Rattle.wire.proofs.sha256.rounds.Schedule.{turn, turned_all}
 use Rattle.wire.proofs.sha256.rounds.first_rounds.Goals as goal
 
 pub loop-t-init : goal.loop-t-init

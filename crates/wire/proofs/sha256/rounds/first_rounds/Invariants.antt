@@ -1,7 +1,6 @@
 -- `first_rounds`: after t rounds the schedule has t more words.
-use Rattle.std.proofs.Common.{◌≡◌, ◌+◌, ◌-◌, ◌%◌, ◌≤◌, take, refl, arith}
-use Rattle.wire.specs.Sha256.{schedule, rounds}
-use Rattle.wire.proofs.sha256.rounds.Schedule.{Turned, turn, turned_all}
+use Rattle.std.proofs.Common.{◌≡◌, ◌-◌, ◌%◌, ◌≤◌, take}
+use Rattle.wire.proofs.sha256.rounds.Schedule.{Turned}
 use Rattle.wire.proofs.sha256.rounds.first_rounds.Given as goal
 
 abbrev pub invariant-loop-t : goal.invariant-loop-t

@@ -1,5 +1,5 @@
 -- `last_rounds`: t rounds are done, from any start from which 48 gave `middle`.
-use Rattle.std.proofs.Common.{◌≡◌, ◌+◌, ◌-◌, ◌%◌, ◌≤◌, arith, rules}
+use Rattle.std.proofs.Common.{◌≡◌, ◌+◌, arith}
 use Rattle.wire.specs.declared.sha256.rounds.WorkingVariables.{WorkingVariables}
 use Rattle.wire.specs.Sha256.{rounds}
 use Rattle.wire.proofs.sha256.rounds.Schedule.{round_next}

@@ -1,8 +1,7 @@
 -- `last_rounds`: t rounds are done, from any start from which 48 gave `middle`.
-use Rattle.std.proofs.Common.{◌≡◌, ◌+◌, ◌-◌, ◌%◌, ◌≤◌, arith, rules}
+use Rattle.std.proofs.Common.{◌≡◌, ◌-◌, ◌%◌, ◌≤◌}
 use Rattle.wire.specs.declared.sha256.rounds.WorkingVariables.{WorkingVariables}
 use Rattle.wire.specs.Sha256.{rounds}
-use Rattle.wire.proofs.sha256.rounds.Schedule.{round_next}
 use Rattle.wire.proofs.sha256.rounds.last_rounds.Given as goal
 
 abbrev pub invariant-loop-t : goal.invariant-loop-t

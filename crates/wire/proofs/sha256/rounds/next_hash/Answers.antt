@@ -1,6 +1,5 @@
 -- `next_hash` adds word by word.
 use Rattle.wire.specs.Sha256.{next_hash}
-use Rattle.std.proofs.Common.{rules}
 use Rattle.wire.proofs.sha256.rounds.next_hash.Goals as goal
 
 pub returns : goal.returns

@@ -1,6 +1,5 @@
 -- `next_word` is the schedule's next word.
 use Rattle.wire.specs.Sha256.{next_word}
-use Rattle.std.proofs.Common.{rules}
 use Rattle.wire.proofs.sha256.rounds.next_word.Goals as goal
 
 pub returns : goal.returns

@@ -1,5 +1,4 @@
 -- `round` is one round, by what its callees ensure.
-use Rattle.std.proofs.Common.{rules}
 use Rattle.wire.proofs.sha256.rounds.round.Goals as goal
 
 pub returns : goal.returns

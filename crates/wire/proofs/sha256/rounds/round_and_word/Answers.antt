@@ -1,5 +1,5 @@
 -- `round_and_word` is round t and a store of the next word.
-use Rattle.std.proofs.Common.{arith, length-set, rules}
+use Rattle.std.proofs.Common.{arith, length-set}
 use Rattle.wire.proofs.sha256.rounds.round_and_word.Goals as goal
 
 pub returns : goal.returns

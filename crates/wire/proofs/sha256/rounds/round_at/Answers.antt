@@ -1,5 +1,4 @@
 -- `round_at` is round t, with the constant and the word at t.
-use Rattle.std.proofs.Common.{rules}
 use Rattle.wire.proofs.sha256.rounds.round_at.Goals as goal
 
 pub returns : goal.returns

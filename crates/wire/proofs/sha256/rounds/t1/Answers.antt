@@ -1,6 +1,5 @@
 -- `t1` is T₁, by what its callees ensure.
 use Rattle.wire.specs.Sha256.{T₁}
-use Rattle.std.proofs.Common.{rules}
 use Rattle.wire.proofs.sha256.rounds.t1.Goals as goal
 
 pub returns : goal.returns

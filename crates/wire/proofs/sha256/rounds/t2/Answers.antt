@@ -1,6 +1,5 @@
 -- `t2` is T₂, by what its callees ensure.
 use Rattle.wire.specs.Sha256.{T₂}
-use Rattle.std.proofs.Common.{rules}
 use Rattle.wire.proofs.sha256.rounds.t2.Goals as goal
 
 pub returns : goal.returns

@@ -1,5 +1,5 @@
 -- `wire::writer::fields::put_addressed` meets its contract.
-use Rattle.std.proofs.Common.{◌≡◌, ◌%◌, [], ◌∷◌, arith, rules}
+use Rattle.std.proofs.Common.{◌≡◌, ◌%◌, [], ◌∷◌, arith}
 use Rattle.base.specs.BigEndian.{to_bytes}
 use Rattle.wire.proofs.Stores.{then, restated}
 use Rattle.wire.proofs.writer.fields.put_addressed.Goals as goal

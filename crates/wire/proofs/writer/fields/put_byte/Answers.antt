@@ -1,6 +1,5 @@
 -- `wire::writer::fields::put_byte` meets its contract.
 use Rattle.wire.proofs.Stores.{one_byte}
-use Rattle.std.proofs.Common.{rules}
 use Rattle.wire.proofs.writer.fields.put_byte.Goals as goal
 
 pub returns : goal.returns

@@ -1,6 +1,6 @@
 -- `wire::writer::fields::put_bytes` meets its contract: after i turns the output has the first i bytes pasted in.
-use Rattle.std.proofs.Common.{◌≡◌, ◌-◌, ◌≤◌, length, take, refl, add-one, arith, length-set, length-take-le, rules}
-use lib.Seq.{paste, paste-zero, paste-suc}
+use Rattle.std.proofs.Common.{◌≡◌, length, take, refl, add-one, arith, length-set, length-take-le}
+use lib.Seq.{paste-zero, paste-suc}
 use Rattle.wire.proofs.writer.fields.put_bytes.Goals as goal
 
 pub loop-i-init : goal.loop-i-init

@@ -1,6 +1,6 @@
 -- `wire::writer::fields::put_bytes` meets its contract: after i turns the output has the first i bytes pasted in.
-use Rattle.std.proofs.Common.{◌≡◌, ◌-◌, ◌≤◌, length, take, refl, add-one, arith, length-set, length-take-le, rules}
-use lib.Seq.{paste, paste-zero, paste-suc}
+use Rattle.std.proofs.Common.{◌≡◌, ◌-◌, ◌≤◌, length}
+use lib.Seq.{paste}
 use Rattle.wire.proofs.writer.fields.put_bytes.Given as goal
 
 abbrev pub invariant-loop-i : goal.invariant-loop-i

@@ -1,5 +1,5 @@
 -- `wire::writer::fields::put_card` meets its contract.
-use Rattle.std.proofs.Common.{arith, rules}
+use Rattle.std.proofs.Common.{arith}
 use Rattle.wire.proofs.RecordBytes.{card_kept_lem}
 use Rattle.wire.proofs.Stores.{then, restated}
 use Rattle.wire.proofs.writer.fields.put_card.Goals as goal

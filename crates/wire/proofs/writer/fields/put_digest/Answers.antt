@@ -1,5 +1,5 @@
 -- `wire::writer::fields::put_digest` meets its contract.
-use Rattle.std.proofs.Common.{arith, rules}
+use Rattle.std.proofs.Common.{arith}
 use Rattle.wire.proofs.Stores.{all_of}
 use Rattle.wire.proofs.writer.fields.put_digest.Goals as goal
 

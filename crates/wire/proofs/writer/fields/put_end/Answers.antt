@@ -1,6 +1,5 @@
 -- `wire::writer::fields::put_end` meets its contract.
 use Rattle.wire.proofs.Stores.{then}
-use Rattle.std.proofs.Common.{rules}
 use Rattle.wire.proofs.writer.fields.put_end.Goals as goal
 
 pub returns : goal.returns

@@ -1,7 +1,6 @@
 -- `wire::writer::fields::put_nonce` meets its contract.
 use Rattle.base.proofs.BigEndian.{length_to_bytes}
 use Rattle.wire.proofs.Stores.{all_of}
-use Rattle.std.proofs.Common.{rules}
 use Rattle.wire.proofs.writer.fields.put_nonce.Goals as goal
 
 pub returns : goal.returns

@@ -1,6 +1,5 @@
 -- `wire::writer::fields::put_signature` meets its contract.
 use Rattle.wire.specs.Writing.{blank_signature}
-use Rattle.std.proofs.Common.{rules}
 use Rattle.wire.proofs.writer.fields.put_signature.Goals as goal
 
 pub returns : goal.returns

@@ -2,7 +2,6 @@
 use Rattle.base.specs.Timestamp.{number}
 use Rattle.base.proofs.BigEndian.{length_to_bytes}
 use Rattle.wire.proofs.Stores.{all_of}
-use Rattle.std.proofs.Common.{rules}
 use Rattle.wire.proofs.writer.fields.put_timestamp.Goals as goal
 
 pub returns : goal.returns

@@ -1,5 +1,5 @@
 -- `wire::writer::proof::bit_unless_missing` meets its contract.
-use Rattle.std.proofs.Common.{sym, ◌∙◌, arith, rules}
+use Rattle.std.proofs.Common.{sym, ◌∙◌, arith}
 use Rattle.wire.proofs.writer.proof.bit_unless_missing.Goals as goal
 
 pub returns-then-is_missing : goal.returns-then-is_missing

@@ -1,5 +1,5 @@
 -- `wire::writer::proof::is_missing` meets its contract.
-use Rattle.std.proofs.Common.{ℕ, eqb, ap, rules}
+use Rattle.std.proofs.Common.{ℕ, eqb, ap}
 use Rattle.wire.proofs.writer.proof.is_missing.Goals as goal
 
 pub returns : goal.returns

@@ -1,5 +1,5 @@
 -- `wire::writer::proof::put_entries` meets its contract.
-use Rattle.std.proofs.Common.{arith, rules}
+use Rattle.std.proofs.Common.{arith}
 use Rattle.wire.proofs.RecordBytes.{entries_kept_lem}
 use Rattle.wire.proofs.Stores.{then, restated}
 use Rattle.wire.proofs.writer.proof.put_entries.Goals as goal

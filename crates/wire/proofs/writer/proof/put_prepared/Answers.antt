@@ -1,5 +1,5 @@
 -- `wire::writer::proof::put_prepared` meets its contract.
-use Rattle.std.proofs.Common.{append_assoc, arith, rules}
+use Rattle.std.proofs.Common.{append_assoc, arith}
 use Rattle.base.specs.BigEndian.{to_bytes}
 use Rattle.base.specs.Timestamp.{number}
 use Rattle.wire.specs.Proof.{counted_entries, proof_bytes}

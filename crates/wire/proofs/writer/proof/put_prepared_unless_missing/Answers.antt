@@ -1,5 +1,5 @@
 -- `wire::writer::proof::put_prepared_unless_missing` meets its contract.
-use Rattle.std.proofs.Common.{sym, ◌∙◌, arith, rules}
+use Rattle.std.proofs.Common.{sym, ◌∙◌, arith}
 use Rattle.wire.proofs.Stores.{put_nothing}
 use Rattle.wire.proofs.writer.proof.put_prepared_unless_missing.Goals as goal
 

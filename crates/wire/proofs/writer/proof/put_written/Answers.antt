@@ -1,7 +1,6 @@
 -- `wire::writer::proof::put_written` meets its contract.
 use Rattle.wire.specs.Proof.{proof_bytes}
 use Rattle.wire.proofs.Stores.{then}
-use Rattle.std.proofs.Common.{rules}
 use Rattle.wire.proofs.writer.proof.put_written.Goals as goal
 
 pub returns : goal.returns
