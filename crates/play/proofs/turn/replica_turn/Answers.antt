@@ -1,7 +1,7 @@
 -- `play::turn::replica_turn` meets its contract.
 use mathlib.Core.Path.{◌≡◌}
 use native.Mathlib.Omega.{arith}
-use lib.ListN.{length, length-map}
+use lib.ListN.{length}
 use borrow.Author.Rules.{rules}
 use Rattle.play.proofs.Turning.{default_free, replica_plays}
 use Rattle.play.proofs.turn.replica_turn.Goals as goal
@@ -9,7 +9,7 @@ use Rattle.play.proofs.turn.replica_turn.Goals as goal
 pub returns : goal.returns
 returns c =
     let a = c.args in
-    let four : length a.t1.replicas ≡ 4 = simp length-map at c.well_formed.0.1.1.0.1.0.1 in
-    let first = default_free a.t1.replicas c.replica_seat-i.result _ _ (omega (arith, c.replica_seat-i.ensures.1)) in
-    replica_plays a.t1 a.store.now c.reply-answer.result c.logged-longer.result c.said.result _ c.logged-longer.ensures c.said.ensures
+    let four : length a.world.replicas ≡ 4 = omega arith in
+    let first = default_free a.world.replicas c.replica_seat-i.result _ _ (omega (arith, c.replica_seat-i.ensures.1)) in
+    replica_plays a.world a.store.now c.reply-answer.result c.logged-longer.result c.said.result _ c.logged-longer.ensures c.said.ensures
     a.id a.m c.replica_seat-i.result _ c.replica_does-stepped.result c.without_card.result c.replica_seat-i.ensures.0 first c.reply-answer.ensures c.replica_does-stepped.ensures c.without_card.ensures
