@@ -14,7 +14,7 @@ use protocol::client::{Client, ClientAnswer};
 use wire::layout::CARD_ROOM;
 
 // A viewing client's record: a client's, but nobody can hand it to `begin_write`.
-#[derive(Drop)]
+#[derive(Clone, Copy)]
 pub struct Viewer {
     client: Client,
 }

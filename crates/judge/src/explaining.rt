@@ -4,141 +4,154 @@ use audit::comparing::common;
 use audit::judging::HEAD;
 use audit::reading::{EntryPlaces, EntryRead, read_entry};
 use base::slices::{between, front};
-use libc::STDERR_FILENO;
 use protocol::replica::{Bank, ReplicaAnswer};
+use std::io;
 
-fn say(text: &[u8]) {
-    io::write_all(STDERR_FILENO, text);
+fn say(rt: &impl Eprint, text: &str) -> io::Result<()> {
+    rt.eprint(text)
 }
 
-fn say_number(n: u64) {
-    io::print_decimal(STDERR_FILENO, n);
+fn say_number(rt: &impl Eprint, n: u64) -> io::Result<()> {
+    rt.eprint(n)
 }
 
-fn say_byte(n: u8) {
-    say_number(n as u64);
+fn say_byte(rt: &impl Eprint, n: u8) -> io::Result<()> {
+    say_number(rt, n as u64)
 }
 
 // What the call is.
-fn say_call(is_order: bool) {
+fn say_call(rt: &impl Eprint, is_order: bool) -> io::Result<()> {
     if is_order {
-        say(b"order");
+        say(rt, "order")
     } else {
-        say(b"message");
+        say(rt, "message")
     }
 }
 
-fn say_sent(is_order: bool, length: usize) {
+fn say_sent(rt: &impl Eprint, is_order: bool, length: usize) -> io::Result<()> {
     if is_order {
-        say(b"takes this order");
-        return;
+        return say(rt, "takes this order");
     }
-    say(b"answers this message with ");
-    say_number(length as u64);
-    say(b" bytes");
+    say(rt, "answers this message with ")?;
+    say_number(rt, length as u64)?;
+    say(rt, " bytes")
 }
 
-fn say_expected(answer: ReplicaAnswer, is_order: bool) {
-    say(b"a correct replica ");
+fn say_expected(rt: &impl Eprint, answer: ReplicaAnswer, is_order: bool) -> io::Result<()> {
+    say(rt, "a correct replica ")?;
     match answer {
-        ReplicaAnswer::Send(length) => say_sent(is_order, length),
+        ReplicaAnswer::Send(length) => say_sent(rt, is_order, length),
         ReplicaAnswer::Refused(number) => {
-            say(b"refuses this ");
-            say_call(is_order);
-            say(b" with ");
-            say_byte(number);
+            say(rt, "refuses this ")?;
+            say_call(rt, is_order)?;
+            say(rt, " with ")?;
+            say_byte(rt, number)
         }
     }
 }
 
-fn say_reply(is_order: bool, length: usize) {
+fn say_reply(rt: &impl Eprint, is_order: bool, length: usize) -> io::Result<()> {
     if is_order {
         if length == 0 {
-            say(b"it taken");
-            return;
+            return say(rt, "it taken");
         }
     }
-    say(b"a reply of ");
-    say_number(length as u64);
-    say(b" bytes");
+    say(rt, "a reply of ")?;
+    say_number(rt, length as u64)?;
+    say(rt, " bytes")
 }
 
 // Where a reply of the right length differs.
-fn say_difference(answer: ReplicaAnswer, out: &[u8], reply: &[u8]) {
+fn say_difference(
+    rt: &impl Eprint,
+    answer: ReplicaAnswer,
+    out: &[u8],
+    reply: &[u8],
+) -> io::Result<()> {
     match answer {
         ReplicaAnswer::Send(length) => {
             if length != reply.len() {
-                return;
+                return Ok(());
             }
             let same = common(front(out, length), reply);
             if same < length {
-                say(b", and byte ");
-                say_number(same as u64 + 1);
-                say(b" is the first that differs");
+                say(rt, ", and byte ")?;
+                say_number(rt, same as u64 + 1)?;
+                say(rt, " is the first that differs")?;
             }
+            Ok(())
         }
-        ReplicaAnswer::Refused(_) => {}
+        ReplicaAnswer::Refused(_) => Ok(()),
     }
 }
 
-fn say_recorded(is_order: bool, answer: ReplicaAnswer, out: &[u8], refusal: u8, reply: &[u8]) {
-    say(b"; the log has ");
+fn say_recorded(
+    rt: &impl Eprint,
+    is_order: bool,
+    answer: ReplicaAnswer,
+    out: &[u8],
+    refusal: u8,
+    reply: &[u8],
+) -> io::Result<()> {
+    say(rt, "; the log has ")?;
     if refusal != 0 {
-        say(b"refusal ");
-        say_byte(refusal);
-        return;
+        say(rt, "refusal ")?;
+        return say_byte(rt, refusal);
     }
-    say_reply(is_order, reply.len());
-    say_difference(answer, out, reply);
+    say_reply(rt, is_order, reply.len())?;
+    say_difference(rt, answer, out, reply)
 }
 
-fn explain_answer(bank: Bank, bytes: &[u8], places: EntryPlaces) {
+fn explain_answer(
+    rt: &impl Eprint,
+    bank: Bank,
+    bytes: &[u8],
+    places: EntryPlaces,
+) -> io::Result<()> {
     let call = places.call;
     let called = call_at(bank, bytes, call);
     let answer = called.answer;
     let out = called.out;
-    say_expected(answer, call.is_order);
+    say_expected(rt, answer, call.is_order)?;
     let reply = between(bytes, places.reply, places.end);
-    say_recorded(call.is_order, answer, &out, places.refusal, reply);
+    say_recorded(rt, call.is_order, answer, &out, places.refusal, reply)
 }
 
 // No whole entry starts there.
-fn explain_start(bytes: &[u8]) {
+fn explain_start(rt: &impl Eprint, bytes: &[u8]) -> io::Result<()> {
     if bytes.len() == 0 {
-        return;
+        return Ok(());
     }
     if bytes[0] <= 1 {
-        say(b"it is cut short");
-        return;
+        return say(rt, "it is cut short");
     }
-    say(b"it opens with ");
-    say_byte(bytes[0]);
-    say(b", and not with 0 or 1");
+    say(rt, "it opens with ")?;
+    say_byte(rt, bytes[0])?;
+    say(rt, ", and not with 0 or 1")
 }
 
 // The bytes start with the entry of that number, which is wrong, at the bank that the entries before it left.
-pub fn explain(bank: Bank, bytes: &[u8], number: u64) {
-    say(b"entry ");
-    say_number(number);
-    say(b": ");
+pub fn explain(rt: &impl Eprint, bank: Bank, bytes: &[u8], number: u64) -> io::Result<()> {
+    say(rt, "entry ")?;
+    say_number(rt, number)?;
+    say(rt, ": ")?;
     match read_entry(bytes) {
-        EntryRead::Entry(places) => explain_answer(bank, bytes, places),
-        EntryRead::Missing => explain_start(bytes),
+        EntryRead::Entry(places) => explain_answer(rt, bank, bytes, places)?,
+        EntryRead::Missing => explain_start(rt, bytes)?,
     }
-    say(b"\n");
+    say(rt, "\n")
 }
 
 // A head that sets nothing up, of a log with so many bytes at hand.
-pub fn explain_head(length: usize) {
+pub fn explain_head(rt: &impl Eprint, length: usize) -> io::Result<()> {
     if length < HEAD {
-        say(b"the head has ");
-        say_number(length as u64);
-        say(b" bytes, and not 58\n");
-        return;
+        say(rt, "the head has ")?;
+        say_number(rt, length as u64)?;
+        return say(rt, " bytes, and not 58\n");
     }
-    say(b"the head is refused with 16\n");
+    say(rt, "the head is refused with 16\n")
 }
 
-pub fn explain_unread() {
-    say(b"the log cannot be read to its end\n");
+pub fn explain_unread(rt: &impl Eprint) -> io::Result<()> {
+    say(rt, "the log cannot be read to its end\n")
 }

@@ -10,7 +10,7 @@ pub struct Place {
 }
 
 // So many bytes were kept, and the input has come to this place.
-#[derive(Drop)]
+#[derive(Clone, Copy)]
 pub struct Kept {
     pub length: usize,
     pub place: Place,

@@ -65,7 +65,7 @@ pub struct Bank {
 }
 
 // The answer of a call of a replica.
-#[derive(Drop)]
+#[derive(Clone, Copy)]
 pub enum ReplicaAnswer {
     Send(usize),
     Refused(u8),

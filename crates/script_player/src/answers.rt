@@ -9,8 +9,9 @@ use base::slices::{behind, front};
 use base::taking::Taking;
 use base::timestamp::Timestamp;
 use console::{print_hex, print_number, print_timestamp};
+use std::io;
 
-#[derive(Drop)]
+#[derive(Clone, Copy)]
 pub enum Outcome {
     // One of the words below.
     Said(u8),
@@ -40,7 +41,7 @@ const TAKEN: u8 = 7;
 pub const COMMENT: u8 = 8;
 
 // An outcome, with the card of Done beside it.
-#[derive(Drop)]
+#[derive(Clone, Copy)]
 pub struct Answer {
     pub outcome: Outcome,
     pub card_length: u8,
@@ -75,71 +76,83 @@ pub fn taking(answer: Taking) -> Outcome {
 }
 
 fn touched(rest: &[u8]) -> bool {
-    let mut i = 0;
-    while i < rest.len() {
-        if rest[i] != UNTOUCHED {
+    for byte in rest {
+        if *byte != UNTOUCHED {
             return true;
         }
-        i += 1;
     }
     false
 }
 
-fn print_sent(number: usize, message: &[u8]) {
-    console::print(b"sent ");
-    print_number(number as u64);
-    console::print(b" ");
-    print_hex(message);
+fn print_sent(rt: &impl Print, number: usize, message: &[u8]) -> io::Result<()> {
+    console::print(rt, b"sent ")?;
+    print_number(rt, number as u64)?;
+    console::print(rt, b" ")?;
+    print_hex(rt, message)
 }
 
-fn print_done(timestamp: Timestamp, card: &[u8], signers: ReplicaSet) {
-    console::print(b"done ");
-    print_timestamp(timestamp);
-    console::print(b" ");
-    print_hex(card);
-    console::print(b" ");
+fn print_done(
+    rt: &impl Print,
+    timestamp: Timestamp,
+    card: &[u8],
+    signers: ReplicaSet,
+) -> io::Result<()> {
+    console::print(rt, b"done ")?;
+    print_timestamp(rt, timestamp)?;
+    console::print(rt, b" ")?;
+    print_hex(rt, card)?;
+    console::print(rt, b" ")?;
     let bytes = signers.to_bytes();
-    print_hex(&bytes);
+    print_hex(rt, &bytes)
 }
 
-fn print_refused(number: u8) {
-    console::print(b"refused ");
-    print_number(number as u64);
+fn print_refused(rt: &impl Print, number: u8) -> io::Result<()> {
+    console::print(rt, b"refused ")?;
+    print_number(rt, number as u64)
 }
 
-fn print_said(said: u8, line: &[u8]) {
+fn print_said(rt: &impl Print, said: u8, line: &[u8]) -> io::Result<()> {
     if said == COMMENT {
-        console::print(line);
-        return;
+        return console::print(rt, line);
     }
-    console::print(word(
-        b"unread new ready kept restored counted ended taken",
-        said as usize,
-    ));
+    console::print(
+        rt,
+        word(
+            b"unread new ready kept restored counted ended taken",
+            said as usize,
+        ),
+    )
 }
 
 // The line's end, behind `touched` where the call changed a byte of the output that is not the message's.
-fn print_end(rest: &[u8]) {
+fn print_end(rt: &impl Print, rest: &[u8]) -> io::Result<()> {
     if touched(rest) {
-        console::print(b" touched");
+        console::print(rt, b" touched")?;
     }
-    console::print(b"\n");
+    console::print(rt, b"\n")
 }
 
-fn print(answer: Answer, line: &[u8], number: usize, out: &[u8]) {
+fn print(
+    rt: &impl Print,
+    answer: Answer,
+    line: &[u8],
+    number: usize,
+    out: &[u8],
+) -> io::Result<()> {
     let outcome = answer.outcome;
     let card = answer.card;
     match outcome {
-        Outcome::Said(said) => print_said(said, line),
-        Outcome::Sent(n) => print_sent(number, front(out, n)),
+        Outcome::Said(said) => print_said(rt, said, line),
+        Outcome::Sent(n) => print_sent(rt, number, front(out, n)),
         Outcome::Done(timestamp, signers) => {
             print_done(
+                rt,
                 timestamp,
                 front(&card, answer.card_length as usize),
                 signers,
-            );
+            )
         }
-        Outcome::Refused(refusal) => print_refused(refusal),
+        Outcome::Refused(refusal) => print_refused(rt, refusal),
     }
 }
 
@@ -155,24 +168,33 @@ fn sent_length(outcome: Outcome) -> usize {
 fn sent_after(answer: Answer, sent: usize) -> usize {
     let outcome = answer.outcome;
     match outcome {
-        Outcome::Sent(_) => std::num::wrapping_add_usize(sent, 1),
+        Outcome::Sent(_) => sent.wrapping_add(1),
         Outcome::Said(said) => if said == NEW { 0 } else { sent },
         _ => sent,
     }
 }
 
 // Prints the answer to a line and keeps the message, if any; `sent` came before it.
-fn report(answer: Answer, line: &[u8], out: &[u8; OUTPUT], store: &mut Store, sent: usize) {
-    let number = std::num::wrapping_add_usize(sent, 1);
+fn report(
+    rt: &impl Print,
+    answer: Answer,
+    line: &[u8],
+    out: &[u8; OUTPUT],
+    store: &mut Store,
+    sent: usize,
+) -> io::Result<()> {
+    let number = sent.wrapping_add(1);
     let outcome = answer.outcome;
     let length = sent_length(outcome);
-    print(answer, line, number, out);
-    print_end(behind(out, length));
+    print(rt, answer, line, number, out)?;
+    print_end(rt, behind(out, length))?;
     crate::log::keep(store, number, front(out, length));
+    Ok(())
 }
 
 // Prints the answer to a line, and notes what it leaves.
 pub fn finish(
+    rt: &impl Print,
     answer: Answer,
     task: Task,
     line: &[u8],
@@ -180,9 +202,10 @@ pub fn finish(
     held: &mut Held,
     store: &mut Store,
     sent: &mut usize,
-) {
+) -> io::Result<()> {
     let before = *sent;
-    report(answer, line, out, store, before);
+    report(rt, answer, line, out, store, before)?;
     hold(held, task, answer);
     *sent = sent_after(answer, before);
+    Ok(())
 }

@@ -8,6 +8,7 @@ use base::party::{ClientId, RegisterId, Setup};
 use base::slices::front;
 use client::Stepped;
 use protocol::client::{Client, ClientAnswer};
+use std::io;
 
 // What a call leaves.
 #[derive(Drop)]
@@ -105,13 +106,14 @@ fn call(
 
 // What a line about a client does: answers the record that it leaves.
 pub fn turn(
+    rt: &impl Print,
     before: Client,
     task: Task,
     line: &[u8],
     held: &mut Held,
     store: &mut Store,
     sent: &mut usize,
-) -> Client {
+) -> io::Result<Client> {
     let mut message = [0u8; 4_096];
     let mut verdicts = [1u8; 400];
     let mut out = untouched();
@@ -127,6 +129,6 @@ pub fn turn(
     let called = call(before, asked, &message, &verdicts, &mut out[0..room]);
     let client = called.client;
     let answer = called.answer;
-    finish(answer, task, line, &out, held, store, sent);
-    client
+    finish(rt, answer, task, line, &out, held, store, sent)?;
+    Ok(client)
 }

@@ -25,13 +25,14 @@ mod viewers;
 mod words;
 
 use base::slices::front;
-use libc::STDIN_FILENO;
+use std::io;
+use std::io::Read;
 use tasks::{CLIENT_PLACES, REPLICA_PLACES, VIEWER_PLACES, Whom, place};
 
 const SCRIPT: usize = 1_048_576;
 
 // The records are made here: another function's result would stand on the stack a second time, and they fill half of it.
-fn play_lines(script: &[u8]) {
+fn play_lines(rt: &impl Print, script: &[u8]) -> io::Result<()> {
     let mut replicas = [replicas::nobody(); REPLICA_PLACES];
     let mut clients = [clients::nobody(); CLIENT_PLACES];
     let mut viewers = [viewers::nobody(); VIEWER_PLACES];
@@ -50,60 +51,65 @@ fn play_lines(script: &[u8]) {
                 let taken = place(task.taken, 33);
                 let left = place(task.left, 33);
                 let replica = replicas::turn(
+                    rt,
                     replicas[taken],
                     task,
                     line,
                     &mut held,
                     &mut store,
                     &mut sent,
-                );
+                )?;
                 replicas[left] = replica;
             }
             Whom::Client => {
                 let taken = place(task.taken, 129);
                 let left = place(task.left, 129);
                 let client = clients::turn(
+                    rt,
                     clients[taken],
                     task,
                     line,
                     &mut held,
                     &mut store,
                     &mut sent,
-                );
+                )?;
                 clients[left] = client;
             }
             Whom::Viewer => {
                 let taken = place(task.taken, 65);
                 let left = place(task.left, 65);
                 let viewer = viewers::turn(
+                    rt,
                     viewers[taken],
                     task,
                     line,
                     &mut held,
                     &mut store,
                     &mut sent,
-                );
+                )?;
                 viewers[left] = viewer;
             }
         }
     }
+    Ok(())
 }
 
 fn empty() -> [u8; SCRIPT] {
     [0; SCRIPT]
 }
 
-fn read(script: &mut [u8; SCRIPT]) -> usize {
-    io::read_full(STDIN_FILENO, script)
+fn read(input: &mut impl Read, script: &mut [u8; SCRIPT]) -> io::Result<usize> {
+    console::read_full(input, script)
 }
 
-fn play(script: &[u8; SCRIPT], n: usize) {
-    play_lines(front(script, n));
+fn play(rt: &impl Print, script: &[u8; SCRIPT], n: usize) -> io::Result<()> {
+    play_lines(rt, front(script, n))
 }
 
-fn main() {
+fn main(rt: HostRuntime) -> io::Result<()> {
+    let mut stdin = rt.stdin();
     let mut script = empty();
-    let n = read(&mut script);
-    play(&script, n);
-    console::say_rest(n, SCRIPT);
+    let n = read(&mut stdin, &mut script)?;
+    play(&rt, &script, n)?;
+    console::say_rest(&rt, &mut stdin, n, SCRIPT)
 }

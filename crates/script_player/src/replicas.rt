@@ -5,6 +5,7 @@ use crate::tasks::{Call, Held, Task, behind_lent, lent};
 use base::party::{ReplicaId, Setup};
 use base::slices::front;
 use protocol::replica::{Bank, ReplicaAnswer};
+use std::io;
 
 // What a call leaves.
 #[derive(Drop)]
@@ -86,13 +87,14 @@ fn call(
 
 // What a line about a replica does: answers the record that it leaves.
 pub fn turn(
+    rt: &impl Print,
     before: Bank,
     task: Task,
     line: &[u8],
     held: &mut Held,
     store: &mut Store,
     sent: &mut usize,
-) -> Bank {
+) -> io::Result<Bank> {
     let mut message = [0u8; 4_096];
     let mut verdicts = [1u8; 400];
     let mut out = untouched();
@@ -108,6 +110,6 @@ pub fn turn(
     let called = call(before, asked, &message, &verdicts, &mut out[0..room]);
     let bank = called.bank;
     let outcome = called.outcome;
-    finish(plain(outcome), task, line, &out, held, store, sent);
-    bank
+    finish(rt, plain(outcome), task, line, &out, held, store, sent)?;
+    Ok(bank)
 }

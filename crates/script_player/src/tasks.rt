@@ -9,7 +9,7 @@ use text::decimal::{Numeral, decimal_byte, decimal_or_zero, read_decimal};
 use text::hex::Digit;
 
 // Whom a line is about.
-#[derive(Drop)]
+#[derive(Clone, Copy)]
 pub enum Whom {
     Replica,
     Client,
@@ -17,7 +17,7 @@ pub enum Whom {
 }
 
 // What is asked of a party, with the lengths of what it is handed once that is read.
-#[derive(Drop)]
+#[derive(Clone, Copy)]
 pub enum Call {
     // f, number and first nonce; a replica has no use for the nonce.
     SetUp(u8, u8, u64),
@@ -37,7 +37,7 @@ pub enum Call {
 }
 
 // A call, with the place of the record that it takes and the place where it leaves one.
-#[derive(Drop)]
+#[derive(Clone, Copy)]
 pub struct Task {
     pub whom: Whom,
     pub call: Call,
@@ -191,8 +191,7 @@ fn of_party(whom: Whom, call: Call, taken: usize, left: usize, held: &Held) -> T
 
 // Which command a word is, by its place among them.
 fn command(name: &[u8]) -> usize {
-    let mut n = 0;
-    while n < NO_COMMAND {
+    for n in 0..NO_COMMAND {
         let listed = word(
             b"to-replica to-client to-viewer write read view lent replica client viewer keep restore order hand",
             n,
@@ -200,9 +199,8 @@ fn command(name: &[u8]) -> usize {
         if check::same(listed, name) {
             return n;
         }
-        n += 1;
     }
-    n
+    NO_COMMAND
 }
 
 fn set_up(whom: Whom, f: &[u8], id: &[u8], nonce: &[u8]) -> Task {

@@ -7,6 +7,7 @@ use base::party::{ClientId, RegisterId, Setup};
 use base::slices::front;
 use client::viewer;
 use client::viewer::{Viewer, ViewerStepped};
+use std::io;
 
 // What a call leaves.
 #[derive(Drop)]
@@ -79,13 +80,14 @@ fn call(
 
 // What a line about a viewing client does: answers the record that it leaves.
 pub fn turn(
+    rt: &impl Print,
     before: Viewer,
     task: Task,
     line: &[u8],
     held: &mut Held,
     store: &mut Store,
     sent: &mut usize,
-) -> Viewer {
+) -> io::Result<Viewer> {
     let mut message = [0u8; 4_096];
     let mut verdicts = [1u8; 400];
     let mut out = untouched();
@@ -101,6 +103,6 @@ pub fn turn(
     let called = call(before, asked, &message, &verdicts, &mut out[0..room]);
     let viewer = called.viewer;
     let answer = called.answer;
-    finish(answer, task, line, &out, held, store, sent);
-    viewer
+    finish(rt, answer, task, line, &out, held, store, sent)?;
+    Ok(viewer)
 }

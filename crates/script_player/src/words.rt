@@ -6,10 +6,8 @@ use text::line::word_end;
 // Where the word with a number starts, from 0.
 fn start(line: &[u8], number: usize) -> usize {
     let mut at = 0;
-    let mut n = 0;
-    while n < number {
-        at = std::num::wrapping_add_usize(word_end(line, at), 1);
-        n += 1;
+    for _ in 0..number {
+        at = word_end(line, at).wrapping_add(1);
     }
     at
 }
