@@ -17,6 +17,7 @@ fn before_signature(reply: &[u8]) -> &[u8]
     front(reply, difference(reply.len(), SIGNATURE))
 }
 
+#[tactic(auto, using(std::proofs::lemmas::Bool::Decides::nat_tests), unfolding(crate::specs::Log::same_but_signature))]
 fn same_but_signature(sent: &[u8], reply: &[u8]) -> bool
     ensures { result ≡ same_but_signature sent.now reply.now }
 {

@@ -17,6 +17,7 @@ const LMOTS_SHA256_N32_W8: u32 = 4;
 
 const LMS_SHA256_M32_H5: u32 = 5;
 
+#[tactic(auto, using(std::proofs::lemmas::Bool::Decides::nat_tests), unfolding(crate::specs::Lms::is_public_key))]
 pub fn is_public_key(key: &[u8]) -> bool
     ensures { result ≡ is_public_key key.now }
 {

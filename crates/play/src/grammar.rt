@@ -90,6 +90,7 @@ fn numeral(digits: &[u8]) -> usize
 }
 
 // A message's number has no leading zero.
+#[tactic(auto, using(std::proofs::lemmas::Bool::Decides::nat_tests), unfolding(crate::specs::Grammar::message_number))]
 fn message_number(digits: &[u8]) -> usize
     ensures { result ≡ message_number digits.now }
 {
