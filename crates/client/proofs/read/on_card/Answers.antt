@@ -19,9 +19,6 @@ returns-then-not-is_awaited c =
     let fails = sym c.is_awaited.ensures ∙ c.if-not-is_awaited.true in
     rw (card_refused (after_cards a.role) a.client a.sender a.nonce a.card.now (prepared_part a.proof.now) a.addressed a.phase c.in-Cards.asked c.in-Cards.best c.in-Cards.counted c.in-Cards.showed c.in-Cards.is fails) (plain_call c.refused-then-not-is_awaited.result a.out.now a.client (Refused 18) c.refused-then-not-is_awaited.ensures)
 
-pub keep_better_card-client-requires : goal.keep_better_card-client-requires
-keep_better_card-client-requires c = search rules
-
 pub count_card-requires : goal.count_card-requires
 count_card-requires c = c.requires.0
 
