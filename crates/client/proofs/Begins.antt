@@ -4,7 +4,7 @@ use mathlib.Core.Bool.{Bool, true, false, cond}
 use mathlib.Core.List.{List}
 use Prim.Native.Nat.{ℕ, ◌+◌, ◌^◌, ◌≤◌, ◌<◌}
 use native.Mathlib.Omega.{arith}
-use borrow.Author.Tests.{lt-ltb, le-ltb, ltb-true, ltb-false, leb-true}
+use borrow.Author.Tests.{ltb-true, leb-true}
 use lib.Dec.{leb, ltb}
 use lib.ListN.{length}
 use Rattle.base.specs.Outcome.{Outcome, refused, guard}
@@ -15,8 +15,6 @@ use Rattle.wire.specs.Message.{longest}
 use Rattle.protocol.specs.Client.{Turn, is_idle, may_begin}
 use Rattle.protocol.specs.RegisterReplica.{with_output}
 use Rattle.protocol.specs.declared.client.Client.{Client}
-use Rattle.protocol.specs.declared.client.Phase.{Phase}
-use Rattle.protocol.specs.declared.client.Phase.TheVariants.{Idle, Stamps, Prepareds, Writtens, Cards, WriteBack}
 use Rattle.client.specs.Beginning.{barred_by}
 
 module _ (old : List ℕ) (register : RegisterId) (number : ℕ) (e : number ≡ barred_by (length old) register) where

@@ -5,7 +5,6 @@ use Rattle.protocol.specs.declared.client.ClientAnswer.TheVariants.{Refused}
 use Rattle.client.specs.Roles.{after_cards}
 use Rattle.client.proofs.Answering.{plain_call}
 use Rattle.client.proofs.Phases.{no_cards, card_refused, card_taken}
-use borrow.Author.Rules.{rules}
 use Rattle.client.proofs.read.on_card.Goals as goal
 
 pub returns-in_default : goal.returns-in_default

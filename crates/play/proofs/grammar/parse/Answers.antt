@@ -1,7 +1,7 @@
 -- `play::grammar::parse` meets its contract.
-use Rattle.std.proofs.Common.{◌≡◌, sym, ◌∙◌, true, ◌-◌, arith}
+use Rattle.std.proofs.Common.{◌≡◌, sym, ◌∙◌, true, arith}
 use Rattle.std.proofs.lemmas.Grind.{common_steps}
-use Rattle.play.specs.Grammar.{asked, short, command}
+use Rattle.play.specs.Grammar.{short, command}
 use Rattle.base.specs.Range.{within}
 use Rattle.base.proofs.Range.{bounds}
 use Rattle.play.proofs.grammar.parse.Goals as goal
