@@ -4,7 +4,7 @@ use mathlib.Core.Bool.{Bool, true, false, cond}
 use mathlib.Core.List.{List}
 use Prim.Native.Nat.{ℕ, ◌+◌, ◌^◌, ◌≤◌, ◌<◌}
 use native.Mathlib.Omega.{arith}
-use borrow.Author.Tests.{lt-ltb, le-ltb, ltb-true, ltb-false, leb-true}
+use borrow.Author.Tests.{ltb-true, leb-true}
 use lib.Dec.{leb, ltb}
 use lib.ListN.{length}
 use Rattle.base.specs.Outcome.{Outcome, refused, guard}
@@ -15,8 +15,6 @@ use Rattle.wire.specs.Message.{longest}
 use Rattle.protocol.specs.Client.{Turn, is_idle, may_begin}
 use Rattle.protocol.specs.RegisterReplica.{with_output}
 use Rattle.protocol.specs.declared.client.Client.{Client}
-use Rattle.protocol.specs.declared.client.Phase.{Phase}
-use Rattle.protocol.specs.declared.client.Phase.TheVariants.{Idle, Stamps, Prepareds, Writtens, Cards, WriteBack}
 use Rattle.client.specs.Beginning.{barred_by}
 
 module _ (old : List ℕ) (register : RegisterId) (number : ℕ) (e : number ≡ barred_by (length old) register) where
@@ -38,22 +36,6 @@ module _ (old : List ℕ) (register : RegisterId) (number : ℕ) (e : number ≡
       go true true h = absurd (some h)
       go true false h = ap refused (sym h)
       go false named h = ap refused (sym h)
-
-pub busy : (phase : Phase) → (phase ≡ Idle → ⊥) → is_idle phase ≡ false
-busy Idle k = absurd (k refl)
-busy (Stamps nonce best counted) k = refl
-busy (Prepareds timestamp counted) k = refl
-busy (Writtens timestamp counted) k = refl
-busy (Cards nonce best counted showed) k = refl
-busy (WriteBack timestamp counted) k = refl
-
--- A nonce below the last one has a next one.
-pub next_fits : (n : ℕ) → ltb n 18_446_744_073_709_551_615 ≡ ltb (n + 1) (2 ^ 64)
-next_fits n = go (ltb n 18_446_744_073_709_551_615) refl
-  where
-    go : (b : Bool) → ltb n 18_446_744_073_709_551_615 ≡ b → b ≡ ltb (n + 1) (2 ^ 64)
-    go true e = let less = ltb-true n 18_446_744_073_709_551_615 e in sym (lt-ltb (n + 1) (2 ^ 64) (omega arith))
-    go false e = let more = ltb-false n 18_446_744_073_709_551_615 e in sym (le-ltb (n + 1) (2 ^ 64) (omega arith))
 
 pub nonce_left : (client : Client) → may_begin client ≡ true → client.last_nonce + 1 < 2 ^ 64
 nonce_left client h = ltb-true (client.last_nonce + 1) (2 ^ 64) (and_true_both (is_idle client.phase) (ltb (client.last_nonce + 1) (2 ^ 64)) h).1

@@ -5,7 +5,6 @@ use Rattle.protocol.specs.declared.client.ClientAnswer.TheVariants.{Refused}
 use Rattle.client.specs.Roles.{after_cards}
 use Rattle.client.proofs.Answering.{plain_call}
 use Rattle.client.proofs.Phases.{no_cards, card_refused, card_taken}
-use borrow.Author.Rules.{rules}
 use Rattle.client.proofs.read.on_card.Goals as goal
 
 pub returns-in_default : goal.returns-in_default
@@ -18,9 +17,6 @@ returns-then-not-is_awaited c =
     let a = c.args in
     let fails = sym c.is_awaited.ensures ∙ c.if-not-is_awaited.true in
     rw (card_refused (after_cards a.role) a.client a.sender a.nonce a.card.now (prepared_part a.proof.now) a.addressed a.phase c.in-Cards.asked c.in-Cards.best c.in-Cards.counted c.in-Cards.showed c.in-Cards.is fails) (plain_call c.refused-then-not-is_awaited.result a.out.now a.client (Refused 18) c.refused-then-not-is_awaited.ensures)
-
-pub keep_better_card-client-requires : goal.keep_better_card-client-requires
-keep_better_card-client-requires c = search rules
 
 pub count_card-requires : goal.count_card-requires
 count_card-requires c = c.requires.0

@@ -7,6 +7,11 @@ use lib.ListN.{length, take, drop, set, length-set, length-take, length-drop}
 use Rattle.base.proofs.Stored.{stored_fits}
 use Rattle.client.proofs.Gathering.{taken_room, byte_then}
 use Rattle.client.proofs.signatures.add_entry.Goals as goal
+use Rattle.client.proofs.signatures.add_entry.Goals.{Else-not-is_taken}
+
+-- There is room for one entry more.
+room : (c : Else-not-is_taken) → c.args.count < 11
+room c = let a = c.args in taken_room a.counted a.id a.count (sym c.is_taken.ensures ∙ c.if-not-is_taken.false)
 
 pub returns-then-not-is_taken : goal.returns-then-not-is_taken
 returns-then-not-is_taken c =
@@ -15,23 +20,20 @@ returns-then-not-is_taken c =
 
 pub bounds-entries-at : goal.bounds-entries-at
 bounds-entries-at c =
-    let room : c.args.count < 11 = let a = c.args in taken_room a.counted a.id a.count (sym c.is_taken.ensures ∙ c.if-not-is_taken.false) in
-    let few = room in omega (arith, c.requires)
+    let few = room (goal.at.bounds-entries-at c).Else-not-is_taken in omega (arith, c.requires)
 
 pub overflow_add-result : goal.overflow_add-result
 overflow_add-result c =
-    let room : c.args.count < 11 = let a = c.args in taken_room a.counted a.id a.count (sym c.is_taken.ensures ∙ c.if-not-is_taken.false) in
-    let few = room in omega arith
+    let few = room (goal.at.overflow_add-result c).Else-not-is_taken in omega arith
 
 pub shape_of-entries : goal.shape_of-entries
 shape_of-entries c = c.put.auto.out ∙ simp length-set
 
 pub returns : goal.returns
 returns c =
-    let room : c.args.count < 11 = let a = c.args in taken_room a.counted a.id a.count (sym c.is_taken.ensures ∙ c.if-not-is_taken.false) in
     let a = c.args in
     let there = sym c.is_taken.ensures ∙ c.if-not-is_taken.false in
-    let few = room in
+    let few = room (goal.at.returns c).Else-not-is_taken in
     let at = 65 * a.count in
     let from = 64 * (a.id.0 - 1) in
     let wide : from + 64 - from ≡ 64 = omega arith in

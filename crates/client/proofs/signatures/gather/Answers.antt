@@ -3,18 +3,11 @@ use mathlib.Core.Path.{◌≡◌, refl, ◌∙◌}
 use Prim.Native.Nat.{suc, ◌+◌}
 use native.Mathlib.Numerals.{add-one}
 use native.Mathlib.Omega.{arith}
-use borrow.Author.Rules.{rules}
 use Rattle.client.proofs.Gathering.{gathered_more, nothing_gathered}
 use Rattle.client.proofs.signatures.gather.Goals as goal
 
 pub loop-id-init : goal.loop-id-init
 loop-id-init c = let a = c.args in (rw c.empty-signers.ensures (nothing_gathered a.counted a.signatures.now), omega arith, refl)
-
-pub overflow_add-id : goal.overflow_add-id
-overflow_add-id c = search rules
-
-pub slice_bounds-add_entry-end : goal.slice_bounds-add_entry-end
-slice_bounds-add_entry-end c = search rules
 
 pub add_entry-count-requires : goal.add_entry-count-requires
 add_entry-count-requires c = omega arith

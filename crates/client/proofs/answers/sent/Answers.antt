@@ -1,8 +1,0 @@
--- `client::answers::sent` meets its contract.
-use Rattle.client.proofs.answers.sent.Goals as goal
-
-pub returns-in-Length : goal.returns-in-Length
-returns-in-Length c = rw c.in-Length.is c.plain.ensures
-
-pub returns-in-Refused : goal.returns-in-Refused
-returns-in-Refused c = rw c.in-Refused.is c.refused.ensures

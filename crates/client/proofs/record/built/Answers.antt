@@ -1,5 +1,0 @@
--- `client::record::built` meets its contract.
-use Rattle.client.proofs.record.built.Goals as goal
-
-pub returns : goal.returns
-returns c = rw c.replica_count.ensures at c.gather.ensures

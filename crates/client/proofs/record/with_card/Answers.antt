@@ -1,5 +1,0 @@
--- `client::record::with_card` meets its contract.
-use Rattle.client.proofs.record.with_card.Goals as goal
-
-pub returns : goal.returns
-returns c = rw c.card_array-kept.ensures

@@ -1,5 +1,0 @@
--- `client::record::written_for` meets its contract.
-use Rattle.client.proofs.record.written_for.Goals as goal
-
-pub returns : goal.returns
-returns c = rw c.register_place-at.ensures.0

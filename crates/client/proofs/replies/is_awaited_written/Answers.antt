@@ -1,9 +1,0 @@
--- `client::replies::is_awaited_written` meets its contract.
-use mathlib.Core.Path.{sym, ◌∙◌}
-use Rattle.client.proofs.replies.is_awaited_written.Goals as goal
-
-pub returns-then-not-is : goal.returns-then-not-is
-returns-then-not-is c = rw (sym c.is.ensures ∙ c.if-not-is.true)
-
-pub returns : goal.returns
-returns c = rw (sym c.is.ensures ∙ c.if-not-is.false, c.is_new.ensures)

@@ -1,5 +1,0 @@
--- `client::replies::is_new` meets its contract.
-use Rattle.client.proofs.replies.is_new.Goals as goal
-
-pub returns : goal.returns
-returns c = rw c.has.ensures

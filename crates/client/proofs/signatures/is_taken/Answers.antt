@@ -1,9 +1,0 @@
--- `client::signatures::is_taken` meets its contract.
-use mathlib.Core.Path.{sym, ◌∙◌}
-use Rattle.client.proofs.signatures.is_taken.Goals as goal
-
-pub returns-then-not-has : goal.returns-then-not-has
-returns-then-not-has c = rw (sym c.has.ensures ∙ c.if-not-has.true)
-
-pub returns : goal.returns
-returns c = rw (sym c.has.ensures ∙ c.if-not-has.false)

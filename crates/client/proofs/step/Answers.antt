@@ -1,5 +1,0 @@
--- `client::step` meets its contract.
-use Rattle.client.proofs.step.Goals as goal
-
-pub returns : goal.returns
-returns c = c.hear.ensures

@@ -1,5 +1,0 @@
--- `client::viewer::begin_view` meets its contract.
-use Rattle.client.proofs.viewer.begin_view.Goals as goal
-
-pub returns : goal.returns
-returns c = rw c.viewed.ensures c.begin_read.ensures
