@@ -3,7 +3,7 @@ use std::fmt;
 use std::io::{self, Write};
 use std::process::{Command, Stdio};
 
-/// How much of its input a program takes that reads into `console::huge_buffer`.
+/// How much of its input a program takes that reads into `console::zeros::<262_144>`.
 pub const HUGE_BUFFER: usize = 262_144;
 
 pub struct Program {

@@ -6,9 +6,10 @@ use Prim.Native.Nat.{ℕ, suc, ◌+◌, ◌≤◌}
 use native.Mathlib.Omega.{arith}
 use lib.ListN.{length, drop, length-append}
 use lib.Seq.{drop-drop}
+use Rattle.protocol.specs.Events.{bank_after}
 use Rattle.protocol.specs.declared.replica.Bank.{Bank}
 use Rattle.audit.specs.Judging.{Agreed}
-use Rattle.audit.specs.Log.{LogEntry, front_of, bank_after, wrong, judged_from}
+use Rattle.audit.specs.Log.{LogEntry, front_of, wrong, judged_from}
 use Rattle.audit.specs.Replaying.{entry_bytes, log_bytes, Agrees, AllAgree, bank_after_all}
 use Rattle.audit.proofs.Judged.{judged_some}
 use Rattle.audit.proofs.Written.{entry_written}

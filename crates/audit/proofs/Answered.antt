@@ -28,7 +28,7 @@ use Rattle.wire.proofs.ReadingByKind.{decode_tested}
 use Rattle.wire.proofs.Size.{encode_size}
 use Rattle.wire.proofs.Tests7To11.{shaped_few}
 use Rattle.protocol.specs.Bank.{place_in, bank_step}
-use Rattle.protocol.specs.Events.{ReplicaEvent, request_handed, order_handed, HandsBytes, bank_turn, order_turn}
+use Rattle.protocol.specs.Events.{ReplicaEvent, request_handed, order_handed, HandsBytes, bank_turn, order_turn, expected, bank_after}
 use Rattle.protocol.specs.Order.{take_order}
 use Rattle.protocol.specs.RegisterReplica.{Reply}
 use Rattle.protocol.specs.declared.replica.Bank.{Bank}
@@ -36,7 +36,7 @@ use Rattle.protocol.proofs.ArrayLaws.{blank_signature_lem}
 use Rattle.protocol.proofs.GoodBank.{GoodBank, MessageTaken, message_taken}
 use Rattle.protocol.proofs.OrderFacts.{took}
 use Rattle.protocol.proofs.Refusals.{refusal_range}
-use Rattle.audit.specs.Log.{expected, bank_after, before_signature, same_but_signature, agrees}
+use Rattle.audit.specs.Log.{before_signature, same_but_signature, agrees}
 use Rattle.audit.specs.Own.{signed_with, recorded_for, entry_for, is_logged}
 use Rattle.audit.specs.Replaying.{ReceivedFits, RecordedFits, Agrees}
 
@@ -107,7 +107,7 @@ pub record Answered (signature : List ℕ) (bank : Bank) (call : ReplicaEvent) :
 
 module _ (signature : List ℕ) (bank : Bank) (good : GoodBank bank) where
   message_answered : (bytes verdicts : List ℕ) → Bytes bytes → Answered signature bank (request_handed bytes verdicts)
-  unfolding expected bank_after
+  unfolding expected
   message_answered bytes verdicts small = go (bank_step bank bytes verdicts) refl
     where
       go : (o : Outcome Reply) → bank_step bank bytes verdicts ≡ o → Answered signature bank (request_handed bytes verdicts)
@@ -128,7 +128,7 @@ module _ (signature : List ℕ) (bank : Bank) (good : GoodBank bank) where
           record { fits = rw e (range.0, omega (arith, range.1)); agree = rw e (eq-eqb n n refl); unlogged = λ not_there. rw e }
 
   order_answered : (order : List ℕ) → Answered signature bank (order_handed order)
-  unfolding expected bank_after same_but_signature
+  unfolding expected same_but_signature
   order_answered order = go (take_order bank order) refl
     where
       go : (o : Outcome Bank) → take_order bank order ≡ o → Answered signature bank (order_handed order)

@@ -13,10 +13,11 @@ use Rattle.base.specs.BigEndian.{Bytes}
 use Rattle.base.specs.Outcome.{Outcome, accepted, refused}
 use Rattle.base.proofs.Apart.{apart}
 use Rattle.base.proofs.BigEndian.{bytes_drop}
+use Rattle.protocol.specs.Events.{expected, bank_after}
 use Rattle.protocol.specs.Bank.{fresh_bank}
 use Rattle.protocol.specs.declared.replica.Bank.{Bank}
 use Rattle.protocol.proofs.SetUp.{set_up_cases}
-use Rattle.audit.specs.Log.{LogEntry, Front, front_of, expected, bank_after, agrees, entry_in, right, wrong, judged_from, head_length, fault_bound_in, replica_id_in, key_in, set_up_in, fresh_in, head_outcome, judged_if_set_up, judged}
+use Rattle.audit.specs.Log.{LogEntry, Front, front_of, agrees, entry_in, right, wrong, judged_from, head_length, fault_bound_in, replica_id_in, key_in, set_up_in, fresh_in, head_outcome, judged_if_set_up, judged}
 use Rattle.audit.specs.Replaying.{HeadFails, entry_bytes, log_bytes, head_bytes, Agrees, AllAgree, bank_after_all, Replays, Stops}
 use Rattle.audit.proofs.Agreeing.{judged_all}
 use Rattle.audit.proofs.Entries.{entry_shorter}

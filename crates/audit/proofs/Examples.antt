@@ -17,15 +17,15 @@ use Rattle.wire.specs.Message.{fields, joined, body, encode}
 use Rattle.wire.specs.Order.{is_order}
 use Rattle.wire.specs.Writing.{blank_signature}
 use Rattle.protocol.specs.Bank.{no_register, bank_step}
-use Rattle.protocol.specs.Events.{request_handed, order_handed}
+use Rattle.protocol.specs.Events.{request_handed, order_handed, expected}
 use Rattle.protocol.specs.Order.{ordered, take_order}
 use Rattle.protocol.specs.RegisterReplica.{fresh_register, register_step, on_request}
-use Rattle.audit.specs.Log.{replied, refusal, expected, bank_after, same_but_signature, prefixed_in, request_in, order_in, received_in, recorded_in, entry_in, right, wrong, judged_within, judged_from, judged}
+use Rattle.audit.specs.Log.{replied, refusal, same_but_signature, prefixed_in, request_in, order_in, received_in, recorded_in, entry_in, right, wrong, judged_within, judged_from, judged}
 use Rattle.audit.specs.Replaying.{log_bytes, head_bytes}
 
 -- What opens for a log to compute.
 unfoldable judging : Unit {0}
-unfolding from_bytes to_bytes guard within same has is_public_key admits admitted entries_of all one_verdict_each proven checked kinds of_kind framed message_in decode rules place field fields joined body encode is_order blank_signature no_register bank_step ordered take_order fresh_register register_step on_request expected bank_after same_but_signature prefixed_in request_in order_in received_in recorded_in entry_in judged_within judged_from judged log_bytes
+unfolding from_bytes to_bytes guard within same has is_public_key admits admitted entries_of all one_verdict_each proven checked kinds of_kind framed message_in decode rules place field fields joined body encode is_order blank_signature no_register bank_step ordered take_order fresh_register register_step on_request expected same_but_signature prefixed_in request_in order_in received_in recorded_in entry_in judged_within judged_from judged log_bytes
 judging = tt
 
 -- A key that no order is signed under.

@@ -7,15 +7,13 @@ use borrow.Author.Tests.{le-leb, lt-leb}
 use lib.Dec.{leb}
 use lib.ListN.{length, drop, length-append, take-append-drop}
 use lib.Seq.{take_at, drop_at}
-use Rattle.base.specs.Outcome.{Outcome, accepted, refused, guard}
-use Rattle.base.specs.Party.{setup_outcome}
-use Rattle.base.specs.Range.{within}
+use Rattle.base.specs.Outcome.{Outcome, accepted, refused, ◌>>=◌}
 use Rattle.base.specs.declared.party.ReplicaId.{ReplicaId}
 use Rattle.base.proofs.Outcome.{guard_passes, guard_refuses}
-use Rattle.protocol.specs.Bank.{fresh_bank, bank_if_set_up, bank_setup, made_bank}
+use Rattle.protocol.specs.Bank.{fresh_bank, bank_setup}
 use Rattle.protocol.proofs.SetUp.{set_up_key}
-use Rattle.bank.specs.declared.NewBank.{NewBank}
-use Rattle.audit.specs.Judging.{SetsUp}
+use Rattle.bank.specs.Making.{new_bank}
+use Rattle.audit.specs.Judging.{begun}
 use Rattle.audit.specs.Log.{judged_from, head_length, fault_bound_in, replica_id_in, key_in, set_up_in, fresh_in, head_outcome, judged_if_set_up, judged}
 use Rattle.audit.specs.Replaying.{head_bytes}
 
@@ -27,16 +25,14 @@ module _ (log : List ℕ) where
   long_set_up h = guard_passes 16 (leb head_length (length log)) (set_up_in log) (le-leb head_length (length log) h)
 
   -- What the code sets up: nothing from a short head,
-  module _ (r : NewBank) where
-    pub begins_short : length log < head_length → setup_outcome r.setup ≡ bank_setup 0 (record { 0 = 0 }) log → r.bank ≡ made_bank 0 (record { 0 = 0 }) log → SetsUp log r
-    unfolding guard within made_bank
-    begins_short h e made =
-        record { set_up = e ∙ sym (short_refused h); bank_is = made ∙ ap (λ (o : Outcome (Unit {0})). bank_if_set_up o (fresh_in log)) (sym (short_refused h)) }
+  pub begins_short : length log < head_length → refused 16 ≡ begun log
+  unfolding begun
+  begins_short h = ap (λ (o : Outcome (Unit {0})). o >>= λ ready. accepted (fresh_in log)) (sym (short_refused h))
 
-    pub begins_long : head_length ≤ length log → setup_outcome r.setup ≡ set_up_in log → r.bank ≡ made_bank (fault_bound_in log) (replica_id_in log) (key_in log) → SetsUp log r
-    unfolding made_bank
-    begins_long h e made =
-        record { set_up = e ∙ sym (long_set_up h); bank_is = made ∙ ap (λ (o : Outcome (Unit {0})). bank_if_set_up o (fresh_in log)) (sym (long_set_up h)) }
+  -- and what a longer one says.
+  pub begins_long : head_length ≤ length log → new_bank (fault_bound_in log) (replica_id_in log) (key_in log) ≡ begun log
+  unfolding begun
+  begins_long h = ap (λ (o : Outcome (Unit {0})). o >>= λ ready. accepted (fresh_in log)) (sym (long_set_up h))
 
 -- A log is its head and what is behind it.
 pub head_split : (log : List ℕ) → head_length ≤ length log → log ≡ head_bytes (fault_bound_in log) (replica_id_in log) (key_in log) ++ drop head_length log

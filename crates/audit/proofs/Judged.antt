@@ -6,8 +6,9 @@ use mathlib.Core.Option.{Option, none, some}
 use Prim.Native.Nat.{ℕ, zero, suc, ◌≤◌}
 use native.Mathlib.Omega.{arith}
 use lib.ListN.{length}
+use Rattle.protocol.specs.Events.{expected, bank_after}
 use Rattle.protocol.specs.declared.replica.Bank.{Bank}
-use Rattle.audit.specs.Log.{LogEntry, Front, expected, bank_after, agrees, entry_in, Judgement, right, wrong, judged_by, judged_within, judged_from}
+use Rattle.audit.specs.Log.{LogEntry, Front, agrees, entry_in, Judgement, right, wrong, judged_by, judged_within, judged_from}
 use Rattle.audit.proofs.Entries.{entry_shorter}
 
 within_end : (k : ℕ) (bank : Bank) (number : ℕ) → judged_within k bank number [] ≡ right

@@ -7,7 +7,6 @@ pub mod Exactly
 pub mod Examples
 pub mod Heads
 pub mod Judged
-pub mod Moving
 pub mod Own
 pub mod Parts
 pub mod Places

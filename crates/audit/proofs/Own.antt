@@ -11,13 +11,13 @@ use lib.ListN.{get_elem?}
 use Rattle.base.specs.Outcome.{accepted}
 use Rattle.base.specs.declared.party.ReplicaId.{ReplicaId}
 use Rattle.protocol.specs.Bank.{fresh_bank, bank_setup}
-use Rattle.protocol.specs.Events.{ReplicaEvent}
+use Rattle.protocol.specs.Events.{ReplicaEvent, expected, bank_after}
 use Rattle.protocol.specs.declared.replica.Bank.{Bank}
 use Rattle.protocol.proofs.GoodBank.{GoodBank, fresh_good, event_keeps}
 use Rattle.protocol.proofs.SetUp.{set_up_passes, set_up_id}
 use Rattle.run.specs.Run.{Event, at_replica, at_client, Run, event, bank_at, answer_to}
 use Rattle.run.proofs.Turns.{same_replica, good_bank}
-use Rattle.audit.specs.Log.{LogEntry, expected, bank_after, right, judged}
+use Rattle.audit.specs.Log.{LogEntry, right, judged}
 use Rattle.audit.specs.Own.{entry_for, is_logged, entries_for, log_of, AllHandBytes, entry_in_run, entries_in_run, log_in_run}
 use Rattle.audit.specs.Replaying.{AllAgree}
 use Rattle.audit.proofs.Answered.{Answered, answered, entry_agrees}
@@ -33,7 +33,7 @@ one_call signature bank call later a rest true e = (entry_agrees signature bank 
 one_call signature bank call later a rest false e = subst (λ (b : Bank). AllAgree b later) (a.unlogged e) rest
 
 all_agree : (calls : List ReplicaEvent) (bank : Bank) (signatures : ℕ → List ℕ) (at : ℕ) → GoodBank bank → AllHandBytes calls → AllAgree bank (entries_for bank calls signatures at)
-unfolding AllAgree entries_for bank_after
+unfolding AllAgree entries_for
 all_agree [] bank signatures at good small = tt
 all_agree (call ∷ calls) bank signatures at good small =
     one_call (signatures at) bank call _ (answered (signatures at) bank good call small.0)
@@ -71,7 +71,7 @@ module _ (R : Run) (id : ReplicaId) (correct : R.correct_replica id ≡ true) (s
 
   own_event : (t : ℕ) (e : ReplicaEvent) (later : List LogEntry) → event R t ≡ some (at_replica id e) → AllAgree (bank_at R id (suc t)) later
       → AllAgree (bank_at R id t) (cond (is_logged e) (entry_in_run R id signatures t e ∷ later) later)
-  unfolding bank_at answer_to expected bank_after
+  unfolding bank_at answer_to expected
   own_event t e later q rest =
       one_call (signatures t) (bank_at R id t) e later (answered (signatures t) (bank_at R id t) (good_bank R id correct t).good e (R.have_bytes t (at_replica id e) q))
       (rw (q, eq-eqb id.0 id.0 refl) at rest) (is_logged e) refl

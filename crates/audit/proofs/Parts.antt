@@ -8,17 +8,19 @@ use native.Mathlib.Omega.{arith}
 use borrow.Author.Tests.{eqb-true, eqb-false, ltb-true, ltb-false}
 use lib.Dec.{eqb, ltb}
 use lib.ListN.{length, drop, length-drop, length-append, drop_of_length-le}
+use Rattle.std.specs.declared.option.Option.{Option as CodeOption}
+use Rattle.std.specs.declared.option.Option.TheVariants.{Some, None}
 use Rattle.base.specs.BigEndian.{Bytes}
 use Rattle.base.proofs.Apart.{apart}
 use Rattle.base.proofs.BigEndian.{bytes_drop}
+use Rattle.protocol.specs.Events.{expected, bank_after}
 use Rattle.protocol.specs.declared.replica.Bank.{Bank}
-use Rattle.audit.specs.Judging.{ChecksEntry, longest_entry, ending_for, found_by, MayFollow, Agreed, JudgesPart}
-use Rattle.audit.specs.Log.{LogEntry, front_of, bank_after, agrees, entry_in, judged_from}
+use Rattle.audit.specs.Judging.{checked_entry, longest_entry, ending_for, found_by, MayFollow, Agreed, JudgesPart}
+use Rattle.audit.specs.Log.{LogEntry, front_of, agrees, entry_in, judged_from}
 use Rattle.audit.specs.Reading.{entry_by, FindsEntry}
-use Rattle.audit.specs.declared.judging.Checked.{Checked}
+use Rattle.audit.specs.declared.judging.Finding.{Finding}
 use Rattle.audit.specs.declared.judging.Finding.TheVariants.{Right, Wrong, More}
 use Rattle.audit.specs.declared.reading.EntryPlaces.{EntryPlaces}
-use Rattle.audit.specs.declared.reading.EntryRead.TheVariants.{Entry, Missing}
 use Rattle.audit.proofs.Agreeing.{none_agreed, one_agreed}
 use Rattle.audit.proofs.Entries.{entry_reader, none_in_long, entry_shorter}
 use Rattle.audit.proofs.Judged.{judged_end, judged_none, judged_some}
@@ -30,23 +32,23 @@ pub record SoFar (bank : Bank) (part : List ℕ) (left : Bank) (agreed used : �
   pub few : agreed ≤ used
 
 -- What a turn of the loop knows: an entry was read and checked.
-pub record EntryTurn (bank : Bank) (part : List ℕ) (last : Bool) (agreed used : ℕ) (p : EntryPlaces) (checked : Checked) : Type 0 where
+pub record EntryTurn (bank : Bank) (part : List ℕ) (left : Bank) (agreed used : ℕ) (p : EntryPlaces) (checked : CodeOption Bank) : Type 0 where
   pub rises : 1 ≤ p.end
   pub stays : used + p.end ≤ length part
   pub few : agreed ≤ used
-  pub further : checked.agrees ≡ true → SoFar bank part checked.bank (agreed + 1) (used + p.end)
-  pub differs : checked.agrees ≡ false → JudgesPart bank part last (record { finding = Wrong; agreed = agreed; used = used; bank = checked.bank })
+  pub further : (next : Bank) → checked ≡ Some next → SoFar bank part next (agreed + 1) (used + p.end)
+  pub differs : checked ≡ None → (last : Bool) → JudgesPart bank part last (record { finding = Wrong; agreed = agreed; used = used; bank = left })
 
 module _ (bank : Bank) (part : List ℕ) where
   pub start : SoFar bank part bank 0 0
   start = record { agree = none_agreed bank part; few = omega arith }
 
-  module _ (small : Bytes part) (last : Bool) (left : Bank) (agreed used : ℕ) (so_far : SoFar bank part left agreed used) where
+  module _ (small : Bytes part) (left : Bank) (agreed used : ℕ) (so_far : SoFar bank part left agreed used) where
     size : length (drop used part) ≡ length part - used
     size = length-drop used part
 
     -- No whole entry starts behind what was used.
-    module _ (reads : FindsEntry (drop used part) Missing) where
+    module _ (reads : FindsEntry (drop used part) None) where
       missing : entry_in (drop used part) ≡ none
       missing = sym reads.is
 
@@ -74,8 +76,8 @@ module _ (bank : Bank) (part : List ℕ) where
       awaiting false true empty s e = let below = ltb-true (length (drop used part)) longest_entry s in (refl, omega (arith, size, so_far.agree.inside))
       awaiting false false empty s e = apart (cc)
 
-      pub ends : JudgesPart bank part last (record { finding = ending_for (drop used part) last; agreed = agreed; used = used; bank = left })
-      ends =
+      ends : (last : Bool) → JudgesPart bank part last (record { finding = ending_for (drop used part) last; agreed = agreed; used = used; bank = left })
+      ends last =
           record {
             agreed = so_far.agree;
             finds = judgement last (ltb (length (drop used part)) longest_entry) (eqb (length (drop used part)) 0) refl refl;
@@ -83,9 +85,12 @@ module _ (bank : Bank) (part : List ℕ) where
           }
 
     -- An entry starts there, and was checked.
-    module _ (p : EntryPlaces) (checked : Checked) (reads : FindsEntry (drop used part) (Entry p)) (checks : ChecksEntry left (entry_by (drop used part) p) checked) where
+    module _ (p : EntryPlaces) (checked : CodeOption Bank) (reads : FindsEntry (drop used part) (Some p)) (checks : checked ≡ checked_entry left (entry_by (drop used part) p)) where
       abbrev found : LogEntry
       found = entry_by (drop used part) p
+
+      abbrev after : Bank
+      after = bank_after left found.received
 
       entry_there : entry_in (drop used part) ≡ some (front_of found (drop p.end (drop used part)))
       entry_there = sym reads.is
@@ -96,24 +101,47 @@ module _ (bank : Bank) (part : List ℕ) where
       stays : used + p.end ≤ length part
       stays = omega (arith, reads.inside, so_far.agree.inside, size)
 
-      further : checked.agrees ≡ true → SoFar bank part checked.bank (agreed + 1) (used + p.end)
+      further : agrees (expected left found.received) found.recorded ≡ true → SoFar bank part after (agreed + 1) (used + p.end)
       further agree =
-          let next : bank_after left found.received ≡ checked.bank = sym (checks.next ∙ rw agree) in
           let written = entry_reads (drop used part) (bytes_drop used part small) _ entry_there in
-          let more =
-          one_agreed bank part agreed used left so_far.agree found p.end written.0 (record { well_formed = written.1; same_answer = sym checks.agrees_is ∙ agree }) stays in
-          record { agree = subst (Agreed bank part (agreed + 1) (used + p.end)) next more; few = let one = rises in omega (arith, so_far.few) }
+          record {
+            agree = one_agreed bank part agreed used left so_far.agree found p.end written.0 (record { well_formed = written.1; same_answer = agree }) stays;
+            few = let one = rises in omega (arith, so_far.few);
+          }
 
-      differs : checked.agrees ≡ false → JudgesPart bank part last (record { finding = Wrong; agreed = agreed; used = used; bank = checked.bank })
-      differs other =
-          let same : left ≡ checked.bank = sym (checks.next ∙ rw other) in
-          subst (λ (b : Bank). JudgesPart bank part last (record { finding = Wrong; agreed = agreed; used = used; bank = b })) same
-          (record {
+      differs : agrees (expected left found.received) found.recorded ≡ false → (last : Bool)
+          → JudgesPart bank part last (record { finding = Wrong; agreed = agreed; used = used; bank = left })
+      differs other last =
+          record {
             agreed = so_far.agree;
-            finds = λ number rest ok.
-                judged_some left number (drop used part ++ rest) _ (entry_reader.stays (drop used part) rest _ entry_there) ∙ rw (← checks.agrees_is, other);
+            finds = λ number rest ok. judged_some left number (drop used part ++ rest) _ (entry_reader.stays (drop used part) rest _ entry_there) ∙ rw other;
             awaits = λ e. apart (cc);
-          })
+          }
 
-      pub turn : EntryTurn bank part last agreed used p checked
-      turn = record { rises = rises; stays = stays; few = so_far.few; further = further; differs = differs }
+      turn : EntryTurn bank part left agreed used p checked
+      turn = go (agrees (expected left found.received) found.recorded) refl
+        where
+          go : (b : Bool) → agrees (expected left found.received) found.recorded ≡ b → EntryTurn bank part left agreed used p checked
+          go true e =
+              let is : checked ≡ Some after = checks ∙ rw e in
+              record {
+                rises = rises;
+                stays = stays;
+                few = so_far.few;
+                further = λ next some_next. let same : after ≡ next = cc in subst (λ (b : Bank). SoFar bank part b (agreed + 1) (used + p.end)) same (further e);
+                differs = λ none_next. apart (cc);
+              }
+          go false e =
+              let is : checked ≡ None = checks ∙ rw e in
+              record { rises = rises; stays = stays; few = so_far.few; further = λ next some_next. apart (cc); differs = λ none_next. differs e }
+
+-- The same of the bytes that the loop has at hand: no whole entry starts them,
+module _ {bank left : Bank} {part rest : List ℕ} {agreed used : ℕ} (so_far : SoFar bank part left agreed used) (is : rest ≡ drop used part) where
+  pub ended : {last : Bool} {finding : Finding} → FindsEntry rest None → finding ≡ ending_for rest last → Bytes part
+      → JudgesPart bank part last (record { finding = finding; agreed = agreed; used = used; bank = left })
+  ended {last} reads found small = rw (found, is) (ends bank part small left agreed used so_far (rw is at reads) last)
+
+  -- or an entry does, which was checked.
+  pub turned : {p : EntryPlaces} {checked : CodeOption Bank} → FindsEntry rest (Some p) → checked ≡ checked_entry left (entry_by rest p) → Bytes part
+      → EntryTurn bank part left agreed used p checked
+  turned {p} {checked} reads checks small = turn bank part small left agreed used so_far p checked (rw is at reads) (rw is at checks)

@@ -5,11 +5,10 @@ use mathlib.Core.List.{List, ◌++◌, append_assoc}
 use Prim.Native.Nat.{ℕ, ◌+◌, ◌≤◌, ◌<◌}
 use native.Mathlib.Omega.{arith}
 use lib.ListN.{length, drop}
-use Rattle.base.specs.Outcome.{Outcome, accepted}
-use Rattle.protocol.specs.Bank.{bank_if_set_up}
+use Rattle.base.specs.Outcome.{Outcome, accepted, refused, ◌>>=◌}
+use Rattle.base.proofs.Apart.{apart}
 use Rattle.protocol.specs.declared.replica.Bank.{Bank}
-use Rattle.bank.specs.declared.NewBank.{NewBank}
-use Rattle.audit.specs.Judging.{found_by, MayFollow, JudgesPart, SetsUp}
+use Rattle.audit.specs.Judging.{found_by, MayFollow, JudgesPart, begun}
 use Rattle.audit.specs.Log.{Judgement, judged_from, head_length, fresh_in, head_outcome, judged_if_set_up, judged}
 use Rattle.audit.specs.declared.judging.Finding.TheVariants.{More}
 use Rattle.audit.specs.declared.judging.PartJudged.{PartJudged}
@@ -32,13 +31,14 @@ windows_judge bank number window _ j (next_window _ _ _ more rest r _ judges lat
     ∙ windows_judge r.bank (number + r.agreed) (drop r.used window ++ more) rest j later
 
 -- So behind a good head, whichever of its bytes come first.
-pub log_in_windows : (log : List ℕ) (made : NewBank) (window rest : List ℕ) (j : Judgement) → SetsUp log made → head_outcome log ≡ accepted tt → drop head_length log ≡ window ++ rest
-    → InWindows made.bank 1 window rest j → judged log ≡ j
-unfolding judged
-log_in_windows log made window rest j sets_up good is windows =
-    ap (λ (o : Outcome (Unit {0})). judged_if_set_up o (judged_from (fresh_in log) 1 (drop head_length log))) good
-    ∙ ap (λ (bank : Bank). judged_from bank 1 (drop head_length log)) (sym (sets_up.bank_is ∙ ap (λ (o : Outcome (Unit {0})). bank_if_set_up o (fresh_in log)) good))
-    ∙ ap (judged_from made.bank 1) is ∙ windows_judge made.bank 1 window rest j windows
+pub log_in_windows : (log : List ℕ) (bank : Bank) (window rest : List ℕ) (j : Judgement) → begun log ≡ accepted bank → drop head_length log ≡ window ++ rest
+    → InWindows bank 1 window rest j → judged log ≡ j
+unfolding judged begun
+log_in_windows log bank window rest j begins is windows = go (head_outcome log) begins
+  where
+    go : (o : Outcome (Unit {0})) → (o >>= λ ready. accepted (fresh_in log)) ≡ accepted bank → judged_if_set_up o (judged_from (fresh_in log) 1 (drop head_length log)) ≡ j
+    go (accepted ready) e = let made : fresh_in log ≡ bank = cc in rw (made, is) (windows_judge bank 1 window rest j windows)
+    go (refused number) e = apart (cc)
 
 -- Where more is awaited in a window of 262,144 bytes, over 65,000 of them have been used.
 pub window_moves : (bank : Bank) (part : List ℕ) (last : Bool) (r : PartJudged) → JudgesPart bank part last r → 262_144 ≤ length part → r.finding ≡ More → 65_531 < r.used

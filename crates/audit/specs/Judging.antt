@@ -1,20 +1,19 @@
 -- The contracts of the functions that judge.
 use Rattle.std.specs.Prelude.{◌≡◌, Bool, false, cond, List, [], ◌++◌, ℕ, ◌+◌, ◌≤◌, ◌<◌, eqb, ltb, length, drop}
-use Rattle.base.specs.Party.{setup_outcome}
-use Rattle.protocol.specs.Bank.{bank_if_set_up}
+use Rattle.std.specs.declared.option.Option.{Option as CodeOption}
+use Rattle.std.specs.declared.option.Option.TheVariants.{Some, None}
+use Rattle.base.specs.Outcome.{Outcome, accepted, ◌>>=◌}
+use Rattle.protocol.specs.Events.{expected, bank_after}
 use Rattle.protocol.specs.declared.replica.Bank.{Bank}
-use Rattle.bank.specs.declared.NewBank.{NewBank}
-use Rattle.audit.specs.Log.{LogEntry, expected, bank_after, agrees, Judgement, right, wrong, judged_from, head_outcome, fresh_in}
+use Rattle.audit.specs.Log.{LogEntry, agrees, Judgement, right, wrong, judged_from, head_outcome, fresh_in}
 use Rattle.audit.specs.Replaying.{log_bytes, AllAgree, bank_after_all}
-use Rattle.audit.specs.declared.judging.Checked.{Checked}
 use Rattle.audit.specs.declared.judging.Finding.{Finding}
 use Rattle.audit.specs.declared.judging.Finding.TheVariants.{Right, Wrong, More}
 use Rattle.audit.specs.declared.judging.PartJudged.{PartJudged}
 
--- Whether an entry agrees, and the bank that its call leaves if it does.
-pub record ChecksEntry (bank : Bank) (e : LogEntry) (r : Checked) : Type 0 where
-  pub agrees_is : r.agrees ≡ agrees (expected bank e.received) e.recorded
-  pub next : r.bank ≡ cond r.agrees (bank_after bank e.received) bank
+-- The bank that an entry's call leaves, if the entry agrees.
+abbrev pub checked_entry : Bank → LogEntry → CodeOption Bank
+checked_entry bank e = cond (agrees (expected bank e.received) e.recorded) (Some (bank_after bank e.received)) None
 
 -- An opening byte, three lengths with 65,535 bytes each, and the answer's byte.
 abbrev pub longest_entry : ℕ
@@ -53,7 +52,6 @@ pub record JudgesPart (bank : Bank) (part : List ℕ) (last : Bool) (r : PartJud
   -- More is awaited only behind a part that is not the last, and what is left of it is shorter than the longest entry.
   pub awaits : r.finding ≡ More → (last ≡ false) × (length part < r.used + longest_entry)
 
--- Where the head is refused there is no replica: the record of `no_bank` stands in its place.
-pub record SetsUp (log : List ℕ) (r : NewBank) : Type 0 where
-  pub set_up : setup_outcome r.setup ≡ head_outcome log
-  pub bank_is : r.bank ≡ bank_if_set_up (head_outcome log) (fresh_in log)
+-- The bank that a head sets up, or its refusal.
+unfoldable pub begun : List ℕ → Outcome Bank
+begun log = head_outcome log >>= λ ready. accepted (fresh_in log)

@@ -3,14 +3,11 @@ use Rattle.std.specs.Prelude.{Bool, false, ◌&&◌, cond, List, [], ◌∷◌, 
 use Rattle.std.proofs.Math.Option.{Option, none, some}
 use Rattle.base.specs.BigEndian.{from_bytes}
 use Rattle.base.specs.Bytes.{between}
-use Rattle.base.specs.Outcome.{Outcome, accepted, refused, guard, ◌>>=◌}
+use Rattle.base.specs.Outcome.{Outcome, accepted, refused, guard}
 use Rattle.base.specs.Same.{same}
-use Rattle.base.specs.declared.party.RegisterId.{RegisterId}
 use Rattle.base.specs.declared.party.ReplicaId.{ReplicaId}
-use Rattle.wire.specs.Writing.{unsigned}
 use Rattle.protocol.specs.Bank.{fresh_bank, bank_setup}
-use Rattle.protocol.specs.Client.{Answer, send, waits, done, ended}
-use Rattle.protocol.specs.Events.{ReplicaEvent, request_handed, order_handed, replica_event_register, on_replica_event, next_bank, bank_answer}
+use Rattle.protocol.specs.Events.{ReplicaEvent, request_handed, order_handed, expected, bank_after}
 use Rattle.protocol.specs.declared.replica.Bank.{Bank}
 
 -- ---- Entries
@@ -25,22 +22,7 @@ pub record LogEntry : Type 0 where
   pub received : ReplicaEvent
   pub recorded : Recorded
 
--- ---- What a correct replica answers
-
--- The bytes that an answer sends for a register, their signature as zeros. A taken order's answer sends none; the last two are a client's.
-abbrev pub sent_for : RegisterId → Answer → List ℕ
-sent_for register (send message) = unsigned register message
-sent_for register waits = []
-sent_for register (done timestamp card signers) = []
-sent_for register ended = []
-
--- With room for every reply, so that refusal 1 is never one of them.
-unfoldable pub expected : Bank → ReplicaEvent → Outcome (List ℕ)
-expected bank event = bank_answer (on_replica_event event bank) >>= λ answer. accepted (sent_for (replica_event_register event) answer)
-
--- The bank that it leaves.
-unfoldable pub bank_after : Bank → ReplicaEvent → Bank
-bank_after bank event = next_bank bank (on_replica_event event bank)
+-- ---- Whether a recorded answer agrees with what a correct replica answers (`expected` in protocol/specs/Events)
 
 -- "comparing lengths and all bytes but the last 64, the maker's seal"
 abbrev pub before_signature : List ℕ → List ℕ

@@ -6,10 +6,10 @@ use Rattle.base.specs.Bytes.{filled}
 use Rattle.base.specs.Outcome.{Outcome, accepted, refused, ◌>>=◌}
 use Rattle.base.specs.declared.party.ReplicaId.{ReplicaId}
 use Rattle.protocol.specs.Bank.{fresh_bank}
-use Rattle.protocol.specs.Events.{ReplicaEvent, request_handed, order_handed, HandsBytes, replica_event_register}
+use Rattle.protocol.specs.Events.{ReplicaEvent, request_handed, order_handed, HandsBytes, replica_event_register, sent_for, expected, bank_after}
 use Rattle.protocol.specs.declared.replica.Bank.{Bank}
 use Rattle.run.specs.Run.{Event, at_replica, at_client, Run, answer_to}
-use Rattle.audit.specs.Log.{Recorded, replied, refusal, LogEntry, sent_for, expected, bank_after, before_signature}
+use Rattle.audit.specs.Log.{Recorded, replied, refusal, LogEntry, before_signature}
 use Rattle.audit.specs.Replaying.{log_bytes, head_bytes}
 
 -- A reply with its signature, cut or filled to 64 bytes; a taken order's answer has neither.

@@ -4,9 +4,9 @@ use Rattle.base.specs.BigEndian.{to_bytes}
 use Rattle.base.specs.Outcome.{accepted, refused}
 use Rattle.base.specs.declared.party.ReplicaId.{ReplicaId}
 use Rattle.protocol.specs.Bank.{fresh_bank, bank_setup}
-use Rattle.protocol.specs.Events.{ReplicaEvent, request_handed, order_handed}
+use Rattle.protocol.specs.Events.{ReplicaEvent, request_handed, order_handed, expected, bank_after}
 use Rattle.protocol.specs.declared.replica.Bank.{Bank}
-use Rattle.audit.specs.Log.{Recorded, replied, refusal, LogEntry, expected, bank_after, agrees, head_length, set_up_in}
+use Rattle.audit.specs.Log.{Recorded, replied, refusal, LogEntry, agrees, head_length, set_up_in}
 
 -- ---- The bytes of an entry, and of a log
 

@@ -1,65 +1,41 @@
 // The calls of a log's entries, made on a bank: the one place that steps it.
-ghost use Rattle.std.specs.Prelude.{◌≡◌, length};
-ghost use Rattle.wire.specs.Message.{longest};
+ghost use Rattle.std.specs.Prelude.{◌≡◌};
 ghost use Rattle.protocol.specs.Events.{request_handed, order_handed};
-ghost use Rattle.audit.specs.Calling.{MakesCall, as_reply};
+ghost use Rattle.audit.specs.Calling.{MakesCall};
 ghost use Rattle.audit.specs.Reading.{call_by};
 
 use crate::reading::CallPlaces;
-use base::slices::between;
-use base::taking::Taking;
-use protocol::replica::{Bank, ReplicaAnswer};
+use bank::{step_in_place, take_order_in_place};
+use base::refusal::Refusal;
+use protocol::replica::Bank;
 use wire::layout::LONGEST_MESSAGE;
+use wire::parts::part;
 
 // What a call answers, its reply in front of the output, and the bank that it leaves. A taken order has a reply of no bytes.
+// The reply's length stands beside the array that it is in: no heap, fixed memory.
 #[derive(Drop)]
 pub struct Called {
-    pub answer: ReplicaAnswer,
+    pub answer: Result<usize, Refusal>,
     pub out: [u8; LONGEST_MESSAGE],
     pub bank: Bank,
 }
 
-// The output of each call: in a function of its own, which says its length.
-fn room() -> [u8; LONGEST_MESSAGE]
-    ensures { longest ≡ length result }
-{
-    [0; LONGEST_MESSAGE]
-}
-
-fn call_message(bank: Bank, message: &[u8], verdicts: &[u8]) -> Called
+fn call_message(mut bank: Bank, message: &[u8], verdicts: &[u8]) -> Called
     ensures { MakesCall bank (request_handed message.now verdicts.now) result }
 {
-    let mut out = room();
-    let stepped = bank::step(bank, message, verdicts, &mut out);
-    let answer = stepped.answer;
-    let next = stepped.bank;
-    Called {
-        answer: answer,
-        out: out,
-        bank: next,
-    }
+    let mut out = [0; LONGEST_MESSAGE];
+    let answer = step_in_place(&mut bank, message, verdicts, &mut out);
+    Called { answer, out, bank }
 }
 
-// The answer to an order as a reply.
-fn as_reply(taking: Taking) -> ReplicaAnswer
-    ensures { result ≡ as_reply taking }
-{
-    match taking {
-        Taking::Taken => ReplicaAnswer::Send(0),
-        Taking::Refused(number) => ReplicaAnswer::Refused(number),
-    }
-}
-
-fn call_order(bank: Bank, order: &[u8]) -> Called
+fn call_order(mut bank: Bank, order: &[u8]) -> Called
     ensures { MakesCall bank (order_handed order.now) result }
 {
-    let ordered = bank::take_order(bank, order);
-    let answer = ordered.answer;
-    let next = ordered.bank;
+    let taken = take_order_in_place(&mut bank, order);
     Called {
-        answer: as_reply(answer),
-        out: room(),
-        bank: next,
+        answer: taken.map(|()| 0),
+        out: [0; LONGEST_MESSAGE],
+        bank,
     }
 }
 
@@ -67,13 +43,12 @@ fn call_order(bank: Bank, order: &[u8]) -> Called
 pub fn call_at(bank: Bank, bytes: &[u8], places: CallPlaces) -> Called
     ensures { MakesCall bank (call_by bytes.now places) result }
 {
-    let first = between(bytes, places.start, places.end);
-    if places.is_order {
-        return call_order(bank, first);
+    match places {
+        CallPlaces::Message { message, verdicts } => call_message(
+            bank,
+            part(bytes, message),
+            part(bytes, verdicts),
+        ),
+        CallPlaces::Order(order) => call_order(bank, part(bytes, order)),
     }
-    call_message(
-        bank,
-        first,
-        between(bytes, places.verdicts, places.verdicts_end),
-    )
 }

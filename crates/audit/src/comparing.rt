@@ -1,49 +1,45 @@
 // Whether what a log says was answered is what a replica answers.
 ghost use Rattle.std.specs.Prelude.{◌≡◌};
-ghost use Rattle.audit.specs.Calling.{answered_by};
+ghost use Rattle.base.specs.Refusal.{outcome};
+ghost use Rattle.protocol.specs.Events.{answered_by};
 ghost use Rattle.audit.specs.Comparing.{common};
 ghost use Rattle.audit.specs.Log.{agrees, before_signature, same_but_signature};
-ghost use Rattle.audit.specs.Reading.{recorded_as};
+ghost use Rattle.audit.specs.Reading.{recorded_by};
 
 use base::bytes::same;
-use base::numbers::difference;
+use base::refusal::Refusal;
 use base::slices::front;
-use protocol::replica::ReplicaAnswer;
 use wire::layout::SIGNATURE;
+use wire::message::Span;
+use wire::parts::part;
 
 fn before_signature(reply: &[u8]) -> &[u8]
     ensures { result.now ≡ before_signature reply.now }
 {
-    front(reply, difference(reply.len(), SIGNATURE))
+    front(reply, reply.len().saturating_sub(SIGNATURE))
 }
 
 #[tactic(auto, using(std::proofs::lemmas::Bool::Decides::nat_tests), unfolding(crate::specs::Log::same_but_signature))]
 fn same_but_signature(sent: &[u8], reply: &[u8]) -> bool
     ensures { result ≡ same_but_signature sent.now reply.now }
 {
-    if sent.len() != reply.len() {
-        return false;
-    }
-    same(before_signature(sent), before_signature(reply))
+    sent.len() == reply.len() && same(before_signature(sent), before_signature(reply))
 }
 
-// The replica's answer, its reply in front of `out`; and the log's: the refusal, or 0 and the reply.
-pub fn agrees(answer: ReplicaAnswer, out: &[u8], refusal: u8, reply: &[u8]) -> bool
-    ensures { result ≡ agrees (answered_by answer out.now) (recorded_as refusal reply.now) }
+// The replica's answer, its reply in front of `out`; and the log's, in the bytes of the entry. Refusals are compared by number: a log's
+// is a byte, and may be none of `Refusal`.
+pub fn agrees(
+    answer: Result<usize, Refusal>,
+    out: &[u8],
+    bytes: &[u8],
+    recorded: Result<Span, u8>,
+) -> bool
+    ensures { result ≡ agrees (answered_by (outcome answer) out.now) (recorded_by bytes.now recorded) }
 {
-    match answer {
-        ReplicaAnswer::Send(length) => {
-            if refusal != 0 {
-                return false;
-            }
-            same_but_signature(front(out, length), reply)
-        }
-        ReplicaAnswer::Refused(number) => {
-            if refusal == 0 {
-                return false;
-            }
-            number == refusal
-        }
+    match (answer, recorded) {
+        (Ok(length), Ok(reply)) => same_but_signature(front(out, length), part(bytes, reply)),
+        (Err(refusal), Err(number)) => refusal.number() == number,
+        _ => false,
     }
 }
 
@@ -51,15 +47,5 @@ pub fn agrees(answer: ReplicaAnswer, out: &[u8], refusal: u8, reply: &[u8]) -> b
 pub fn common(a: &[u8], b: &[u8]) -> usize
     ensures { result ≡ common a.now b.now }
 {
-    let mut i = 0;
-    while i < a.len() {
-        if b.len() <= i {
-            return i;
-        }
-        if a[i] != b[i] {
-            return i;
-        }
-        i += 1;
-    }
-    i
+    a.iter().zip(b).take_while(|(x, y)| x == y).count()
 }

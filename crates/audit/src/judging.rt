@@ -1,13 +1,14 @@
 // A log is judged part by part, with the bank that the calls before left.
 ghost use Rattle.std.specs.Prelude.{◌≡◌};
-ghost use Rattle.audit.specs.Judging.{ChecksEntry, ending_for, JudgesPart, SetsUp};
+ghost use Rattle.base.specs.Refusal.{outcome};
+ghost use Rattle.audit.specs.Judging.{checked_entry, ending_for, JudgesPart, begun};
 ghost use Rattle.audit.specs.Reading.{entry_by};
 
 use crate::calling::call_at;
 use crate::comparing::agrees;
-use crate::reading::{EntryPlaces, EntryRead, read_entry};
-use bank::NewBank;
+use crate::reading::{EntryPlaces, read_entry};
 use base::party::ReplicaId;
+use base::refusal::Refusal;
 use base::slices::{behind, between};
 use protocol::replica::Bank;
 
@@ -15,7 +16,7 @@ use protocol::replica::Bank;
 pub const LONGEST_ENTRY: usize = 196_613;
 
 // What a part of a log shows.
-#[derive(Drop)]
+#[derive(Clone, Copy, Debug, PartialEq, Eq)]
 pub enum Finding {
     Right,
     Wrong,
@@ -31,31 +32,15 @@ pub struct PartJudged {
     pub bank: Bank,
 }
 
-#[derive(Drop)]
-pub struct Checked {
-    pub agrees: bool,
-    pub bank: Bank,
-}
-
-// Whether an entry agrees with what the bank answers, and the bank that its call leaves; if not, the bank as it was.
-fn check_entry(bank: Bank, bytes: &[u8], places: EntryPlaces) -> Checked
-    ensures { ChecksEntry bank (entry_by bytes.now places) result }
+// The bank that an entry's call leaves, if the entry agrees with what the bank answers.
+fn check_entry(bank: Bank, bytes: &[u8], places: EntryPlaces) -> Option<Bank>
+    ensures { result ≡ checked_entry bank (entry_by bytes.now places) }
 {
-    let call = places.call;
-    let called = call_at(bank, bytes, call);
-    let answer = called.answer;
-    let out = called.out;
-    let reply = between(bytes, places.reply, places.end);
-    if !agrees(answer, &out, places.refusal, reply) {
-        return Checked {
-            agrees: false,
-            bank: bank,
-        };
-    }
-    let next = called.bank;
-    Checked {
-        agrees: true,
-        bank: next,
+    let called = call_at(bank, bytes, places.call);
+    if agrees(called.answer, &called.out, bytes, places.answer) {
+        Some(called.bank)
+    } else {
+        None
     }
 }
 
@@ -63,59 +48,51 @@ fn check_entry(bank: Bank, bytes: &[u8], places: EntryPlaces) -> Checked
 fn ending(bytes: &[u8], last: bool) -> Finding
     ensures { result ≡ ending_for bytes.now last }
 {
-    if last {
-        if bytes.len() == 0 {
-            return Finding::Right;
-        }
-        return Finding::Wrong;
+    if last && bytes.is_empty() {
+        Finding::Right
+    } else if !last && bytes.len() < LONGEST_ENTRY {
+        Finding::More
+    } else {
+        Finding::Wrong
     }
-    if bytes.len() < LONGEST_ENTRY {
-        return Finding::More;
-    }
-    Finding::Wrong
 }
 
 // The entries of a part of a log, after which more may come unless it is the last.
-pub fn judge_part(bank: Bank, part: &[u8], last: bool) -> PartJudged
+pub fn judge_part(mut bank: Bank, part: &[u8], last: bool) -> PartJudged
     ensures { JudgesPart bank part.now last result }
 {
-    let mut left = bank;
     let mut agreed = 0;
     let mut used = 0;
-    loop {
+    let finding = loop {
         let rest = behind(part, used);
-        let EntryRead::Entry(places) = read_entry(rest) else {
-            return PartJudged {
-                finding: ending(rest, last),
-                agreed: agreed,
-                used: used,
-                bank: left,
-            };
+        let Some(places) = read_entry(rest) else {
+            break ending(rest, last);
         };
-        let checked = check_entry(left, rest, places);
-        left = checked.bank;
-        if !checked.agrees {
-            return PartJudged {
-                finding: Finding::Wrong,
-                agreed: agreed,
-                used: used,
-                bank: left,
-            };
-        }
+        let Some(next) = check_entry(bank, rest, places) else {
+            break Finding::Wrong;
+        };
+        bank = next;
         used += places.end;
         agreed += 1;
+    };
+    PartJudged {
+        finding,
+        agreed,
+        used,
+        bank,
     }
 }
 
 // f, the replica's number, and the office's key.
 pub const HEAD: usize = 58;
 
-// The bank that a head sets up, or refusal 16, of a short head too.
-pub fn begin(log: &[u8]) -> NewBank
-    ensures { SetsUp log.now result }
+// The bank that a head sets up, or refusal 16, also for a short head.
+#[tactic(auto, using(crate::proofs::Heads::begins_short, crate::proofs::Heads::begins_long))]
+pub fn begin(log: &[u8]) -> Result<Bank, Refusal>
+    ensures { outcome result ≡ begun log.now }
 {
     if log.len() < HEAD {
-        return bank::fresh(0, ReplicaId(0), log);
+        return Err(Refusal::SetUp);
     }
     bank::fresh(log[0], ReplicaId(log[1]), between(log, 2, HEAD))
 }

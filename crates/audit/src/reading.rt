@@ -1,152 +1,109 @@
 // Where the parts of an entry stand, without the bank.
-ghost use Rattle.audit.specs.Reading.{FindsPrefixed, FindsRequest, FindsOrder, FindsCall, FindsAnswer, FindsEntry};
+ghost use Rattle.std.specs.Prelude.{◌≡◌};
+ghost use Rattle.audit.specs.Reading.{call_end, FindsPrefixed, FindsRequest, FindsOrder, FindsCall, FindsAnswer, FindsEntry};
 
 use base::big_endian::from_two;
+use wire::message::Span;
 
 // An entry opens with one of these.
 const MESSAGE: u8 = 0;
 
 const ORDER: u8 = 1;
 
-// Bytes behind their length, by their start and end; or they are cut short.
-#[derive(Drop)]
-pub enum Prefixed {
-    Bytes(usize, usize),
-    Cut,
-}
-
-// What was received, by starts and ends from the entry's first byte on: an order, which has no verdicts, or a message.
+// What was received, by places from the entry's first byte on: a message with its verdicts, or an order, which has none.
 #[derive(Clone, Copy)]
-pub struct CallPlaces {
-    pub is_order: bool,
-    pub start: usize,
-    pub end: usize,
-    pub verdicts: usize,
-    pub verdicts_end: usize,
+pub enum CallPlaces {
+    Message { message: Span, verdicts: Span },
+    Order(Span),
 }
 
-// What an entry starts with: a call, or none that is whole.
-#[derive(Drop)]
-pub enum CallRead {
-    Call(CallPlaces),
-    Missing,
+impl CallPlaces {
+    fn end(self) -> usize
+        ensures { result ≡ call_end self }
+    {
+        match self {
+            CallPlaces::Message { verdicts, .. } => verdicts.end,
+            CallPlaces::Order(order) => order.end,
+        }
+    }
 }
 
-// What was answered: the refusal's number, or 0 and the reply's start; and the end of either.
-#[derive(Drop)]
-pub enum AnswerRead {
-    Answer(u8, usize, usize),
-    Cut,
-}
-
-// An entry's parts, from its first byte on. `refusal` is 0 where there is a reply.
+// An entry's parts, by places from its first byte on: the call, the reply or the refusal's number, and where the entry ends.
 #[derive(Clone, Copy)]
 pub struct EntryPlaces {
     pub call: CallPlaces,
-    pub refusal: u8,
-    pub reply: usize,
+    pub answer: Result<Span, u8>,
     pub end: usize,
 }
 
-// What some bytes start with: an entry, or none that is whole.
-#[derive(Drop)]
-pub enum EntryRead {
-    Entry(EntryPlaces),
-    Missing,
-}
-
-fn prefixed_at(bytes: &[u8], at: usize) -> Prefixed
+// Bytes behind their length; none where they are cut short.
+#[tactic(auto, using(crate::proofs::Places::no_length, crate::proofs::Places::prefixed_missing, crate::proofs::Places::prefixed_there))]
+fn prefixed_at(bytes: &[u8], at: usize) -> Option<Span>
     ensures { FindsPrefixed bytes.now at result }
 {
-    if bytes.len() < at {
-        return Prefixed::Cut;
+    if bytes.len() < at || bytes.len() - at < 2 {
+        return None;
     }
-    if bytes.len() - at < 2 {
-        return Prefixed::Cut;
-    }
+    // `as`: u32 to usize has no From.
     let length = from_two(bytes[at], bytes[at + 1]) as usize;
     if bytes.len() - at - 2 < length {
-        return Prefixed::Cut;
+        return None;
     }
-    Prefixed::Bytes(at + 2, at + 2 + length)
+    Some(Span {
+        start: at + 2,
+        end: at + 2 + length,
+    })
 }
 
-fn answer_at(bytes: &[u8], at: usize) -> AnswerRead
+// What was answered, and where it ends.
+#[tactic(auto, unfolding(crate::specs::Log::recorded_in))]
+fn answer_at(bytes: &[u8], at: usize) -> Option<(Result<Span, u8>, usize)>
     ensures { FindsAnswer bytes.now at result }
 {
     if bytes.len() <= at {
-        return AnswerRead::Cut;
+        return None;
     }
-    let refusal = bytes[at];
-    if refusal != 0 {
-        return AnswerRead::Answer(refusal, at + 1, at + 1);
+    if bytes[at] != 0 {
+        return Some((Err(bytes[at]), at + 1));
     }
-    match prefixed_at(bytes, at + 1) {
-        Prefixed::Bytes(reply, end) => AnswerRead::Answer(0, reply, end),
-        Prefixed::Cut => AnswerRead::Cut,
-    }
+    let reply = prefixed_at(bytes, at + 1)?;
+    Some((Ok(reply), reply.end))
 }
 
 // A message and its verdicts, behind the opening byte.
-fn read_request(bytes: &[u8]) -> CallRead
+#[tactic(auto, unfolding(crate::specs::Log::request_in))]
+fn read_request(bytes: &[u8]) -> Option<CallPlaces>
     ensures { FindsRequest bytes.now result }
 {
-    let Prefixed::Bytes(start, end) = prefixed_at(bytes, 1) else {
-        return CallRead::Missing;
-    };
-    let Prefixed::Bytes(verdicts, verdicts_end) = prefixed_at(bytes, end) else {
-        return CallRead::Missing;
-    };
-    CallRead::Call(CallPlaces {
-        is_order: false,
-        start: start,
-        end: end,
-        verdicts: verdicts,
-        verdicts_end: verdicts_end,
-    })
+    let message = prefixed_at(bytes, 1)?;
+    let verdicts = prefixed_at(bytes, message.end)?;
+    Some(CallPlaces::Message { message, verdicts })
 }
 
-fn read_order(bytes: &[u8]) -> CallRead
+#[tactic(auto, unfolding(crate::specs::Log::order_in))]
+fn read_order(bytes: &[u8]) -> Option<CallPlaces>
     ensures { FindsOrder bytes.now result }
 {
-    let Prefixed::Bytes(start, end) = prefixed_at(bytes, 1) else {
-        return CallRead::Missing;
-    };
-    CallRead::Call(CallPlaces {
-        is_order: true,
-        start: start,
-        end: end,
-        verdicts: end,
-        verdicts_end: end,
-    })
+    Some(CallPlaces::Order(prefixed_at(bytes, 1)?))
 }
 
-fn read_call(bytes: &[u8]) -> CallRead
+#[tactic(auto, unfolding(crate::specs::Log::received_in))]
+fn read_call(bytes: &[u8]) -> Option<CallPlaces>
     ensures { FindsCall bytes.now result }
 {
-    if bytes.len() == 0 {
-        return CallRead::Missing;
-    }
-    match bytes[0] {
+    match *bytes.first()? {
         MESSAGE => read_request(bytes),
         ORDER => read_order(bytes),
-        _ => CallRead::Missing,
+        _ => None,
     }
 }
 
-pub fn read_entry(bytes: &[u8]) -> EntryRead
+// What some bytes start with: an entry, or none that is whole.
+#[tactic(auto, unfolding(crate::specs::Log::entry_in))]
+pub fn read_entry(bytes: &[u8]) -> Option<EntryPlaces>
     ensures { FindsEntry bytes.now result }
 {
-    let CallRead::Call(call) = read_call(bytes) else {
-        return EntryRead::Missing;
-    };
-    let AnswerRead::Answer(refusal, reply, end) = answer_at(bytes, call.verdicts_end) else {
-        return EntryRead::Missing;
-    };
-    EntryRead::Entry(EntryPlaces {
-        call: call,
-        refusal: refusal,
-        reply: reply,
-        end: end,
-    })
+    let call = read_call(bytes)?;
+    let (answer, end) = answer_at(bytes, call.end())?;
+    Some(EntryPlaces { call, answer, end })
 }

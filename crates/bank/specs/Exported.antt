@@ -1,20 +1,16 @@
 -- The contracts of the functions for Rust and C.
 use Rattle.std.specs.Prelude.{◌≡◌, Bool, true, false, List, ℕ}
 use Rattle.base.specs.Outcome.{Outcome, accepted, refused}
-use Rattle.base.specs.declared.taking.Taking.{Taking}
-use Rattle.base.specs.declared.taking.Taking.TheVariants.{Taken, Refused as NotTaken}
 use Rattle.protocol.specs.Bank.{bank_call}
 use Rattle.protocol.specs.Order.{order_call}
 use Rattle.protocol.specs.declared.replica.Bank.{Bank}
-use Rattle.protocol.specs.declared.replica.ReplicaAnswer.{ReplicaAnswer}
-use Rattle.protocol.specs.declared.replica.ReplicaAnswer.TheVariants.{Send, Refused}
 use Rattle.bank.specs.declared.exported.NumberedAnswer.{NumberedAnswer}
 use Rattle.bank.specs.declared.exported.NumberedTaking.{NumberedTaking}
 
 -- An answer in numbers: whether a message is sent, with its length or the refusal's number.
-abbrev pub in_numbers : ReplicaAnswer → NumberedAnswer
-in_numbers (Send n) = record { sent = true; number = n }
-in_numbers (Refused number) = record { sent = false; number = number }
+abbrev pub in_numbers : Outcome ℕ → NumberedAnswer
+in_numbers (accepted n) = record { sent = true; number = n }
+in_numbers (refused number) = record { sent = false; number = number }
 
 -- Whether setting up was not refused.
 abbrev pub is_good : Outcome (Unit {0}) → Bool
@@ -28,9 +24,9 @@ pub record StepsInNumbers (bank : Bank) (bytes verdicts old : List ℕ) (answere
   pub output : new ≡ (bank_call bank bytes verdicts old).output
 
 -- The answer to an order in numbers, and its contract.
-abbrev pub taking_in_numbers : Taking → NumberedTaking
-taking_in_numbers Taken = record { taken = true; number = 0 }
-taking_in_numbers (NotTaken number) = record { taken = false; number = number }
+abbrev pub taking_in_numbers : Outcome (Unit {0}) → NumberedTaking
+taking_in_numbers (accepted done) = record { taken = true; number = 0 }
+taking_in_numbers (refused number) = record { taken = false; number = number }
 
 pub record OrdersInNumbers (bank : Bank) (order : List ℕ) (answered : NumberedTaking) (left : Bank) : Type 0 where
   pub answer : answered ≡ taking_in_numbers (order_call bank order).answer

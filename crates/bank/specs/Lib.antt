@@ -1,3 +1,4 @@
 pub mod Exported
+pub mod Making
 pub mod Ordering
 pub mod Stepping

@@ -1,12 +1,13 @@
 // The replica for Rust and C: records in C's layout, and numbers in place of enums. The static library `bank_c` exports it.
 ghost use Rattle.std.specs.Prelude.{◌≡◌};
+ghost use Rattle.base.specs.Refusal.{outcome};
 ghost use Rattle.protocol.specs.Bank.{bank_setup, made_bank};
 ghost use Rattle.bank.specs.Exported.{in_numbers, is_good, StepsInNumbers, taking_in_numbers, OrdersInNumbers};
 
-use crate::{fresh, step_in_place, take_order_in_place};
-use base::party::{ReplicaId, Setup};
-use base::taking::Taking;
-use protocol::replica::{Bank, ReplicaAnswer};
+use crate::{fresh, nobody, step_in_place, take_order_in_place};
+use base::party::ReplicaId;
+use base::refusal::Refusal;
+use protocol::replica::Bank;
 
 // An answer: the length of the message to send if `sent`, and the refusal's number otherwise.
 #[repr(C)]
@@ -32,64 +33,61 @@ pub struct MadeBank {
     pub bank: Bank,
 }
 
-fn in_numbers(answer: ReplicaAnswer) -> NumberedAnswer
-    ensures { result ≡ in_numbers answer }
-{
-    match answer {
-        ReplicaAnswer::Send(length) => NumberedAnswer {
-            sent: true,
-            number: length,
-        },
-        ReplicaAnswer::Refused(number) => NumberedAnswer {
-            sent: false,
-            number: number as usize,
-        },
+impl From<Result<usize, Refusal>> for NumberedAnswer {
+    ghost from_gives = { λ answer numbered. numbered ≡ in_numbers (outcome answer) };
+
+    fn from(answer: Result<usize, Refusal>) -> NumberedAnswer {
+        match answer {
+            Ok(length) => NumberedAnswer {
+                sent: true,
+                number: length,
+            },
+            Err(refusal) => NumberedAnswer {
+                sent: false,
+                number: usize::from(refusal.number()),
+            },
+        }
     }
 }
 
+impl From<Result<(), Refusal>> for NumberedTaking {
+    ghost from_gives = { λ answer numbered. numbered ≡ taking_in_numbers (outcome answer) };
+
+    fn from(answer: Result<(), Refusal>) -> NumberedTaking {
+        match answer {
+            Ok(()) => NumberedTaking {
+                taken: true,
+                number: 0,
+            },
+            Err(refusal) => NumberedTaking {
+                taken: false,
+                number: refusal.number(),
+            },
+        }
+    }
+}
+
+#[tactic(auto, unfolding(protocol::specs::Bank::made_bank))]
 pub fn bank_fresh(f: u8, id: ReplicaId, key: &[u8]) -> MadeBank
     ensures { (result.good ≡ is_good (bank_setup f id key.now)) × (result.bank ≡ made_bank f id key.now) }
 {
-    let made = fresh(f, id, key);
-    let setup = made.setup;
-    let bank = made.bank;
-    let Setup::Good = setup else {
-        return MadeBank {
+    match fresh(f, id, key) {
+        Ok(bank) => MadeBank { good: true, bank },
+        Err(_) => MadeBank {
             good: false,
-            bank: bank,
-        };
-    };
-    MadeBank {
-        good: true,
-        bank: bank,
+            bank: nobody(),
+        },
     }
 }
 
 pub fn bank_step(bank: &mut Bank, message: &[u8], verdicts: &[u8], out: &mut [u8]) -> NumberedAnswer
     ensures { StepsInNumbers bank.old message.now verdicts.now out.old result bank.new out.new }
 {
-    let answer = step_in_place(bank, message, verdicts, out);
-    in_numbers(answer)
-}
-
-fn taking_in_numbers(taking: Taking) -> NumberedTaking
-    ensures { result ≡ taking_in_numbers taking }
-{
-    match taking {
-        Taking::Taken => NumberedTaking {
-            taken: true,
-            number: 0,
-        },
-        Taking::Refused(number) => NumberedTaking {
-            taken: false,
-            number: number,
-        },
-    }
+    step_in_place(bank, message, verdicts, out).into()
 }
 
 pub fn bank_take_order(bank: &mut Bank, order: &[u8]) -> NumberedTaking
     ensures { OrdersInNumbers bank.old order.now result bank.new }
 {
-    let taking = take_order_in_place(bank, order);
-    taking_in_numbers(taking)
+    take_order_in_place(bank, order).into()
 }

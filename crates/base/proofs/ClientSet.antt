@@ -13,7 +13,7 @@ use Rattle.base.specs.Range.{within}
 use Rattle.base.specs.declared.client_set.ClientSet.{ClientSet}
 use Rattle.base.specs.declared.party.ClientId.{ClientId}
 use Rattle.base.proofs.Apart.{apart}
-use Rattle.base.proofs.Booleans.{and_true_both, or_true}
+use Rattle.std.proofs.lemmas.Bool.{and_parts, or_cases}
 use Rattle.base.proofs.Digits.{digit}
 use Rattle.base.proofs.Mask.{in_zero, in_put, put_again, put_outside}
 use Rattle.base.proofs.Range.{inside, below, above, bounds}
@@ -73,13 +73,13 @@ has_put set x e = has_with set x x e ∙ rw (eq-eqb x.0 x.0 refl)
 -- Who is in already changes nothing.
 pub with_again : (set : ClientSet) (x : ClientId) → has set x ≡ true → with set x ≡ set
 unfolding has with
-with_again set x e = go (or_true (in_mask 1 64 set.writers x.0) (in_mask 65 96 set.viewers x.0) e)
+with_again set x e = go (or_cases (in_mask 1 64 set.writers x.0) (in_mask 65 96 set.viewers x.0) e)
   where
     both : (writers viewers : ℕ) → writers ≡ set.writers → viewers ≡ set.viewers → ◌≡◌ {A = ClientSet} (record { writers = writers; viewers = viewers }) set
     both writers viewers h k = rw (h, k)
 
     range : (low high mask : ℕ) → in_mask low high mask x.0 ≡ true → (low ≤ x.0) × (x.0 ≤ high)
-    range low high mask h = bounds low high x.0 (and_true_both (within low high x.0) (digit (x.0 - low) mask) h).0
+    range low high mask h = bounds low high x.0 (and_parts (within low high x.0) (digit (x.0 - low) mask) h).0
 
     go : (in_mask 1 64 set.writers x.0 ≡ true) ⊎ (in_mask 65 96 set.viewers x.0 ≡ true)
         → ◌≡◌ {A = ClientSet} (record { writers = put_in 1 64 set.writers x.0; viewers = put_in 65 96 set.viewers x.0 }) set

@@ -7,7 +7,7 @@ use native.Mathlib.Omega.{arith}
 use borrow.Author.Tests.{leb-true, leb-false}
 use lib.Dec.{leb}
 use lib.ListN.{length, take, drop, length-drop, drop_of_length-le}
-use lib.Seq.{take_all, take-nil, drop-length}
+use lib.Seq.{take_all, take-nil}
 use Rattle.base.specs.Bytes.{between}
 
 module _ (s : List ℕ) where
@@ -21,17 +21,6 @@ module _ (s : List ℕ) where
       go : (b : Bool) → leb n (length s) ≡ b → take (min n (length s)) s ≡ take n s
       go true e = let less = leb-true n (length s) e in let same : min n (length s) ≡ n = omega arith in rw same
       go false e = let more = leb-false n (length s) e in front_cut (min n (length s)) n s (omega arith) (omega arith)
-
-  pub drop_cut : (n : ℕ) → drop (min n (length s)) s ≡ drop n s
-  drop_cut n = go (leb n (length s)) refl
-    where
-      go : (b : Bool) → leb n (length s) ≡ b → drop (min n (length s)) s ≡ drop n s
-      go true e = let less = leb-true n (length s) e in let same : min n (length s) ≡ n = omega arith in rw same
-      go false e =
-          let more = leb-false n (length s) e in
-          let same : min n (length s) ≡ length s = omega arith in
-          let past : length s ≤ n = omega arith in
-          rw (same, drop-length s, drop_of_length-le s past)
 
   module _ (at end to from : ℕ) (ends : to ≡ min end (length s)) (starts : from ≡ min at to) where
     pub between_cut : take (to - from) (drop from s) ≡ between s at end

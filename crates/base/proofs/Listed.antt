@@ -15,7 +15,7 @@ use Rattle.base.specs.Range.{within}
 use Rattle.base.specs.ReplicaSet.{empty, has, with, with_all, set_of, size}
 use Rattle.base.specs.Rising.{listed, rising}
 use Rattle.base.proofs.Apart.{apart}
-use Rattle.base.proofs.Booleans.{and_true_both, or_true}
+use Rattle.std.proofs.lemmas.Bool.{and_parts, or_cases}
 use Rattle.base.proofs.Counting.{count_agree}
 use Rattle.base.proofs.Quorum.{rising_first, rising_count}
 use Rattle.base.proofs.Range.{inside, bounds}
@@ -39,7 +39,7 @@ members ids id = go (within 1 16 id.0) refl
     go false e = unfold has in rw e
 
 pub member_listed : (ids : List ReplicaId) (id : ReplicaId) → has (set_of ids) id ≡ true → listed ids id ≡ true
-member_listed ids id there = (and_true_both (within 1 16 id.0) (listed ids id) (sym (members ids id) ∙ there)).1
+member_listed ids id there = (and_parts (within 1 16 id.0) (listed ids id) (sym (members ids id) ∙ there)).1
 
 pub count_members : (n : ℕ) (ids : List ReplicaId) → n ≤ 16 → count n (has (set_of ids)) ≡ count n (listed ids)
 count_members n ids small = count_agree n (has (set_of ids)) (listed ids) (λ i low high. members ids (replica i) ∙ rw (inside 1 16 i low (omega arith)))
@@ -65,7 +65,7 @@ rising_size n ids small up = count_members 16 ids (omega arith) ∙ rising_count
 pub rising_within : (last n : ℕ) (ids : List ReplicaId) (id : ReplicaId) → rising last n ids ≡ true → listed ids id ≡ true → (last < id.0) × (id.0 ≤ n)
 unfolding listed
 rising_within last n [] id up there = apart (cc)
-rising_within last n (x ∷ ids) id up there = go (λ e. rising_within x.0 n ids id (rising_first last n x ids up).2 e) (or_true (eqb id.0 x.0) (listed ids id) there)
+rising_within last n (x ∷ ids) id up there = go (λ e. rising_within x.0 n ids id (rising_first last n x ids up).2 e) (or_cases (eqb id.0 x.0) (listed ids id) there)
   where
     go : (listed ids id ≡ true → (x.0 < id.0) × (id.0 ≤ n)) → (eqb id.0 x.0 ≡ true) ⊎ (listed ids id ≡ true) → (last < id.0) × (id.0 ≤ n)
     go behind (inl e) = let r = rising_first last n x ids up in let same = eqb-true id.0 x.0 e in (omega arith, omega arith)

@@ -1,15 +1,16 @@
 -- What masks hold. Assumes nothing.
 use mathlib.Core.Path.{◌≡◌, refl, ap, ◌∙◌}
 use mathlib.Core.Bool.{Bool, true, false, ◌||◌, cond, or_comm, and-false}
-use Prim.Native.Nat.{ℕ, ◌-◌, ◌^◌, ◌≤◌}
+use Prim.Native.Nat.{ℕ, ◌+◌, ◌-◌, ◌^◌, ◌≤◌, ◌<◌}
 use native.Mathlib.Omega.{arith}
 use borrow.Author.Tests.{eq-eqb, ne_eqb, eqb-true, eqb-false}
-use lib.Bits.{bit_or}
+use lib.Bits.{bit_or, or_lt}
 use lib.Dec.{eqb}
+use lib.Pow.{pow-lt}
 use Rattle.base.specs.Mask.{in_mask, put_in}
 use Rattle.base.specs.Range.{within}
 use Rattle.base.proofs.Apart.{apart}
-use Rattle.base.proofs.Booleans.{and_true_both}
+use Rattle.std.proofs.lemmas.Bool.{and_parts}
 use Rattle.base.proofs.Digits.{digit, digit_zero, digit_or, digit_power, or_set}
 use Rattle.base.proofs.Range.{bounds}
 
@@ -36,7 +37,21 @@ module _ (low high mask : ℕ) where
 
   -- What is in already, or can never be, leaves it as it is.
   pub put_again : (x : ℕ) → in_mask low high mask x ≡ true → put_in low high mask x ≡ mask
-  put_again x e = let both = and_true_both (within low high x) (digit (x - low) mask) e in rw both.0 (or_set (x - low) mask both.1)
+  put_again x e = let both = and_parts (within low high x) (digit (x - low) mask) e in rw both.0 (or_set (x - low) mask both.1)
 
   pub put_outside : (x : ℕ) → within low high x ≡ false → put_in low high mask x ≡ mask
   put_outside x e = rw e
+
+  -- A mask of so many digits stays one.
+  pub put_below : (width x : ℕ) → high < low + width → mask < 2 ^ width → put_in low high mask x < 2 ^ width
+  put_below width x fits small = go (within low high x) refl
+    where
+      go : (b : Bool) → within low high x ≡ b → cond b (bit_or mask (2 ^ (x - low))) mask < 2 ^ width
+      go true k = let there = bounds low high x k in or_lt width mask (2 ^ (x - low)) small (pow-lt (omega arith))
+      go false k = small
+
+pub put_in_16 : (mask x : ℕ) → mask < 2 ^ 16 → put_in 1 16 mask x < 2 ^ 16
+put_in_16 mask x h = put_below 1 16 mask 16 x (omega arith) h
+
+pub put_in_32 : (mask x : ℕ) → mask < 2 ^ 32 → put_in 65 96 mask x < 2 ^ 32
+put_in_32 mask x h = put_below 65 96 mask 32 x (omega arith) h

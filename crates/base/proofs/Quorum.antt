@@ -11,7 +11,7 @@ use Rattle.base.specs.declared.party.ReplicaId.{ReplicaId}
 use Rattle.base.specs.Counting.{replica, one, count}
 use Rattle.base.specs.Party.{replica_count, quorum_size}
 use Rattle.base.specs.Rising.{listed, rising}
-use Rattle.base.proofs.Booleans.{and_true_both}
+use Rattle.std.proofs.lemmas.Bool.{and_parts}
 use Rattle.base.proofs.Counting.{count_none, count_not, count_one_more}
 
 -- A replica among 1 to n that passes three tests.
@@ -75,8 +75,8 @@ module _ (f : ℕ) (correct : ReplicaId → Bool) (few : count (replica_count f)
 pub rising_first : (last n : ℕ) (x : ReplicaId) (xs : List ReplicaId) → rising last n (x ∷ xs) ≡ true → (last < x.0) × (x.0 ≤ n) × (rising x.0 n xs ≡ true)
 unfolding rising
 rising_first last n x xs h =
-    let rest = and_true_both (ltb last x.0 && leb x.0 n) (rising x.0 n xs) h in
-    let ends = and_true_both (ltb last x.0) (leb x.0 n) rest.0 in
+    let rest = and_parts (ltb last x.0 && leb x.0 n) (rising x.0 n xs) h in
+    let ends = and_parts (ltb last x.0) (leb x.0 n) rest.0 in
     (ltb-true last x.0 ends.0, leb-true x.0 n ends.1, rest.1)
 
 -- What a rising list holds lies above its bound.

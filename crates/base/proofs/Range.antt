@@ -5,7 +5,7 @@ use Prim.Native.Nat.{ℕ, ◌≤◌, ◌<◌}
 use borrow.Author.Tests.{le-leb, lt-leb, leb-true}
 use lib.Dec.{leb}
 use Rattle.base.specs.Range.{within}
-use Rattle.base.proofs.Booleans.{and_true_both}
+use Rattle.std.proofs.lemmas.Bool.{and_parts}
 
 module _ (low high x : ℕ) where
   pub inside : low ≤ x → x ≤ high → within low high x ≡ true
@@ -22,4 +22,4 @@ module _ (low high x : ℕ) where
 
   pub bounds : within low high x ≡ true → (low ≤ x) × (x ≤ high)
   unfolding within
-  bounds h = let both = and_true_both (leb low x) (leb x high) h in (leb-true low x both.0, leb-true x high both.1)
+  bounds h = let both = and_parts (leb low x) (leb x high) h in (leb-true low x both.0, leb-true x high both.1)

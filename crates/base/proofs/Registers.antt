@@ -10,9 +10,6 @@ use Rattle.base.proofs.Range.{bounds}
 pub place_of : (id : RegisterId) → is_register id ≡ true → register_place id ≡ id.0 - 1
 place_of id e = rw e
 
-pub place_of_none : (id : RegisterId) → is_register id ≡ false → register_place id ≡ 0
-place_of_none id e = rw e
-
 pub place_below : (id : RegisterId) → register_place id < 16
 place_below id = go (is_register id) refl
   where

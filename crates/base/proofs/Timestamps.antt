@@ -1,11 +1,11 @@
 -- Timestamps and their numbers: order, successor, bytes. Assumes nothing.
 use mathlib.Core.Path.{◌≡◌, refl}
-use mathlib.Core.Option.{none, some}
 use mathlib.Core.Bool.{Bool, true, false, ◌&&◌, ◌||◌, cond}
 use Prim.Native.Nat.{ℕ, ◌+◌, ◌*◌, ◌/◌, ◌%◌, ◌<◌}
 use native.Mathlib.Omega.{arith}
 use borrow.Author.Tests.{eqb-true, eqb-false, ltb-true, ltb-false, lt-ltb, le-ltb}
 use lib.Dec.{eqb, ltb}
+use Rattle.std.specs.declared.option.Option.TheVariants.{Some, None}
 use Rattle.base.specs.Timestamp.{number, of_number, is_before, successor}
 use Rattle.base.specs.declared.party.ClientId.{ClientId}
 use Rattle.base.specs.declared.timestamp.Timestamp.{Timestamp}
@@ -41,10 +41,10 @@ counts_first a b ha hb = go (eqb a.count b.count) (ltb a.count b.count) (ltb a.c
         le-ltb (number a) (number b) (omega arith)
 
 -- A successor as a number: one count further, with the client that takes it.
-pub successor_number : (t s : Timestamp) (client : ClientId) → t.client.0 < 256 → successor t client ≡ some s → number s ≡ (number t / 256 + 1) * 256 + client.0
+pub successor_number : (t s : Timestamp) (client : ClientId) → t.client.0 < 256 → successor t client ≡ Some s → number s ≡ (number t / 256 + 1) * 256 + client.0
 successor_number t s client h e = go (eqb t.count 4_294_967_295) e
   where
-    go : (last : Bool) → cond last none (some (record { count = t.count + 1; client = client })) ≡ some s → number s ≡ (number t / 256 + 1) * 256 + client.0
+    go : (last : Bool) → cond last None (Some (record { count = t.count + 1; client = client })) ≡ Some s → number s ≡ (number t / 256 + 1) * 256 + client.0
     go true k = apart (cc)
     go false k =
         let made : ◌≡◌ {A = Timestamp} (record { count = t.count + 1; client = client }) s = cc in

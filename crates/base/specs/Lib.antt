@@ -8,8 +8,8 @@ pub mod Mask
 pub mod Outcome
 pub mod Party
 pub mod Range
+pub mod Refusal
 pub mod ReplicaSet
 pub mod Rising
 pub mod Same
-pub mod Taking
 pub mod Timestamp

@@ -1,13 +1,11 @@
 -- Document 01, "Parties and stamps": the fault bound (allowance) f, the numbers of replicas (holders) and clients (desks), the quorum. Document
 -- 02, #103: the numbers of registers (sets).
 use Rattle.std.specs.Prelude.{Bool, ◌&&◌, not, cond, ℕ, ◌+◌, ◌-◌, ◌*◌, min, leb}
-use Rattle.base.specs.Outcome.{Outcome, accepted, refused, guard}
+use Rattle.base.specs.Outcome.{Outcome, accepted, guard}
 use Rattle.base.specs.Range.{within}
 use Rattle.base.specs.declared.party.ReplicaId.{ReplicaId}
 use Rattle.base.specs.declared.party.ClientId.{ClientId}
 use Rattle.base.specs.declared.party.RegisterId.{RegisterId}
-use Rattle.base.specs.declared.party.Setup.{Setup}
-use Rattle.base.specs.declared.party.Setup.TheVariants.{Good, Refused}
 
 -- "The allowance f is 1 to 5."
 abbrev pub is_fault_bound : ℕ → Bool
@@ -58,8 +56,3 @@ client_setup f id nonce = client_setup_if (is_writer id) f nonce
 
 abbrev pub viewer_setup : ℕ → ClientId → ℕ → Outcome (Unit {0})
 viewer_setup f id nonce = client_setup_if (is_viewer id) f nonce
-
--- What an answer of the code stands for.
-abbrev pub setup_outcome : Setup → Outcome (Unit {0})
-setup_outcome Good = accepted tt
-setup_outcome (Refused number) = refused number

@@ -1,11 +1,10 @@
 -- Document 01, "Parties and stamps": timestamps (stamps).
 use Rattle.std.specs.Prelude.{◌≡◌, Bool, ◌&&◌, ◌||◌, cond, ℕ, ◌+◌, ◌*◌, ◌/◌, ◌%◌, leb, ltb, eqb}
-use Rattle.std.proofs.Math.Option.{Option, none, some}
+use Rattle.std.specs.declared.option.Option.{Option}
+use Rattle.std.specs.declared.option.Option.TheVariants.{Some, None}
 use Rattle.base.specs.Party.{is_writer}
 use Rattle.base.specs.declared.party.ClientId.{ClientId}
 use Rattle.base.specs.declared.timestamp.Timestamp.{Timestamp}
-use Rattle.base.specs.declared.timestamp.Successor.{Successor}
-use Rattle.base.specs.declared.timestamp.Successor.TheVariants.{Next, Missing}
 
 -- "A stamp is a count (4 bytes) and a desk (1 byte)": its five bytes as one number, by which timestamps are compared.
 abbrev pub number : Timestamp → ℕ
@@ -37,12 +36,7 @@ start = record { count = 0; client = record { 0 = 0 } }
 
 -- "The successor of a stamp for desk d is (count + 1).d; count 4,294,967,295 has none."
 abbrev pub successor : Timestamp → ClientId → Option Timestamp
-successor t client = cond (eqb t.count 4_294_967_295) none (some (record { count = t.count + 1; client = client }))
-
--- What an answer of the code stands for.
-abbrev pub successor_of : Successor → Option Timestamp
-successor_of (Next t) = some t
-successor_of Missing = none
+successor t client = cond (eqb t.count 4_294_967_295) None (Some (record { count = t.count + 1; client = client }))
 
 -- Refusal 11 of a timestamp: "A stamp present has count 0 or a desk outside 1 to 64."
 abbrev pub is_issued : Timestamp → Bool

@@ -3,6 +3,7 @@
 ghost use Rattle.std.specs.Prelude.{◌≡◌};
 ghost use Rattle.base.specs.ClientSet.{nobody, has, with};
 
+use crate::bit_mask;
 use crate::party::{CLIENTS, ClientId, WRITERS};
 
 #[repr(C)]
@@ -24,43 +25,22 @@ impl ClientSet {
         }
     }
 
+    #[tactic(auto, unfolding(crate::specs::ClientSet::has))]
     pub fn has(self, id: ClientId) -> bool
         ensures { result ≡ has self id }
     {
-        let number = id.0;
-        if number < 1 {
-            return false;
-        }
-        if CLIENTS < number {
-            return false;
-        }
-        if number <= WRITERS {
-            return (self.writers >> (number - 1)) % 2 == 1;
-        }
-        (self.viewers >> (number - FIRST_VIEWER)) % 2 == 1
+        bit_mask::has(1, WRITERS, self.writers, id.0)
+            || bit_mask::has(FIRST_VIEWER, CLIENTS, u64::from(self.viewers), id.0)
     }
 
+    #[tactic(auto, using(crate::proofs::Mask::put_in_32), unfolding(crate::specs::ClientSet::with))]
     pub fn with(self, id: ClientId) -> Self
         ensures { result ≡ with self id }
     {
-        let number = id.0;
-        if number < 1 {
-            return self;
-        }
-        if CLIENTS < number {
-            return self;
-        }
-        if number <= WRITERS {
-            let one: u64 = 1;
-            return ClientSet {
-                writers: self.writers | (one << (number - 1)),
-                viewers: self.viewers,
-            };
-        }
-        let bit: u32 = 1;
+        // `as`: it fits, as is proved, and try_from would bring an error that cannot be.
         ClientSet {
-            writers: self.writers,
-            viewers: self.viewers | (bit << (number - FIRST_VIEWER)),
+            writers: bit_mask::with(1, WRITERS, self.writers, id.0),
+            viewers: bit_mask::with(FIRST_VIEWER, CLIENTS, u64::from(self.viewers), id.0) as u32,
         }
     }
 }

@@ -2,12 +2,11 @@
 #![tactic(auto)]
 
 pub mod big_endian;
+mod bit_mask;
 pub mod bytes;
 pub mod client_set;
-pub mod numbers;
 pub mod party;
 pub mod refusal;
 pub mod replica_set;
 pub mod slices;
-pub mod taking;
 pub mod timestamp;

@@ -3,7 +3,9 @@ ghost use Rattle.std.specs.Prelude.{◌≡◌};
 ghost use Rattle.base.specs.BigEndian.{to_bytes};
 ghost use Rattle.base.specs.ReplicaSet.{empty, has, with, is_quorum};
 
-use crate::party::ReplicaId;
+use crate::big_endian::to_two;
+use crate::bit_mask;
+use crate::party::{ReplicaId, quorum_size, replica_count};
 
 #[repr(C)]
 #[derive(Clone, Copy)]
@@ -18,47 +20,33 @@ impl ReplicaSet {
         ReplicaSet(0)
     }
 
+    #[tactic(auto, unfolding(crate::specs::ReplicaSet::has))]
     pub fn has(self, id: ReplicaId) -> bool
         ensures { result ≡ has self id }
     {
-        let number = id.0;
-        if number < 1 {
-            return false;
-        }
-        if LARGEST_ID < number {
-            return false;
-        }
-        (self.0 >> (number - 1)) % 2 == 1
+        bit_mask::has(1, LARGEST_ID, u64::from(self.0), id.0)
     }
 
+    #[tactic(auto, using(crate::proofs::Mask::put_in_16), unfolding(crate::specs::ReplicaSet::with))]
     pub fn with(self, id: ReplicaId) -> Self
         ensures { result ≡ with self id }
     {
-        let number = id.0;
-        if number < 1 {
-            return self;
-        }
-        if LARGEST_ID < number {
-            return self;
-        }
-        let one: u16 = 1;
-        ReplicaSet(self.0 | (one << (number - 1)))
+        // `as`: it fits, as is proved, and try_from would bring an error that cannot be.
+        ReplicaSet(bit_mask::with(1, LARGEST_ID, u64::from(self.0), id.0) as u16)
     }
 
     // The 16 bits, the high byte first.
     pub fn to_bytes(self) -> [u8; 2]
         ensures { result ≡ to_bytes 2 self.0 }
     {
-        crate::big_endian::to_two(self.0)
+        to_two(self.0)
     }
 
     // Whether the set has a quorum of the replicas 1 to n.
     pub fn is_quorum(self, f: u8) -> bool
         ensures { result ≡ is_quorum f self }
     {
-        let n = crate::party::replica_count(f);
-        let one: u32 = 1;
-        let among = self.0 as u32 % (one << n);
-        crate::party::quorum_size(f) as u32 <= u32::count_ones(among)
+        let among = u32::from(self.0) % (1 << replica_count(f));
+        u32::from(quorum_size(f)) <= among.count_ones()
     }
 }

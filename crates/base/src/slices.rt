@@ -2,27 +2,22 @@
 ghost use Rattle.std.specs.Prelude.{◌≡◌, take, drop};
 ghost use Rattle.base.specs.Bytes.{between};
 
-use crate::numbers::smaller;
-
 pub fn between(bytes: &[u8], at: usize, end: usize) -> &[u8]
     ensures { result.now ≡ between bytes.now at end }
 {
-    let to = smaller(end, bytes.len());
-    let from = smaller(at, to);
-    &bytes[from..to]
+    let end = end.min(bytes.len());
+    &bytes[at.min(end)..end]
 }
 
 // So many bytes in front, and all but these.
 pub fn front(bytes: &[u8], count: usize) -> &[u8]
     ensures { result.now ≡ take count bytes.now }
 {
-    let to = smaller(count, bytes.len());
-    &bytes[0..to]
+    &bytes[..count.min(bytes.len())]
 }
 
 pub fn behind(bytes: &[u8], count: usize) -> &[u8]
     ensures { result.now ≡ drop count bytes.now }
 {
-    let from = smaller(count, bytes.len());
-    &bytes[from..]
+    &bytes[count.min(bytes.len())..]
 }

@@ -4,8 +4,6 @@ use mathlib.Core.Bool.{Bool, true, false, cond}
 use mathlib.Core.List.{List, [], ◌∷◌, ◌++◌, map-append, append_assoc, append-nil}
 use Prim.Native.Nat.{ℕ, zero, suc, ◌+◌, ◌-◌, ◌*◌, ◌≤◌, ◌<◌, min}
 use native.Mathlib.Omega.{arith}
-use borrow.Author.Tests.{ltb-true, ltb-false}
-use lib.Dec.{ltb}
 use lib.ListN.{length, take, drop, set, length-append, length-take, length-drop}
 use lib.Seq.{length-take-le, take-append-le, take_all, take_at, drop_at, drop-append-add, drop-drop, set_split, append_snoc}
 use Rattle.base.specs.Counting.{replica}
@@ -16,8 +14,8 @@ use Rattle.wire.specs.Proof.{Entry, signers, signer_set, entries_bytes, read_ent
 use Rattle.protocol.specs.Client.{gathered, signature_at}
 use Rattle.base.specs.Bytes.{filled}
 use Rattle.protocol.specs.Parts.{entries_kept}
-use Rattle.client.specs.Arrays.{taken, Added, Keeps}
-use Rattle.base.proofs.Booleans.{and_true_both}
+use Rattle.client.specs.Arrays.{Added, Keeps}
+use Rattle.client.specs.declared.signatures.Built.{Built}
 use Rattle.base.proofs.Filling.{zeros, filled_zeros, filled_more}
 use Rattle.base.proofs.Listed.{with_all_append}
 
@@ -51,10 +49,6 @@ read_back [] behind h = refl
 read_back (entry ∷ entries) behind h =
     rw (append_assoc, take_at entry.signature (entries_bytes entries ++ behind) 64 h.0, drop_at entry.signature (entries_bytes entries ++ behind) 64 h.0, read_back entries behind h.1)
 
--- A replica that is taken has room.
-pub taken_room : (counted : ReplicaSet) (id : ReplicaId) (count : ℕ) → taken counted id count ≡ true → count < 11
-taken_room counted id count e = ltb-true count 11 (and_true_both (has counted id) (ltb count 11) e).1
-
 -- An entry stored right behind others.
 added : (width count : ℕ) (entries : List Entry) (one : Entry) (old : List ℕ) → Sized entries → length one.signature ≡ 64 → count ≡ length entries → 65 * count + 65 ≤ width
     → old ≡ filled width (entries_bytes entries)
@@ -68,13 +62,13 @@ added width count entries one old sized signed many room was =
     rw (behind, here, was) (filled_more width (entries_bytes entries) block (omega arith) ∙ ap (filled width) (sym (bytes_append entries (one ∷ []) ∙ ap (λ (l : List ℕ). entries_bytes entries ++ l) last)))
 
 -- Entries kept in an array, as a writer takes them.
-pub kept : (entries : List Entry) (count : ℕ) (set : ReplicaSet) (array : List ℕ) → Sized entries → length entries ≤ 11 → Keeps entries count set array → entries_kept array count ≡ entries
-kept entries count set array sized few k =
+pub kept : (entries : List Entry) (built : Built) → Sized entries → length entries ≤ 11 → Keeps entries built → entries_kept built.entries built.count ≡ entries
+kept entries built sized few k =
     let all : min (length entries) 11 ≡ length entries = omega arith in
     let bytes = sized_bytes entries sized in
     rw (k.many, k.holds, all, filled_zeros 715 (entries_bytes entries) (omega arith)) (read_back entries (zeros (715 - length (entries_bytes entries))) sized)
 
-pub nothing_gathered : (counted : ReplicaSet) (signatures : List ℕ) → Keeps (take 11 (gathered 0 counted signatures)) 0 empty (zeros 715)
+pub nothing_gathered : (counted : ReplicaSet) (signatures : List ℕ) → Keeps (take 11 (gathered 0 counted signatures)) (record { count = 0; signers = empty; entries = zeros 715 })
 unfolding gathered entries_bytes with_all
 nothing_gathered counted signatures = record { many = refl; who = refl; holds = refl }
 
@@ -96,42 +90,40 @@ module _ (counted : ReplicaSet) (signatures : List ℕ) (long : length signature
   pub built_sized : (n : ℕ) → n ≤ 16 → Sized (take 11 (gathered n counted signatures))
   built_sized n h = sized_take 11 (gathered n counted signatures) (gathered_sized n h)
 
-  -- One replica more.
-  pub gathered_more : (n count : ℕ) (set : ReplicaSet) (old : List ℕ) (next : ℕ) (next_set : ReplicaSet) (new : List ℕ) → suc n ≤ 16 → Keeps (take 11 (gathered n counted signatures)) count set old
-      → next_set ≡ cond (taken counted (replica (suc n)) count) (with set (replica (suc n))) set
-      → Added counted (replica (suc n)) signatures count old next new → Keeps (take 11 (gathered (suc n) counted signatures)) next next_set new
-  unfolding gathered
-  gathered_more n count set old next next_set new small k joins a = go (has counted (replica (suc n))) refl (ltb count 11) refl
-    where
-      before : List Entry
-      before = gathered n counted signatures
+  module _ (n : ℕ) (old : Built) (small : suc n ≤ 16) (k : Keeps (take 11 (gathered n counted signatures)) old) where
+    abbrev before : List Entry
+    before = gathered n counted signatures
 
-      one : Entry
-      one = record { signer = replica (suc n); signature = signature_at signatures (replica (suc n)) }
+    abbrev one : Entry
+    one = record { signer = replica (suc n); signature = signature_at signatures (replica (suc n)) }
 
-      same_entries : (after : List Entry) → after ≡ take 11 before → next ≡ count → next_set ≡ set → new ≡ old → Keeps after next next_set new
-      same_entries after e i s j = rw (e, i, s, j) k
+    -- A replica more that is counted, with room for it.
+    pub gathered_more : (new : Built) (id : ReplicaId) (signature : List ℕ) → id ≡ replica (suc n) → signature ≡ signature_at signatures (replica (suc n)) → has counted id ≡ true → old.count < 11
+        → Added id signature old new → Keeps (take 11 (gathered (suc n) counted signatures)) new
+    unfolding gathered
+    gathered_more new id signature is own there room a =
+        let many = k.many ∙ length-take 11 before in
+        let all : take 11 before ≡ before = take_all 11 before (omega arith) in
+        let signed : length (signature_at signatures (replica (suc n))) ≡ 64 = simp (length-take, length-drop) (omega arith) in
+        let longer = length-append before (one ∷ []) in
+        let whole : take 11 (before ++ one ∷ []) ≡ before ++ one ∷ [] = take_all 11 (before ++ one ∷ []) (omega arith) in
+        let was : old.entries ≡ filled 715 (entries_bytes before) = k.holds ∙ rw all in
+        rw (rw is at there, whole)
+        (record {
+          many = a.many ∙ (omega arith);
+          who = a.who ∙ rw (k.who, all, is) (sym (signers_append before one));
+          holds = rw (is, own) at a.holds ∙ added 715 old.count before one old.entries (gathered_sized n (omega arith)) signed (omega arith) (omega arith) was;
+        })
 
-      go : (b : Bool) → has counted (replica (suc n)) ≡ b → (r : Bool) → ltb count 11 ≡ r → Keeps (take 11 (before ++ cond (has counted (replica (suc n))) (one ∷ []) [])) next next_set new
-      go false e r f = same_entries _ (rw (e, append-nil)) (a.next_is ∙ rw e) (joins ∙ rw e) (a.holds ∙ rw e)
-      go true e false f =
-          let full = ltb-false count 11 f in
-          let many = k.many ∙ length-take 11 before in
-          same_entries _ (rw (e, take-append-le 11 before (one ∷ []) (omega arith))) (a.next_is ∙ rw (e, f)) (joins ∙ rw (e, f)) (a.holds ∙ rw (e, f))
-      go true e true f =
-          let room = ltb-true count 11 f in
-          let many = k.many ∙ length-take 11 before in
-          let all : take 11 before ≡ before = take_all 11 before (omega arith) in
-          let signed : length (signature_at signatures (replica (suc n))) ≡ 64 = simp (length-take, length-drop) (omega arith) in
-          let longer = length-append before (one ∷ []) in
-          let whole : take 11 (before ++ one ∷ []) ≡ before ++ one ∷ [] = take_all 11 (before ++ one ∷ []) (omega arith) in
-          let was : old ≡ filled 715 (entries_bytes before) = k.holds ∙ rw all in
-          rw (e, whole)
-          (record {
-            many = a.next_is ∙ rw (e, f) (omega arith);
-            who = joins ∙ rw (e, f, k.who, all) (sym (signers_append before one));
-            holds = a.holds ∙ rw (e, f) (added 715 count before one old (gathered_sized n (omega arith)) signed (omega arith) (omega arith) was);
-          })
+    -- One that is not.
+    pub gathered_past : has counted (replica (suc n)) ≡ false → Keeps (take 11 (gathered (suc n) counted signatures)) old
+    unfolding gathered
+    gathered_past gone = rw (gone, append-nil) k
+
+    -- One that there is no room for.
+    pub gathered_full : 11 ≤ old.count → Keeps (take 11 (gathered (suc n) counted signatures)) old
+    unfolding gathered
+    gathered_full full = let many = k.many ∙ length-take 11 before in rw (take-append-le 11 before (cond (has counted (replica (suc n))) (one ∷ []) []) (omega arith)) k
 
 -- A byte stored, and bytes right behind it.
 pub byte_then : (old block : List ℕ) (at byte : ℕ) → at + 1 + length block ≤ length old

@@ -1,6 +1,5 @@
 -- A written proof that passed its tests, by the parts that the code reads off it, and what taking it leaves. Assumes nothing.
 use mathlib.Core.Path.{◌≡◌, sym, ◌∙◌}
-use mathlib.Core.Bool.{true, false}
 use mathlib.Core.List.{List}
 use Prim.Native.Nat.{ℕ, ◌*◌}
 use native.Mathlib.Omega.{arith}
@@ -10,7 +9,6 @@ use Rattle.base.specs.Outcome.{accepted, refused, guard}
 use Rattle.base.specs.Timestamp.{of_number}
 use Rattle.base.specs.declared.party.RegisterId.{RegisterId}
 use Rattle.base.specs.declared.replica_set.ReplicaSet.{ReplicaSet}
-use Rattle.base.specs.declared.taking.Taking.TheVariants.{Taken, Refused}
 use Rattle.wire.specs.HandedProof.{handed_signers}
 use Rattle.wire.specs.Layout.{extent, written_rule}
 use Rattle.wire.specs.Parts.{timestamp_part, count_part, entries_part}
@@ -20,6 +18,9 @@ use Rattle.wire.proofs.MessageParts.{front_timestamp}
 use Rattle.wire.proofs.ProofBytes.{entries_read}
 use Rattle.protocol.specs.Handing.{may_take, with_handed, take_proof, hand_call}
 use Rattle.protocol.specs.declared.client.Client.{Client}
+use Rattle.std.specs.declared.result.Result.TheVariants.{Ok, Err}
+use Rattle.base.specs.Refusal.{number_of}
+use Rattle.base.specs.declared.refusal.Refusal.{Refusal}
 use Rattle.client.specs.Handing.{Hands}
 
 module _ (proof : List ℕ) (whole : extent written_rule proof ≡ length proof) where
@@ -37,27 +38,24 @@ module _ (proof : List ℕ) (whole : extent written_rule proof ≡ length proof)
       sym (entries_read (get_or proof 5 0) (drop 6 proof) size)
 
 module _ (client : Client) (register : RegisterId) (proof verdicts : List ℕ) where
-  -- What is handed back, by what taking the proof says.
-  pub refuses : (number : ℕ) → take_proof client register proof verdicts ≡ refused number → Hands client register proof verdicts (record { answer = Refused number; client = client })
-  unfolding hand_call
-  refuses number e = record { answer = rw e; outcome = rw e; next = rw e }
-
-  pub takes : (next : Client) → take_proof client register proof verdicts ≡ accepted next → Hands client register proof verdicts (record { answer = Taken; client = next })
-  unfolding hand_call
-  takes next e = record { answer = rw e; outcome = rw e; next = rw e }
-
-  pub bad_proof : (number : ℕ) → handed_signers client.f register proof verdicts ≡ refused number → take_proof client register proof verdicts ≡ refused number
+  -- What taking the proof makes of what its tests find.
+  pub bad_proof : (number : ℕ) → refused number ≡ handed_signers client.f register proof verdicts → refused number ≡ take_proof client register proof verdicts
   unfolding take_proof
-  bad_proof number e = rw (signers_refused client.f register proof verdicts number e)
+  bad_proof number e = rw (signers_refused client.f register proof verdicts number (sym e))
 
-  module _ (signers : ReplicaSet) (e : handed_signers client.f register proof verdicts ≡ accepted signers) where
+  module _ (signers : ReplicaSet) (e : accepted signers ≡ handed_signers client.f register proof verdicts) where
     pub good_whole : extent written_rule proof ≡ length proof
-    good_whole = (signers_accepted client.f register proof verdicts signers e).0
+    good_whole = (signers_accepted client.f register proof verdicts signers (sym e)).0
 
-    pub not_free : may_take register client ≡ false → take_proof client register proof verdicts ≡ refused 17
-    unfolding take_proof guard
-    not_free k = rw ((signers_accepted client.f register proof verdicts signers e).1, k)
+    pub good_proof : take_proof client register proof verdicts ≡ guard 17 (may_take register client) (accepted (with_handed register (proof_from 0 proof) client))
+    unfolding take_proof
+    good_proof = rw (signers_accepted client.f register proof verdicts signers (sym e)).1
 
-    pub free : may_take register client ≡ true → take_proof client register proof verdicts ≡ accepted (with_handed register (proof_from 0 proof) client)
-    unfolding take_proof guard
-    free k = rw ((signers_accepted client.f register proof verdicts signers e).1, k)
+  -- What is handed back, by what taking the proof makes.
+  pub hands_taken : (next : Client) → accepted next ≡ take_proof client register proof verdicts → Hands client register proof verdicts (record { answer = Ok tt; client = next })
+  unfolding hand_call
+  hands_taken next e = record { answer = rw (← e); says = rw (← e); next = rw (← e) }
+
+  pub hands_refused : (refusal : Refusal) → refused (number_of refusal) ≡ take_proof client register proof verdicts → Hands client register proof verdicts (record { answer = Err refusal; client = client })
+  unfolding hand_call
+  hands_refused refusal e = record { answer = rw (← e); says = rw (← e); next = rw (← e) }

@@ -5,7 +5,6 @@ pub mod Gathering
 pub mod HandedParts
 pub mod Parting
 pub mod Phases
-pub mod ProofPart
 pub mod Records
 pub mod Setups
 pub mod Shorts

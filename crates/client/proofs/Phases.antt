@@ -30,7 +30,7 @@ module _ (client : Client) (sender : ReplicaId) (nonce : ℕ) (proof : Option Pr
   no_stamps (Cards asked best counted showed) k = refl
   no_stamps (WriteBack timestamp counted) k = refl
 
-  module _ (phase : Phase) (asked : ℕ) (best : Timestamp) (counted : ReplicaSet) (e : phase ≡ Stamps asked best counted) where
+  module _ {phase : Phase} {asked : ℕ} {best : Timestamp} {counted : ReplicaSet} (e : phase ≡ Stamps asked best counted) where
     pub stamp_refused : (eqb nonce asked && (eqb addressed.0 client.id.0 && is_new counted sender)) ≡ false → on_stamp client sender nonce proof addressed phase ≡ refused 18
     unfolding on_stamp
     stamp_refused h = ap (on_stamp client sender nonce proof addressed) e ∙ guard_refuses 18 _ _ h
@@ -50,7 +50,7 @@ module _ (next : AfterCards) (client : Client) (sender : ReplicaId) (nonce : ℕ
   no_cards (Cards asked best counted showed) k = absurd (k asked best counted showed refl)
   no_cards (WriteBack timestamp counted) k = refl
 
-  module _ (phase : Phase) (asked : ℕ) (best : Timestamp) (counted showed : ReplicaSet) (e : phase ≡ Cards asked best counted showed) where
+  module _ {phase : Phase} {asked : ℕ} {best : Timestamp} {counted showed : ReplicaSet} (e : phase ≡ Cards asked best counted showed) where
     pub card_refused : (eqb nonce asked && (eqb addressed.0 client.id.0 && is_new counted sender)) ≡ false → on_card next client sender nonce card proof addressed phase ≡ refused 18
     unfolding on_card
     card_refused h = ap (on_card next client sender nonce card proof addressed) e ∙ guard_refuses 18 _ _ h
@@ -71,7 +71,7 @@ module _ (client : Client) (sender : ReplicaId) (timestamp : ℕ) (digest signat
   no_prepareds (Cards asked best counted showed) k = refl
   no_prepareds (WriteBack asked counted) k = refl
 
-  module _ (phase : Phase) (asked : Timestamp) (counted : ReplicaSet) (e : phase ≡ Prepareds asked counted) where
+  module _ {phase : Phase} {asked : Timestamp} {counted : ReplicaSet} (e : phase ≡ Prepareds asked counted) where
     pub prepared_refused : (eqb timestamp (number asked) && (same digest client.digest && is_new counted sender)) ≡ false → on_prepared client sender timestamp digest signature phase ≡ refused 18
     unfolding on_prepared
     prepared_refused h = ap (on_prepared client sender timestamp digest signature) e ∙ guard_refuses 18 _ _ h
@@ -91,7 +91,7 @@ module _ (client : Client) (sender : ReplicaId) (timestamp : ℕ) (signature : L
   no_writtens (Cards asked best counted showed) k h = refl
   no_writtens (WriteBack asked counted) k h = absurd (h asked counted refl)
 
-  module _ (phase : Phase) (asked : Timestamp) (counted : ReplicaSet) where
+  module _ {phase : Phase} {asked : Timestamp} {counted : ReplicaSet} where
     pub written_refused : phase ≡ Writtens asked counted → (eqb timestamp (number asked) && is_new counted sender) ≡ false → on_written client sender timestamp signature phase ≡ refused 18
     unfolding on_written
     written_refused e h = ap (on_written client sender timestamp signature) e ∙ guard_refuses 18 _ _ h

@@ -1,7 +1,9 @@
 -- A card that a client is done with has at most 17 bytes. Assumes nothing.
 use mathlib.Core.Bool.{Bool, true, false, cond}
 use mathlib.Core.List.{List}
-use mathlib.Core.Option.{Option, none, some}
+use mathlib.Core.Option.{Option}
+use Rattle.std.specs.declared.option.Option.{Option as CodeOption}
+use Rattle.std.specs.declared.option.Option.TheVariants.{Some, None}
 use Prim.Native.Nat.{ℕ, ◌≤◌}
 use lib.ListN.{length}
 use Rattle.base.specs.ClientSet.{nobody}
@@ -52,9 +54,9 @@ short_stamps : (nonce : ℕ) (best : Timestamp) (held : ReplicaSet) (client : Cl
 unfolding after_stamp
 short_stamps nonce best held client = short_cond (is_quorum client.f held) _ _ (go (successor best client.id)) waiting
   where
-    go : (next : Option Timestamp) → Short (to_prepare client best next)
-    go none = ends
-    go (some next) = sends
+    go : (next : CodeOption Timestamp) → Short (to_prepare client best next)
+    go None = ends
+    go (Some next) = sends
 
 short_stamp : (client : Client) (sender : ReplicaId) (nonce : ℕ) (proof : Option PreparedProof) (addressed : ClientId) (phase : Phase) → Short (on_stamp client sender nonce proof addressed phase)
 unfolding on_stamp

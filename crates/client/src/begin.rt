@@ -1,56 +1,63 @@
-// Tests 1, 20 and 17, and the questions that begin an operation.
+// Tests 1, 20, 14 and 17, and the questions that begin an operation.
 ghost use Rattle.std.specs.Prelude.{◌≡◌, true, ◌+◌, ◌≤◌, length};
+ghost use Rattle.base.specs.Refusal.{outcome};
 ghost use Rattle.base.specs.ReplicaSet.{empty};
 ghost use Rattle.base.specs.Timestamp.{start};
 ghost use Rattle.wire.specs.Message.{longest, READ-STAMP, READ};
-ghost use Rattle.protocol.specs.Client.{may_begin, turn, send, beginning};
+ghost use Rattle.protocol.specs.Client.{client_answers, may_begin, turn, send, beginning, begin_write, begin_read};
+ghost use Rattle.protocol.specs.RegisterReplica.{with_output};
 ghost use Rattle.wire.specs.Layout.{card_room};
 ghost use Rattle.protocol.specs.Parts.{start_card};
 ghost use Rattle.client.specs.Beginning.{barred_by};
-ghost use Rattle.client.specs.Leaving.{Takes};
+ghost use Rattle.client.specs.Leaving.{call_of, Takes};
 
-use crate::Stepped;
-use crate::answers::sent;
+use crate::answers::{Taken, sent};
 use crate::record::beginning;
 use base::party::{RegisterId, is_register};
-use base::refusal::{OUTPUT_TOO_SHORT, REGISTER};
+use base::refusal::Refusal;
 use base::replica_set::ReplicaSet;
 use base::timestamp::Timestamp;
 use protocol::client::{Client, Phase};
 use wire::layout::LONGEST_MESSAGE;
 
-const LAST_NONCE: u64 = 18_446_744_073_709_551_615;
+// 17: whether the client is idle and has a nonce left.
+fn may_begin(client: &Client) -> bool
+    ensures { result ≡ may_begin client.now }
+{
+    matches!(client.phase, Phase::Idle) && client.last_nonce < u64::MAX
+}
 
-// The first test that bars a beginning with room for so many bytes: 1 or 20, or 0 for neither.
-pub(super) fn barred_by(room: usize, register: RegisterId) -> u8
-    ensures { result ≡ barred_by room register }
+// What bars a beginning with room for so many bytes: the first of 1, 20, what was found of the card, and 17.
+#[tactic(auto, unfolding(base::specs::Outcome::guard))]
+fn barred_by(
+    client: &Client,
+    room: usize,
+    register: RegisterId,
+    card: Result<(), Refusal>,
+) -> Result<(), Refusal>
+    ensures { outcome result ≡ barred_by client.now room register (outcome card) }
 {
     if room < LONGEST_MESSAGE {
-        return OUTPUT_TOO_SHORT;
+        return Err(Refusal::OutputTooShort);
     }
     if !is_register(register) {
-        return REGISTER;
+        return Err(Refusal::Register);
     }
-    0
+    card?;
+    if !may_begin(client) {
+        return Err(Refusal::Busy);
+    }
+    Ok(())
 }
 
-// Whether the client is idle and has a nonce left.
-pub(super) fn may_begin(client: Client) -> bool
-    ensures { result ≡ may_begin client }
-{
-    let phase = client.phase;
-    let Phase::Idle = phase else {
-        return false;
-    };
-    client.last_nonce < LAST_NONCE
-}
-
-pub(super) fn ask_stamps(
-    mut client: Client,
+// Not one function with `ask_cards`: what is written, awaited and kept differs, which is all that stands in them.
+#[tactic(auto, using(crate::proofs::Answering::sends, crate::proofs::Begins::nonce_left))]
+fn ask_stamps(
+    client: Client,
     register: RegisterId,
     card: &[u8],
     out: &mut [u8],
-) -> Stepped
+) -> Result<Taken, Refusal>
     requires { (longest ≤ length out.old) × (length card.now ≤ card_room) × (may_begin client ≡ true) }
     ensures { Takes out.old
         (turn (send (READ-STAMP client.id (client.last_nonce + 1)))
@@ -58,14 +65,13 @@ pub(super) fn ask_stamps(
         result out.new }
 {
     let nonce = client.last_nonce + 1;
-    let id = client.id;
-    let encoded = wire::writer::write_read_stamp(out, register, id, nonce);
+    let written = wire::writer::write_read_stamp(out, register, client.id, nonce);
     let waiting = Phase::Stamps(nonce, Timestamp::start(), ReplicaSet::empty());
-    client = beginning(client, register, nonce, waiting, card);
-    sent(encoded, client)
+    sent(written, beginning(client, register, nonce, waiting, card))
 }
 
-pub(super) fn ask_cards(mut client: Client, register: RegisterId, out: &mut [u8]) -> Stepped
+#[tactic(auto, using(crate::proofs::Answering::sends, crate::proofs::Begins::nonce_left))]
+fn ask_cards(client: Client, register: RegisterId, out: &mut [u8]) -> Result<Taken, Refusal>
     requires { (longest ≤ length out.old) × (may_begin client ≡ true) }
     ensures { Takes out.old
         (turn (send (READ client.id (client.last_nonce + 1)))
@@ -73,12 +79,37 @@ pub(super) fn ask_cards(mut client: Client, register: RegisterId, out: &mut [u8]
         result out.new }
 {
     let nonce = client.last_nonce + 1;
-    let id = client.id;
-    let encoded = wire::writer::write_read(out, register, id, nonce);
+    let written = wire::writer::write_read(out, register, client.id, nonce);
     let none = ReplicaSet::empty();
     let waiting = Phase::Cards(nonce, Timestamp::start(), none, none);
     // The starting card, until a reply has a later one.
-    let card = [0u8; 2];
-    client = beginning(client, register, nonce, waiting, &card);
-    sent(encoded, client)
+    sent(
+        written,
+        beginning(client, register, nonce, waiting, &[0, 0]),
+    )
+}
+
+#[tactic(auto, using(crate::proofs::Begins::write_step))]
+pub(super) fn begin_write(
+    client: Client,
+    register: RegisterId,
+    card: &[u8],
+    out: &mut [u8],
+) -> Result<Taken, Refusal>
+    ensures { call_of client result out.new ≡ client_answers client out.old (with_output out.old (begin_write client register card.now)) }
+{
+    barred_by(&client, out.len(), register, wire::card::check(card))?;
+    ask_stamps(client, register, card, out)
+}
+
+#[tactic(auto, using(crate::proofs::Begins::read_step))]
+pub(super) fn begin_read(
+    client: Client,
+    register: RegisterId,
+    out: &mut [u8],
+) -> Result<Taken, Refusal>
+    ensures { call_of client result out.new ≡ client_answers client out.old (with_output out.old (begin_read client register)) }
+{
+    barred_by(&client, out.len(), register, Ok(()))?;
+    ask_cards(client, register, out)
 }

@@ -5,30 +5,22 @@ ghost use Rattle.std.specs.Prelude.{◌≡◌, ◌<◌, IfOk, length, replicate,
 ghost use Rattle.std.specs.Io.{ReadsAtMost};
 ghost use Rattle.std.specs.Io.KnownBytes.{Consumes, IsAtEnd};
 
-use base::slices::{behind, front};
+use base::slices::front;
 use base::timestamp::Timestamp;
 use std::io;
 use std::io::Read;
 use text::hex::put_hex;
-use text::timestamp::put_timestamp;
 
 // Zeros. A function of its own, which says its length, so that no other's proof has to unfold so long an array.
-pub fn large_buffer() -> [u8; 65536]
-    ensures value { 65536 ≡ length result }
-    ensures value_2 { result ≡ replicate 65536 0 }
+pub fn zeros<const N: usize>() -> [u8; N]
+    ensures value { N ≡ length result }
+    ensures value_2 { result ≡ replicate N 0 }
 {
-    [0u8; 65536]
-}
-
-// The same, four times as many.
-pub fn huge_buffer() -> [u8; 262144]
-    ensures value { 262144 ≡ length result }
-    ensures value_2 { result ≡ replicate 262144 0 }
-{
-    [0u8; 262144]
+    [0; N]
 }
 
 // Reads until the buffer is full or the input ends; answers how many bytes it put at the buffer's front.
+// A loop of its own: read_to_end needs a heap, and read_exact does not say how many bytes it read.
 pub fn read_full<R: Read>(input: &mut R, buffer: &mut [u8]) -> io::Result<usize>
     ensures bound { ReadsAtMost result buffer.new }
     ensures bytes { IfOk result (λ n. Consumes (R.remaining input.old) (R.remaining input.new) (take n buffer.new)) }
@@ -53,11 +45,8 @@ pub fn print_number(rt: &impl Print, n: u64) -> io::Result<()> {
     print!(rt; "{n}")
 }
 
-// Ten digits, a dot and three digits have room.
 pub fn print_timestamp(rt: &impl Print, timestamp: Timestamp) -> io::Result<()> {
-    let mut text = [0u8; 14];
-    let end = put_timestamp(&mut text, 0, timestamp);
-    print(rt, front(&text, end))
+    print!(rt; "{timestamp}")
 }
 
 // So many bytes in one write, whose digits fill the buffer.
@@ -70,11 +59,8 @@ fn print_piece(rt: &impl Print, bytes: &[u8]) -> io::Result<()> {
 }
 
 pub fn print_hex(rt: &impl Print, bytes: &[u8]) -> io::Result<()> {
-    let mut from = 0;
-    while from < bytes.len() {
-        let piece = front(behind(bytes, from), PIECE);
+    for piece in bytes.chunks(PIECE) {
         print_piece(rt, piece)?;
-        from += piece.len();
     }
     Ok(())
 }
@@ -86,14 +72,8 @@ pub fn say_rest(
     read: usize,
     room: usize,
 ) -> io::Result<()> {
-    if read < room {
+    if read < room || read_full(input, &mut [0; 1])? == 0 {
         return Ok(());
     }
-    let mut next = [0u8; 1];
-    if read_full(input, &mut next)? == 0 {
-        return Ok(());
-    }
-    print(rt, b"the input is longer than ")?;
-    print_number(rt, room as u64)?;
-    print(rt, b" bytes: the rest was not read\n")
+    print!(rt; "the input is longer than {room} bytes: the rest was not read\n")
 }

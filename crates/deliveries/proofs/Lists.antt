@@ -4,7 +4,7 @@ use mathlib.Core.Logic.{◌⊎◌, inl, inr}
 use mathlib.Core.List.Memᴰ
 use mathlib.Core.List.Memᴰ.{head as here}
 use mathlib.Core.List.Memᴰ.{tail as there}
-use mathlib.Core.List.{List, [], ◌∷◌, map, flat_map, Memᴰ as In}
+use mathlib.Core.List.{List, [], ◌∷◌, flat_map, Memᴰ as In}
 use Prim.Native.Nat.{ℕ, zero, suc, ◌+◌, ◌*◌, ◌<◌}
 use native.Mathlib.Omega.{arith}
 use lib.ListN.{length, get_or, length-append, get_or-append}
@@ -49,11 +49,6 @@ module _ {A B : Type 0} (f : A → List B) where
       let long = same x (here refl) in
       let place : suc q * n + r ≡ length (f x) + (q * n + r) = omega arith in
       rw place (get_or-append-add (f x) (flat_map f l) (q * n + r) b ∙ at_flat n l a b q r (λ y m. same y (there m)) (omega arith) k)
-
-pub at_map : {A B : Type 0} (f : A → B) (l : List A) (i : ℕ) (a : A) (b : B) → i < length l → get_or (map f l) i b ≡ f (get_or l i a)
-at_map f [] i a b h = absurd (omega arith)
-at_map f (x ∷ l) zero a b h = refl
-at_map f (x ∷ l) (suc i) a b h = at_map f l i a b (omega arith)
 
 -- What stands at a place of a list is in it.
 pub in_at : {A : Type 0} (d : A) (l : List A) (i : ℕ) → i < length l → In (get_or l i d) l

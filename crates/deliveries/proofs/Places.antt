@@ -3,6 +3,7 @@
 use mathlib.Core.Path.{◌≡◌, sym, ap, ap₂, subst, ◌∙◌}
 use mathlib.Core.Logic.{◌≢◌}
 use mathlib.Core.List.{List, [], ◌∷◌, ◌++◌, flat_map}
+use Rattle.std.proofs.lemmas.List.{get_or-map}
 use Prim.Native.Nat.{ℕ, zero, suc, ◌+◌, ◌-◌, ◌*◌, ◌/◌, ◌%◌, ◌≤◌, ◌<◌}
 use native.Mathlib.Nat.{div-add-mod', mod-lt, div-lt_iff_lt-mul}
 use native.Mathlib.Omega.{arith}
@@ -11,7 +12,7 @@ use Rattle.deliveries.specs.ShortRuns.{Delivery, Pairwise, falling_factorial, de
 use Rattle.deliveries.specs.Writing.{delivery_of, deliveries_in, digit_at, without_digit, lines_at, IsPlace}
 use Rattle.deliveries.proofs.Digits.{length_in_lem, at_place, removed}
 use Rattle.deliveries.proofs.Factorials.{factorial_some}
-use Rattle.deliveries.proofs.Lists.{at_flat, at_map, in_at}
+use Rattle.deliveries.proofs.Lists.{at_flat, in_at}
 use Rattle.deliveries.proofs.Others.{others_at, others_pairwise}
 use Rattle.deliveries.proofs.Runs.{beginning, how_many_begin, all_different}
 
@@ -24,7 +25,7 @@ run_at_lem k l d q r different place less =
     let begins = length-map (runs_of k (others e l)) (λ (later : List Delivery). e ∷ later) in
     let many : r < length (runs_of k (others e l)) = rw (← begins, long e (in_at d l q place)) less in
     at_flat (beginning k l) (falling_factorial (length l - 1) k) l d [] q r long place less
-    ∙ at_map (λ (later : List Delivery). e ∷ later) (runs_of k (others e l)) r [] [] many
+    ∙ get_or-map (λ (later : List Delivery). e ∷ later) (runs_of k (others e l)) r [] [] many
 
 -- What the code goes by, with as many runs for each first delivery as `size` says.
 pub record Next (k count unused before size : ℕ) : Type 0 where

@@ -1,9 +1,10 @@
 -- The player's own grammar reads a run's text, and all that is printed, as what was meant. Assumes nothing.
+use Rattle.std.proofs.Common.{Option, Some, option_map}
 use mathlib.Core.Path.{◌≡◌, refl, sym, ap, ap₂, ◌∙◌}
 use mathlib.Core.List.Memᴰ.{head as here}
 use mathlib.Core.List.Memᴰ.{tail as there}
 use mathlib.Core.List.{List, [], ◌∷◌, ◌++◌, map, flat_map, append_assoc, append-nil, Memᴰ as In}
-use Prim.Native.Nat.{ℕ, ◌+◌, ◌-◌}
+use Prim.Native.Nat.{ℕ, zero, suc, ◌+◌, ◌-◌, ◌≤◌}
 use native.Mathlib.Omega.{arith}
 use borrow.Author.Tests.{ne_eqb}
 use lib.ListN.{get_or}
@@ -12,12 +13,12 @@ use Rattle.base.specs.Range.{within}
 use Rattle.base.proofs.Apart.{apart}
 use Rattle.base.proofs.Range.{inside}
 use Rattle.text.specs.Line.{lines}
-use Rattle.wire.specs.Checks.{all}
+use Rattle.text.specs.Decimal.{with_digits}
 use Rattle.text.specs.Hex.{hex_value, pair_value, hex_pairs}
 use Rattle.protocol.specs.Client.{begin_write_call}
 use Rattle.protocol.specs.declared.client.Client.{Client}
 use Rattle.play.specs.Calls.{the_register, free, client_does}
-use Rattle.play.specs.Grammar.{is_hex_digit, is_hex_card, numeral, message_number, asked, short, command}
+use Rattle.play.specs.Grammar.{is_hex_digit, is_hex_card, message_number, asked, short, command}
 use Rattle.play.specs.declared.calls.Call.TheVariants.{Write as BeginWrite}
 use Rattle.play.specs.declared.grammar.Command.{Command}
 use Rattle.play.specs.declared.grammar.Command.TheVariants.{ToReplica}
@@ -29,21 +30,28 @@ use Rattle.deliveries.proofs.Runs.{sound}
 use Rattle.deliveries.proofs.Texts.{six}
 
 -- Whatever stands behind it, a text is read as these commands.
-record Reads (text : List ℕ) (these : List Command) : Type 0 where
+record Reads (text : List ℕ) (these : List (Option Command)) : Type 0 where
   before : (behind : List ℕ) → map command (lines (text ++ behind)) ≡ these ++ map command (lines behind)
 
-reads_both : {a b : List ℕ} {x y : List Command} → Reads a x → Reads b y → Reads (a ++ b) (x ++ y)
+reads_both : {a b : List ℕ} {x y : List (Option Command)} → Reads a x → Reads b y → Reads (a ++ b) (x ++ y)
 reads_both {a} {b} {x} {y} first second =
     record {
       before = λ behind. ap (λ (text : List ℕ). map command (lines text)) (append_assoc a b behind)
           ∙ (first.before (b ++ behind)
-          ∙ (ap (λ (later : List Command). x ++ later) (second.before behind)
+          ∙ (ap (λ (later : List (Option Command)). x ++ later) (second.before behind)
           ∙ sym (append_assoc x y (map command (lines behind)))));
     }
 
-reads_whole : {text : List ℕ} {these : List Command} → Reads text these → map command (lines text) ≡ these
+reads_whole : {text : List ℕ} {these : List (Option Command)} → Reads text these → map command (lines text) ≡ these
 unfolding lines
 reads_whole {text} {these} reads = ap (λ (l : List ℕ). map command (lines l)) (sym (append-nil text)) ∙ (reads.before [] ∙ append-nil these)
+
+number_of : (m : ℕ) → 1 ≤ m → m ≤ 2 → message_number ((48 + m) ∷ []) ≡ Some m
+unfolding message_number with_digits within
+number_of zero from to = absurd (omega arith)
+number_of (suc zero) from to = refl
+number_of (suc (suc zero)) from to = refl
+number_of (suc (suc (suc m))) from to = absurd (omega arith)
 
 module _ (d : Delivery) (p : Possible d) where
   abbrev bytes : List ℕ
@@ -53,21 +61,20 @@ module _ (d : Delivery) (p : Possible d) where
   unfolding lines
   a_line behind = rw (ne_eqb (48 + d.replica.0) 10 (λ e. omega arith), ne_eqb (48 + d.message) 10 (λ e. omega arith))
 
-  its_number : message_number ((48 + d.message) ∷ []) ≡ d.message
-  unfolding message_number numeral
-  its_number = rw (ne_eqb (48 + d.message) 48 (λ e. omega arith), inside 48 57 (48 + d.message) (omega arith) (omega arith)) (omega arith)
+  its_number : message_number ((48 + d.message) ∷ []) ≡ Some d.message
+  its_number = number_of d.message p.message_from p.message_to
 
   its_command : command bytes ≡ asks d
   unfolding command asked
   its_command =
       let party : 48 + d.replica.0 - 48 ≡ d.replica.0 = omega arith in
-      rw (inside 49 52 (48 + d.replica.0) (omega arith) (omega arith)) (ap₂ (λ (r n : ℕ). ToReplica (replica r) n) party its_number)
+      rw (inside 49 52 (48 + d.replica.0) (omega arith) (omega arith)) (ap₂ (λ (r : ℕ) (n : Option ℕ). option_map (ToReplica (replica r)) n) party its_number)
 
   line_read : Reads (delivery_line d) (asks d ∷ [])
   line_read =
       record {
         before = λ behind. ap (λ (l : List ℕ). map command (lines (l ++ behind))) (six d p)
-            ∙ (ap (map command) (a_line behind) ∙ ap (λ (c : Command). c ∷ map command (lines behind)) its_command);
+            ∙ (ap (map command) (a_line behind) ∙ ap (λ (c : Option Command). c ∷ map command (lines behind)) its_command);
       }
 
 deliveries_read : (run : List Delivery) → ((d : Delivery) → In d run → Possible d) → Reads (flat_map delivery_line run) (map asks run)
@@ -76,7 +83,7 @@ deliveries_read [] possible = record { before = λ behind. refl }
 deliveries_read (d ∷ run) possible = reads_both (line_read d (possible d (here refl))) (deliveries_read run (λ e m. possible e (there m)))
 
 opening_read : Reads opening (commands [])
-unfolding opening lines command asked short is_hex_card is_hex_digit all within
+unfolding opening lines command asked short is_hex_card is_hex_digit within
 opening_read = record { before = λ behind. refl }
 
 run_read : (k : ℕ) (run : List Delivery) → Legal k run → Reads (run_text run) (commands run)

@@ -1,11 +1,10 @@
 -- What the code keeps to: deliveries by their numbers, 0 to 7, and the answer to a lent output.
 use Rattle.std.specs.Prelude.{◌≡◌, cond, ◌≢◌, ℕ, zero, suc, ◌+◌, ◌*◌, ◌/◌, ◌%◌, ◌≤◌, ◌<◌, leb, length, get_or, drop}
 use mathlib.Core.List.{List, [], ◌∷◌, ◌++◌, flat_map}
-use Rattle.std.proofs.Math.Option.{Option, none, some}
+use Rattle.std.specs.declared.option.Option.{Option}
+use Rattle.std.specs.declared.option.Option.TheVariants.{None, Some}
 use Rattle.deliveries.specs.ShortRuns.{Delivery, Pairwise, falling_factorial, delivery, runs_of, delivery_line, printed}
 use Rattle.deliveries.specs.declared.Taken.{Taken}
-use Rattle.deliveries.specs.declared.Written.{Written}
-use Rattle.deliveries.specs.declared.Written.TheVariants.{Length, TooShort}
 
 -- The delivery of a number: message first, then replica.
 abbrev pub delivery_of : ℕ → Delivery
@@ -47,12 +46,7 @@ pub record IsPlace (k count unused before : ℕ) : Type 0 where
 
 -- ---- The answer
 
--- How much an answer says was written, if anything was.
-abbrev pub written_length : Written → Option ℕ
-written_length (Length n) = some n
-written_length TooShort = none
-
--- The text in front of an output and its old bytes behind; all as it was where there is no room.
-pub record WritesAll (old : List ℕ) (answer : Written) (new : List ℕ) : Type 0 where
-  pub answered : written_length answer ≡ cond (leb (length printed) (length old)) (some (length printed)) none
+-- The text in front of an output and its old bytes behind, and its length; all as it was where there is no room.
+pub record WritesAll (old : List ℕ) (answer : Option ℕ) (new : List ℕ) : Type 0 where
+  pub answered : answer ≡ cond (leb (length printed) (length old)) (Some (length printed)) None
   pub holds : new ≡ cond (leb (length printed) (length old)) (printed ++ drop (length printed) old) old

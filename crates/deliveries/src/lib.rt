@@ -8,17 +8,11 @@ ghost use Rattle.deliveries.specs.Writing.{delivery_of, deliveries_in, Takes, li
 
 use text::buffer::put;
 
-// How much was written: all runs, or nothing into an output that is shorter.
-#[derive(Drop)]
-pub enum Written {
-    Length(usize),
-    TooShort,
-}
-
 // 8 runs of 19 bytes, 56 of 25, 336 of 31 and 1,680 of 37.
 pub const LENGTH: usize = 74_128;
 
 // The numbers of all deliveries, 0 to 7, an octal digit each: the last digit is the first delivery's.
+#[tactic(auto, unfolding(crate::specs::ShortRuns::deliveries, crate::specs::Writing::deliveries_in))]
 fn all() -> u32
     ensures { deliveries_in 8 result ≡ deliveries }
 {
@@ -49,7 +43,8 @@ fn take_out(unused: u32, place: u32) -> Taken
     }
 }
 
-// n · (n − 1) · …, so many factors: the runs of k out of n deliveries.
+// n · (n − 1) · …, so many factors: the runs of k out of n deliveries. It calls itself where the definition does, so that no invariant is needed.
+#[tactic(auto, using(crate::proofs::Factorials::factorial_few, crate::proofs::Factorials::factorial_step))]
 fn falling_factorial(n: u32, k: u32) -> u32
     requires { (n ≤ 8) × (k ≤ n) }
     ensures { result ≡ falling_factorial n k }
@@ -61,14 +56,14 @@ fn falling_factorial(n: u32, k: u32) -> u32
 }
 
 // `h H M`, a line.
+#[tactic(auto, using(text::proofs::Putting::same_bytes, crate::proofs::Texts::line_of))]
 fn put_delivery(out: &mut [u8], at: usize, number: u8) -> usize
     requires { number < 8 }
     ensures { Puts out.old at (delivery_line (delivery_of number)) result out.new }
 {
     let replica = b'1' + number % 4;
     let message = b'1' + number / 4;
-    let line = [b'h', b' ', replica, b' ', message, b'\n'];
-    put(out, at, &line)
+    put(out, at, &[b'h', b' ', replica, b' ', message, b'\n'])
 }
 
 // The lines of a run of k out of `count` unused deliveries, by how many runs come before it. As many runs begin with each delivery.
@@ -101,10 +96,8 @@ fn put_runs(out: &mut [u8], at: usize, k: u32) -> usize
 {
     let count = falling_factorial(8, k);
     let mut next = at;
-    let mut i = 0;
-    while i < count {
+    for i in 0..count {
         next = put_run(out, next, k, i);
-        i += 1;
     }
     next
 }
@@ -118,12 +111,12 @@ fn put_all(out: &mut [u8]) -> usize
     put_runs(out, three, 4)
 }
 
-// All short runs in front of the output, and its old bytes behind them.
-pub fn write(out: &mut [u8]) -> Written
+// All short runs in front of the output, and its old bytes behind them: how many bytes were written, or none into an output that is shorter.
+pub fn write(out: &mut [u8]) -> Option<usize>
     ensures { WritesAll out.old result out.new }
 {
     if out.len() < LENGTH {
-        return Written::TooShort;
+        return None;
     }
-    Written::Length(put_all(out))
+    Some(put_all(out))
 }

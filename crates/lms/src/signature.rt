@@ -1,16 +1,14 @@
 // A signature's check (Algorithm 6).
-ghost use Rattle.std.specs.Prelude.{◌≡◌, ◌≤◌, ◌<◌, length};
-ghost use Rattle.base.specs.Same.{same};
-ghost use Rattle.lms.specs.Lms.{identifier, root, leaf_number, is_public_key, signature_formed, Tc, genuine};
+ghost use Rattle.std.specs.Prelude.{◌≡◌};
+ghost use Rattle.lms.specs.Lms.{is_public_key, signature_formed, genuine};
 
 use crate::layout::{
-    IDENTIFIER, IDENTIFIER_AT, KEY, KEY_ONE_TIME_TYPE_AT, KEY_TREE_TYPE_AT, LEAF_NUMBER_AT,
-    LONGEST_MESSAGE, ONE_TIME_AT, ROOT_AT, SIGNATURE, TREE_TYPE_AT,
+    KEY, KEY_ONE_TIME_TYPE_AT, KEY_TREE_TYPE_AT, LEAF_NUMBER_AT, LONGEST_MESSAGE, ONE_TIME_AT,
+    ROOT_AT, SIGNATURE, TREE_TYPE_AT,
 };
 use crate::strings::part;
 use crate::tree::{LEAVES, candidate_root};
-use base::bytes::{put, same};
-use base::slices::between;
+use base::bytes::same;
 use wire::numbers::four_at;
 
 const LMOTS_SHA256_N32_W8: u32 = 4;
@@ -21,61 +19,30 @@ const LMS_SHA256_M32_H5: u32 = 5;
 pub fn is_public_key(key: &[u8]) -> bool
     ensures { result ≡ is_public_key key.now }
 {
-    if key.len() != KEY {
-        return false;
-    }
-    if four_at(key, KEY_TREE_TYPE_AT) != LMS_SHA256_M32_H5 {
-        return false;
-    }
-    four_at(key, KEY_ONE_TIME_TYPE_AT) == LMOTS_SHA256_N32_W8
+    key.len() == KEY
+        && four_at(key, KEY_TREE_TYPE_AT) == LMS_SHA256_M32_H5
+        && four_at(key, KEY_ONE_TIME_TYPE_AT) == LMOTS_SHA256_N32_W8
 }
 
+#[tactic(auto, using(std::proofs::lemmas::Bool::Decides::nat_tests), unfolding(crate::specs::Lms::signature_formed))]
 fn signature_formed(signature: &[u8]) -> bool
     ensures { result ≡ signature_formed signature.now }
 {
-    if signature.len() != SIGNATURE {
-        return false;
-    }
-    if four_at(signature, ONE_TIME_AT) != LMOTS_SHA256_N32_W8 {
-        return false;
-    }
-    if four_at(signature, TREE_TYPE_AT) != LMS_SHA256_M32_H5 {
-        return false;
-    }
-    four_at(signature, LEAF_NUMBER_AT) < LEAVES
+    signature.len() == SIGNATURE
+        && four_at(signature, ONE_TIME_AT) == LMOTS_SHA256_N32_W8
+        && four_at(signature, TREE_TYPE_AT) == LMS_SHA256_M32_H5
+        && four_at(signature, LEAF_NUMBER_AT) < LEAVES
 }
 
-fn identifier(key: &[u8]) -> [u8; IDENTIFIER]
-    requires { length key.now ≡ 56 }
-    ensures { result ≡ identifier key.now }
-{
-    let mut array = [0u8; IDENTIFIER];
-    put(&mut array, 0, between(key, IDENTIFIER_AT, ROOT_AT));
-    array
-}
-
-fn leads_to_root<'a>(key: &'a [u8], message: &'a [u8], signature: &'a [u8]) -> bool
-    requires { (length key.now ≡ 56) × (length message.now ≤ 4042) × (length signature.now ≡ 1292) × (leaf_number signature.now < 32) }
-    ensures { result ≡ same (Tc (identifier key.now) (leaf_number signature.now) message.now signature.now) (root key.now) }
-{
-    let identifier = identifier(key);
-    let q = four_at(signature, LEAF_NUMBER_AT);
-    let candidate = candidate_root(&identifier, q, message, signature);
-    let root = part(key, ROOT_AT);
-    same(&candidate, &root)
-}
-
-pub fn verify<'a>(key: &'a [u8], message: &'a [u8], signature: &'a [u8]) -> bool
+#[tactic(auto, using(crate::proofs::Tested::public_key_long, crate::proofs::Tested::signature_long, crate::proofs::Tested::low_leaf), unfolding(crate::specs::Lms::genuine))]
+pub fn verify(key: &[u8], message: &[u8], signature: &[u8]) -> bool
     ensures { result ≡ genuine key.now message.now signature.now }
 {
-    if !is_public_key(key) {
-        return false;
-    }
-    if !signature_formed(signature) {
-        return false;
-    }
-    if message.len() > LONGEST_MESSAGE {
-        return false;
-    }
-    leads_to_root(key, message, signature)
+    is_public_key(key)
+        && signature_formed(signature)
+        && message.len() <= LONGEST_MESSAGE
+        && same(
+            &candidate_root(key, message, signature),
+            &part(key, ROOT_AT),
+        )
 }

@@ -1,15 +1,15 @@
 // From a leaf of the tree to its root (Algorithm 6a).
-ghost use Rattle.std.specs.Prelude.{◌≡◌, ◌++◌, ◌≤◌, ◌<◌, length};
-ghost use Rattle.wire.specs.Sha256.{sha256};
-ghost use Rattle.lms.specs.LmOts.{head};
-ghost use Rattle.lms.specs.Lms.{leaf, parent, climb, Tc, D_INTR as inner_domain};
+ghost use Rattle.std.specs.Prelude.{◌≡◌, ◌/◌, ◌≤◌, ◌<◌, length};
+ghost use Rattle.lms.specs.Lms.{identifier, leaf_number, leaf, parent, climb, Tc};
 
-use crate::layout::{HEAD, IDENTIFIER, LEAF, NODE, ONE_TIME_AT, PATH_AT, TREE_TYPE_AT};
-use crate::one_time::candidate_key;
-use crate::strings::{hash, head, part};
-use base::bytes::put;
+use crate::layout::{
+    IDENTIFIER_AT, LEAF, LEAF_NUMBER_AT, NODE, ONE_TIME_AT, PATH_AT, ROOT_AT, TREE_TYPE_AT,
+};
+use crate::strings::{Place, part};
+use base::bytes::array;
 use base::slices::between;
 use wire::layout::DIGEST;
+use wire::numbers::four_at;
 
 const D_LEAF: u16 = 0x8282;
 
@@ -20,96 +20,70 @@ const HEIGHT: usize = 5;
 
 pub(super) const LEAVES: u32 = 32;
 
-fn leaf_in(buffer: &mut [u8; LEAF], head: &[u8; HEAD], key: &[u8; DIGEST]) -> [u8; DIGEST]
-    ensures { result ≡ sha256 (head.now ++ key.now) }
-{
-    put(buffer, 0, head);
-    put(buffer, HEAD, key);
-    hash(buffer)
-}
-
-fn leaf<'a>(identifier: &'a [u8; IDENTIFIER], node: u32, key: &'a [u8; DIGEST]) -> [u8; DIGEST]
-    ensures { result ≡ leaf identifier.now node key.now }
-{
-    let head = head(identifier, node, D_LEAF);
-    let mut buffer = [0u8; LEAF];
-    leaf_in(&mut buffer, &head, key)
-}
-
-fn node_in<'a>(
-    buffer: &mut [u8; NODE],
-    head: &'a [u8; HEAD],
-    left: &'a [u8; DIGEST],
-    right: &'a [u8; DIGEST],
-) -> [u8; DIGEST]
-    ensures { result ≡ sha256 (head.now ++ (left.now ++ right.now)) }
-{
-    put(buffer, 0, head);
-    put(buffer, HEAD, left);
-    put(buffer, HEAD + DIGEST, right);
-    hash(buffer)
-}
-
-fn node<'a>(
-    identifier: &'a [u8; IDENTIFIER],
-    number: u32,
-    left: &'a [u8; DIGEST],
-    right: &'a [u8; DIGEST],
-) -> [u8; DIGEST]
-    ensures { result ≡ sha256 (head identifier.now number inner_domain ++ (left.now ++ right.now)) }
-{
-    let head = head(identifier, number, D_INTR);
-    let mut buffer = [0u8; NODE];
-    node_in(&mut buffer, &head, left, right)
-}
-
-fn parent<'a>(
-    identifier: &'a [u8; IDENTIFIER],
-    number: u32,
-    sibling: &'a [u8; DIGEST],
-    tmp: &'a [u8; DIGEST],
-) -> [u8; DIGEST]
-    ensures { result ≡ parent identifier.now number sibling.now tmp.now }
-{
-    if number % 2 == 1 {
-        return node(identifier, number / 2, sibling, tmp);
+impl Place {
+    // The hash at a leaf's node.
+    #[tactic(auto, unfolding(crate::specs::Lms::leaf))]
+    fn leaf(self, key: &[u8; DIGEST]) -> [u8; DIGEST]
+        ensures { result ≡ leaf self.identifier self.number key.now }
+    {
+        self.hash::<LEAF>(D_LEAF, key, &[])
     }
-    node(identifier, number / 2, tmp, sibling)
-}
 
-fn climb<'a>(
-    identifier: &'a [u8; IDENTIFIER],
-    signature: &'a [u8],
-    node: u32,
-    leaf: [u8; DIGEST],
-) -> [u8; DIGEST]
-    requires { length signature.now ≡ 1292 }
-    ensures { result ≡ climb identifier.now signature.now node leaf 5 }
-{
-    let mut tmp = leaf;
-    let mut at = node;
-    let mut i: usize = 0;
-    while i < HEIGHT {
-        let sibling = part(signature, PATH_AT + DIGEST * i);
-        tmp = parent(identifier, at, &sibling, &tmp);
-        at = at / 2;
-        i += 1;
+    fn above(self) -> Place
+        ensures { result ≡ record self { number = self.number / 2 } }
+    {
+        Place {
+            number: self.number / 2,
+            ..self
+        }
     }
-    tmp
+
+    // The hash at the node above one, by that one's hash and its sibling's.
+    #[tactic(auto, using(std::proofs::lemmas::Bool::Decides::nat_tests), unfolding(crate::specs::Lms::parent))]
+    fn parent(self, sibling: &[u8; DIGEST], tmp: &[u8; DIGEST]) -> [u8; DIGEST]
+        ensures { result ≡ parent self.identifier self.number sibling.now tmp.now }
+    {
+        if self.number % 2 == 1 {
+            self.above().hash::<NODE>(D_INTR, sibling, tmp)
+        } else {
+            self.above().hash::<NODE>(D_INTR, tmp, sibling)
+        }
+    }
+
+    #[tactic(auto, using(crate::proofs::Climbing::climbing))]
+    fn climb(self, signature: &[u8], leaf: [u8; DIGEST]) -> [u8; DIGEST]
+        requires { length signature.now ≡ 1292 }
+        ensures { result ≡ climb self.identifier signature.now self.number leaf 5 }
+    {
+        let mut tmp = leaf;
+        let mut node = self;
+        for i in 0..HEIGHT {
+            let sibling = part(signature, PATH_AT + DIGEST * i);
+            tmp = node.parent(&sibling, &tmp);
+            node = node.above();
+        }
+        tmp
+    }
 }
 
-pub(super) fn candidate_root<'a>(
-    identifier: &'a [u8; IDENTIFIER],
-    q: u32,
-    message: &'a [u8],
-    signature: &'a [u8],
-) -> [u8; DIGEST]
-    requires { (q < 32) × (length message.now ≤ 4042) × (length signature.now ≡ 1292) }
-    ensures { result ≡ Tc identifier.now q message.now signature.now }
+pub(super) fn candidate_root(key: &[u8], message: &[u8], signature: &[u8]) -> [u8; DIGEST]
+    requires key { length key.now ≡ 56 }
+    requires message { length message.now ≤ 4042 }
+    requires signature { length signature.now ≡ 1292 }
+    requires leaf { leaf_number signature.now < 32 }
+    ensures { result ≡ Tc (identifier key.now) (leaf_number signature.now) message.now signature.now }
 {
+    let identifier = array(between(key, IDENTIFIER_AT, ROOT_AT));
+    let q = four_at(signature, LEAF_NUMBER_AT);
     let one_time = between(signature, ONE_TIME_AT, TREE_TYPE_AT);
-    let key = candidate_key(identifier, q, message, one_time);
-    let node = LEAVES + q;
-    let leaf = leaf(identifier, node, &key);
-    climb(identifier, signature, node, leaf)
+    let leaf = Place {
+        identifier,
+        number: q,
+    };
+    let key = leaf.candidate_key(message, one_time);
+    let node = Place {
+        identifier,
+        number: LEAVES + q,
+    };
+    node.climb(signature, node.leaf(&key))
 }

@@ -1,9 +1,11 @@
 -- With whole replicas, of sixteen registers each, the player prints the same. Assumes nothing.
+use Rattle.std.proofs.Common.{Option, Some, None}
 use mathlib.Core.Path.{◌≡◌, refl, sym, ap, ap₂, ◌∙◌}
 use mathlib.Core.List.{List, [], ◌∷◌, ◌++◌}
 use Prim.Native.Nat.{ℕ, zero, suc, ◌+◌}
 use lib.ListN.{length, get_or, take, set, length-replicate}
 use Rattle.base.specs.Counting.{replica}
+use Rattle.base.specs.Outcome.{Outcome}
 use Rattle.base.specs.Party.{register_place}
 use Rattle.base.specs.declared.client_set.ClientSet.{ClientSet}
 use Rattle.base.specs.declared.party.RegisterId.{RegisterId}
@@ -19,7 +21,6 @@ use Rattle.protocol.specs.declared.client.Client.{Client}
 use Rattle.protocol.specs.declared.replica.Bank.{Bank}
 use Rattle.protocol.specs.declared.replica.Register.{Register}
 use Rattle.protocol.specs.declared.replica.RegisterReplica.{RegisterReplica}
-use Rattle.protocol.specs.declared.replica.ReplicaAnswer.{ReplicaAnswer}
 use Rattle.protocol.proofs.BankFacts.{fresh_part, f_kept, id_kept, withdrawn_kept, length_kept, register_stepped, answer_stepped, output_stepped}
 use Rattle.play.specs.Calls.{the_register, verdicts, sent_before, free, message_at, replica_does}
 use Rattle.play.specs.ForRegister.{fresh_banks, no_replicas, BanksTurn, bank_does, banks_do, printed_lines_by_banks, printed_by_banks, PrintedAlike}
@@ -27,11 +28,11 @@ use Rattle.play.specs.Grammar.{command}
 use Rattle.play.specs.Output.{header, line}
 use Rattle.play.specs.Player.{Turn, said_of, logged_by, client_turn, replica_turn, addressee, does, turn}
 use Rattle.play.specs.Session.{printed_lines, printed}
-use Rattle.play.specs.Worlds.{fresh_world, replica_seat}
+use Rattle.play.specs.Worlds.{fresh_world, seat}
 use Rattle.play.specs.declared.log.Log.{Log}
 use Rattle.play.specs.declared.output.Said.{Said}
 use Rattle.play.specs.declared.turn.Addressee.{Addressee}
-use Rattle.play.specs.declared.turn.Addressee.TheVariants.{Client as ToTheClient, Replica as ToTheReplica, Nobody}
+use Rattle.play.specs.declared.turn.Addressee.TheVariants.{Client as ToTheClient, Replica as ToTheReplica}
 use Rattle.play.specs.declared.world.World.{World}
 use Rattle.play.proofs.ForRegister.{KnownTo, addressee_known, message_register, Holds, request_left, does_holds, fresh_holds}
 
@@ -110,11 +111,11 @@ record Alike (banks : BanksTurn) (t : Turn) : Type 0 where
   parts : Parts banks.banks t.world.replicas
 
 module _ {world : World} {store : List ℕ} (holds : Holds world store) {banks : List Bank} (parts : Parts banks world.replicas) (others : List RegisterReplica) (text : List ℕ) where
-  line_alike : (party : Addressee) → KnownTo world.log.count party → Alike (banks_do banks (beside others world) store text party) (does world store text party)
+  line_alike : (party : Option Addressee) → KnownTo world.log.count party → Alike (banks_do banks (beside others world) store text party) (does world store text party)
   unfolding banks_do does client_turn replica_turn bank_does replica_does
-  line_alike (ToTheClient id call) known = record { said_alike = refl; card_alike = refl; store_alike = refl; clients_alike = refl; log_alike = refl; parts = parts }
-  line_alike (ToTheReplica id m) known =
-      let at = replica_seat id in
+  line_alike (Some (ToTheClient id call)) known = record { said_alike = refl; card_alike = refl; store_alike = refl; clients_alike = refl; log_alike = refl; parts = parts }
+  line_alike (Some (ToTheReplica id m)) known =
+      let at = seat id.0 in
       let bytes = message_at world.log store m in
       let marks = verdicts AtReplica bytes in
       let old = free world.log store in
@@ -125,14 +126,14 @@ module _ {world : World} {store : List ℕ} (holds : Holds world store) {banks :
       let answer = answer_alike bank part has bytes marks old is in
       let left = request_left holds id m known in
       record {
-        said_alike = ap (λ (a : ReplicaAnswer). said_of world.log.count (as_client_answer a)) answer;
+        said_alike = ap (λ (a : Outcome ℕ). said_of world.log.count (as_client_answer a)) answer;
         card_alike = refl;
         store_alike = ap (λ (out : List ℕ). sent_before world.log store ++ out) (output_alike bank part has bytes marks old is);
         clients_alike = refl;
-        log_alike = ap (λ (a : ReplicaAnswer). logged_by (as_client_answer a) world.log) answer;
+        log_alike = ap (λ (a : Outcome ℕ). logged_by (as_client_answer a) world.log) answer;
         parts = with_part parts at (part_left bank part has bytes marks old is left.same_f left.same_id left.same_withdrawn);
       }
-  line_alike Nobody known = record { said_alike = refl; card_alike = refl; store_alike = refl; clients_alike = refl; log_alike = refl; parts = parts }
+  line_alike None known = record { said_alike = refl; card_alike = refl; store_alike = refl; clients_alike = refl; log_alike = refl; parts = parts }
 
 -- ---- A session
 
@@ -149,7 +150,7 @@ lines_alike (text ∷ texts) number {world} {store} holds {banks} parts others =
     let next : b.turn.world ≡ beside b.turn.world.replicas t.world =
     ap₂ (λ (clients : List Client) (log : Log). record { replicas = b.turn.world.replicas; clients = clients; log = log }) alike.clients_alike alike.log_alike in
     ap₂ (λ (first rest : List ℕ). first ++ rest)
-    (ap₂ (λ (what : Said) (card : List ℕ). line number what card) alike.said_alike alike.card_alike)
+    (ap₂ (λ (what : Outcome Said) (card : List ℕ). line number what card) alike.said_alike alike.card_alike)
     (ap₂ (λ (w : World) (s : List ℕ). printed_lines_by_banks b.banks w s (number + 1) texts) next alike.store_alike
     ∙ lines_alike texts (number + 1) (does_holds holds text party known) alike.parts b.turn.world.replicas)
 

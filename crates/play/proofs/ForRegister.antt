@@ -1,4 +1,5 @@
 -- Every message of a session is for the register that the player works on. Assumes nothing.
+use Rattle.std.proofs.Common.{Option, Some, None}
 use mathlib.Core.Path.{◌≡◌, refl, sym, subst, ◌∙◌}
 use mathlib.Core.Bool.{Bool, true, false, cond}
 use mathlib.Core.List.{List, [], ◌∷◌}
@@ -27,7 +28,6 @@ use Rattle.protocol.specs.Events.{as_client_answer}
 use Rattle.protocol.specs.Client.{Answer, send, waits, done, ended, Turn, no_client, fresh_client, client_if_set_up, made_client, begin_write, begin_read, client_step, ClientCall, given, leaving, client_answers, begin_write_call, begin_read_call, client_call}
 use Rattle.protocol.specs.RegisterReplica.{Reply, fresh_register_replica, no_register_replica, on_request, register_step, RegisterCall, register_answers, with_output, register_call}
 use Rattle.protocol.specs.declared.client.Client.{Client}
-use Rattle.protocol.specs.declared.client.ClientAnswer.TheVariants.{Refused}
 use Rattle.protocol.specs.declared.client.Phase.{Phase}
 use Rattle.protocol.specs.declared.replica.RegisterReplica.{RegisterReplica}
 use Rattle.protocol.proofs.ArrayLaws.{bytes_zeros}
@@ -42,14 +42,14 @@ use Rattle.play.specs.ForRegister.{Reached, begun, played, ForRegister}
 use Rattle.play.specs.Grammar.{command}
 use Rattle.play.specs.Log.{empty_log, start, sent_length, message, logged}
 use Rattle.play.specs.Player.{logged_by, client_turn, replica_turn, if_sent, addressee, does, turn}
-use Rattle.play.specs.Worlds.{fresh_world, replica_seat, client_seat, empty_store}
+use Rattle.play.specs.Worlds.{fresh_world, seat, empty_store}
 use Rattle.play.specs.declared.calls.Call.{Call}
 use Rattle.play.specs.declared.calls.Call.TheVariants.{Write as BeginWrite, Read as BeginRead, Deliver}
 use Rattle.play.specs.declared.grammar.Command.{Command}
-use Rattle.play.specs.declared.grammar.Command.TheVariants.{Write, Read, ToReplica, ToClient, Unread}
+use Rattle.play.specs.declared.grammar.Command.TheVariants.{Write, Read, ToReplica, ToClient}
 use Rattle.play.specs.declared.log.Log.{Log}
 use Rattle.play.specs.declared.turn.Addressee.{Addressee}
-use Rattle.play.specs.declared.turn.Addressee.TheVariants.{Client as ToTheClient, Replica as ToTheReplica, Nobody}
+use Rattle.play.specs.declared.turn.Addressee.TheVariants.{Client as ToTheClient, Replica as ToTheReplica}
 use Rattle.play.specs.declared.world.World.{World}
 use Rattle.play.proofs.HexBytes.{hex_bytes}
 use Rattle.play.proofs.Logging.{Logs, Sends, nothing, one, logs_on}
@@ -63,7 +63,7 @@ sends_for {log} {old} x m is legal room =
     subst (λ (y : RegisterId). Sends log old (logged (length (unsigned y m)) log) (in_front (unsigned y m) old)) (sym is) (one m (legal the_register (omega arith)) room)
 
 -- A refusal sends nothing.
-refused_rests : (number : ℕ) {log : Log} {old : List ℕ} → Sends log old (logged_by (Refused number) log) old
+refused_rests : (number : ℕ) {log : Log} {old : List ℕ} → Sends log old (logged_by (refused number) log) old
 unfolding logged_by
 refused_rests number = nothing
 
@@ -203,25 +203,25 @@ Known count BeginWrite = Unit {0}
 Known count BeginRead = Unit {0}
 Known count (Deliver m) = (1 ≤ m) × (m ≤ count)
 
-abbrev pub KnownTo : ℕ → Addressee → Type 0
-KnownTo count (ToTheClient id call) = Known count call
-KnownTo count (ToTheReplica id m) = (1 ≤ m) × (m ≤ count)
-KnownTo count Nobody = Unit {0}
+abbrev pub KnownTo : ℕ → Option Addressee → Type 0
+KnownTo count (Some (ToTheClient id call)) = Known count call
+KnownTo count (Some (ToTheReplica id m)) = (1 ≤ m) × (m ≤ count)
+KnownTo count None = Unit {0}
 
-if_sent_lem : (count m : ℕ) (party : Addressee) → ((1 ≤ m) × (m ≤ count) → KnownTo count party) → KnownTo count (if_sent count m party)
+if_sent_lem : (count m : ℕ) (party : Addressee) → ((1 ≤ m) × (m ≤ count) → KnownTo count (Some party)) → KnownTo count (if_sent count m party)
 if_sent_lem count m party known = go (within 1 count m) refl
   where
-    go : (b : Bool) → within 1 count m ≡ b → KnownTo count (cond b party Nobody)
+    go : (b : Bool) → within 1 count m ≡ b → KnownTo count (cond b (Some party) None)
     go true e = known (bounds 1 count m e)
     go false e = tt
 
-pub addressee_known : (count : ℕ) (asked : Command) → KnownTo count (addressee count asked)
+pub addressee_known : (count : ℕ) (asked : Option Command) → KnownTo count (addressee count asked)
 unfolding addressee
-addressee_known count (Write id) = tt
-addressee_known count (Read id) = tt
-addressee_known count (ToReplica id m) = if_sent_lem count m (ToTheReplica id m) (λ k. k)
-addressee_known count (ToClient id m) = if_sent_lem count m (ToTheClient id (Deliver m)) (λ k. k)
-addressee_known count Unread = tt
+addressee_known count (Some (Write id)) = tt
+addressee_known count (Some (Read id)) = tt
+addressee_known count (Some (ToReplica id m)) = if_sent_lem count m (ToTheReplica id m) (λ k. k)
+addressee_known count (Some (ToClient id m)) = if_sent_lem count m (ToTheClient id (Deliver m)) (λ k. k)
+addressee_known count None = tt
 
 module _ {log : Log} {store : List ℕ} (logs : Logs log store) (m : ℕ) where
   pub message_bytes : Bytes (message_at log store m)
@@ -246,7 +246,7 @@ module _ (client : Client) (log : Log) (store text : List ℕ) where
   read_names = refl
 
 abbrev pub addressed : World → ReplicaId → RegisterReplica
-addressed world id = get_or world.replicas (replica_seat id) no_register_replica
+addressed world id = get_or world.replicas (seat id.0) no_register_replica
 
 module _ {world : World} {store : List ℕ} (holds : Holds world store) where
   call_left : (client : Client) → GoodClient client → (text : List ℕ) (call : Call) → Known world.log.count call
@@ -266,25 +266,25 @@ module _ {world : World} {store : List ℕ} (holds : Holds world store) where
   unfolding replica_does
   request_left id m known =
       replica_left world.log (addressed world id) (free world.log store) (message_at world.log store m) (verdicts AtReplica (message_at world.log store m))
-      (each_at RegisterReplicaFits no_register_replica (fresh_replica 0 0 (omega arith)) holds.replicas (replica_seat id)) (message_bytes holds.logs m) (message_register holds.logs m known)
+      (each_at RegisterReplicaFits no_register_replica (fresh_replica 0 0 (omega arith)) holds.replicas (seat id.0)) (message_bytes holds.logs m) (message_register holds.logs m known)
 
-  pub does_holds : (text : List ℕ) (party : Addressee) → KnownTo world.log.count party → Holds (does world store text party).world (does world store text party).store
+  pub does_holds : (text : List ℕ) (party : Option Addressee) → KnownTo world.log.count party → Holds (does world store text party).world (does world store text party).store
   unfolding does client_turn replica_turn
-  does_holds text (ToTheClient id call) known =
-      let left = call_left (get_or world.clients (client_seat id) no_client) (each_at GoodClient no_client no_client_lem holds.clients (client_seat id)) text call known in
+  does_holds text (Some (ToTheClient id call)) known =
+      let left = call_left (get_or world.clients (seat id.0) no_client) (each_at GoodClient no_client no_client_lem holds.clients (seat id.0)) text call known in
       record {
         logs = logs_on world.log store holds.logs _ _ left.sends;
-        clients = each_set holds.clients (client_seat id) left.good;
+        clients = each_set holds.clients (seat id.0) left.good;
         replicas = holds.replicas;
       }
-  does_holds text (ToTheReplica id m) known =
+  does_holds text (Some (ToTheReplica id m)) known =
       let left = request_left id m known in
       record {
         logs = logs_on world.log store holds.logs _ _ left.sends;
         clients = holds.clients;
-        replicas = each_set holds.replicas (replica_seat id) left.fits;
+        replicas = each_set holds.replicas (seat id.0) left.fits;
       }
-  does_holds text Nobody known = holds
+  does_holds text None known = holds
 
   pub turn_holds : (text : List ℕ) → Holds (turn world store text).world (turn world store text).store
   unfolding turn

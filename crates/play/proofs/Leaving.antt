@@ -1,5 +1,6 @@
 -- What the engines' contracts say, as what the player's calls leave in the store. Assumes nothing.
 use mathlib.Core.Path.{◌≡◌, sym, ap, subst, ◌∙◌}
+use Rattle.std.proofs.lemmas.List.{take-replicate}
 use mathlib.Core.List.{List, [], ◌++◌, append-nil}
 use Prim.Native.Nat.{ℕ, ◌-◌, ◌≤◌}
 use native.Mathlib.Omega.{arith}
@@ -7,6 +8,7 @@ use borrow.Rule.Slice.PartMut.{put_mid, Post-is}
 use lib.ListN.{length, take, drop, replicate, length-drop}
 use lib.Seq.{take_all, take_at, drop-length}
 use Rattle.base.specs.Outcome.{Outcome}
+use Rattle.base.specs.Refusal.{outcome}
 use Rattle.text.specs.Hex.{hex_pairs, HexRead}
 use Rattle.text.specs.Put.{Puts}
 use Rattle.text.proofs.Putting.{put_front}
@@ -22,13 +24,12 @@ use Rattle.wire.specs.Signatures.{signatures_to}
 use Rattle.play.specs.Calls.{verdicts, sent_before, free, message_at, ClientLeaves, ReplicaLeaves}
 use Rattle.play.specs.Log.{start, message}
 use Rattle.play.specs.declared.log.Log.{Log}
-use Rattle.play.proofs.Lists.{take_ones}
 
 pub client_leaves : (call : ClientCall) (step : Outcome Turn) (stepped : ClientStepped) (new : List ℕ) → Calls call step stepped new → ClientLeaves call [] stepped new
 client_leaves call step stepped new e =
     record { answer = e.answer; card_length = e.card_length; card = e.card; client = e.client; store_is = e.output }
 
-pub replica_leaves : (replica : RegisterReplica) (bytes verdicts old : List ℕ) (stepped : ReplicaStepped) (new : List ℕ) → Steps replica bytes verdicts old stepped.answer stepped.replica new
+pub replica_leaves : (replica : RegisterReplica) (bytes verdicts old : List ℕ) (stepped : ReplicaStepped) (new : List ℕ) → Steps replica bytes verdicts old (outcome stepped.answer) stepped.replica new
     → ReplicaLeaves (register_call replica bytes verdicts old) [] stepped new
 replica_leaves replica bytes verdicts old stepped new e = record { answer = e.answer; replica = e.next; store_is = e.output }
 
@@ -59,17 +60,17 @@ replica_behind call call' sent stepped new store same put e =
 -- The verdicts, the card and the message that the code hands over are the definition's.
 pub ones : (l : List ℕ) (k : ℕ) (party : Party) (bytes : List ℕ) → ◌≡◌ {A = List ℕ} l (take k (replicate 64 1)) → k ≡ length (signatures_to party bytes) → k ≤ 64 → l ≡ verdicts party bytes
 unfolding verdicts
-ones l k party bytes e same few = e ∙ (take_ones k 64 few ∙ ap (λ (n : ℕ). replicate n 1) same)
+ones l k party bytes e same few = e ∙ (take-replicate k 64 1 few ∙ ap (λ (n : ℕ). replicate n 1) same)
 
 pub card_read_lem : (digits old new : List ℕ) (n : ℕ) → HexRead digits old new n → length old ≡ 17 → take n new ≡ hex_pairs 17 digits
 card_read_lem digits old new n h whole =
     rw h.is (take_at (hex_pairs (length old) digits) (drop n old) n (sym h.counted) ∙ ap (λ (k : ℕ). hex_pairs k digits) whole)
 
-pub message_copied : (log : Log) (store : List ℕ) (m before : ℕ) (old : List ℕ) (n : ℕ) (new l : List ℕ) → before ≡ m - 1 → length old ≡ 1_580
-    → Puts old 0 (message log store before) n new → l ≡ take n new → l ≡ message_at log store m
+pub message_copied : (log : Log) (store : List ℕ) (m : ℕ) (old : List ℕ) (n : ℕ) (new l : List ℕ) → length old ≡ 1_580
+    → Puts old 0 (message log store (m - 1)) n new → l ≡ take n new → l ≡ message_at log store m
 unfolding message_at
-message_copied log store m before old n new l b whole c e =
-    e ∙ (put_front (message log store before) old n new c ∙ (ap (λ (k : ℕ). take k (message log store before)) whole ∙ ap (λ (k : ℕ). take 1_580 (message log store k)) b))
+message_copied log store m old n new l whole c e =
+    e ∙ (put_front (message log store (m - 1)) old n new c ∙ ap (λ (k : ℕ). take k (message log store (m - 1))) whole)
 
 module _ (log : Log) (store : List ℕ) (at : ℕ) (h : at ≡ start log.count (length store)) where
   inside : at ≤ length store

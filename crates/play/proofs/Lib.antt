@@ -4,7 +4,6 @@ pub mod ForRegister
 pub mod HexBytes
 pub mod Keeping
 pub mod Leaving
-pub mod Lists
 pub mod Logging
 pub mod LongLines
 pub mod Pieces

@@ -1,4 +1,5 @@
 -- How much room any input needs: for what is kept of it, and for what is printed. Assumes nothing.
+use Rattle.std.proofs.Common.{Option, Some, None}
 use mathlib.Core.Path.{◌≡◌, refl}
 use mathlib.Core.Bool.{Bool, true, false, cond}
 use mathlib.Core.List.{List, [], ◌∷◌, ◌++◌}
@@ -8,6 +9,7 @@ use borrow.Author.Tests.{leb-false}
 use lib.Dec.{eqb, ltb, leb}
 use lib.ListN.{length, take, length-append, length-take}
 use Rattle.base.specs.BigEndian.{to_bytes}
+use Rattle.base.specs.Outcome.{Outcome, accepted, refused}
 use Rattle.base.specs.declared.replica_set.ReplicaSet.{ReplicaSet}
 use Rattle.text.specs.Decimal.{digits_within}
 use Rattle.text.specs.Hex.{hex}
@@ -20,10 +22,10 @@ use Rattle.play.specs.Input.{start_place, step, kept_byte, kept_of}
 use Rattle.play.specs.Session.{printed_lines, printed}
 use Rattle.play.specs.Worlds.{fresh_world, empty_store}
 use Rattle.play.specs.declared.output.Said.{Said}
-use Rattle.play.specs.declared.output.Said.TheVariants.{Sent, Taken, Done, Ended, Refused, Unread}
+use Rattle.play.specs.declared.output.Said.TheVariants.{Sent, Taken, Done, Ended, Unread}
 use Rattle.play.specs.declared.input.Place.{Place}
 use Rattle.play.specs.declared.turn.Addressee.{Addressee}
-use Rattle.play.specs.declared.turn.Addressee.TheVariants.{Client as ToTheClient, Replica as ToTheReplica, Nobody}
+use Rattle.play.specs.declared.turn.Addressee.TheVariants.{Client as ToTheClient, Replica as ToTheReplica}
 use Rattle.play.specs.declared.world.World.{World}
 
 -- 100 lines of 39 bytes and a newline, less what is behind.
@@ -72,25 +74,25 @@ signers_room : (signers : ReplicaSet) → length (behind_card signers) ≤ 5
 unfolding behind_card to_bytes
 signers_room signers = let m = hex_room (to_bytes 2 signers.0) in simp length-append (omega arith)
 
-said_room : (what : Said) (card : List ℕ) → length card ≤ 17 → length (said what card) ≤ 86
+said_room : (what : Outcome Said) (card : List ℕ) → length card ≤ 17 → length (said what card) ≤ 86
 unfolding said stamp
-said_room (Sent m) card h = simp length-append (omega (arith, digits_room 19 m))
-said_room Taken card h = omega arith
-said_room (Done t signers) card h = simp length-append (omega (arith, digits_room 19 t.count, digits_room 19 t.client.0, hex_room card, signers_room signers))
-said_room Ended card h = omega arith
-said_room (Refused number) card h = simp length-append (omega (arith, digits_room 19 number))
-said_room Unread card h = omega arith
+said_room (accepted (Sent m)) card h = simp length-append (omega (arith, digits_room 19 m))
+said_room (accepted Taken) card h = omega arith
+said_room (accepted (Done t signers)) card h = simp length-append (omega (arith, digits_room 19 t.count, digits_room 19 t.client.0, hex_room card, signers_room signers))
+said_room (accepted Ended) card h = omega arith
+said_room (refused number) card h = simp length-append (omega (arith, digits_room 19 number))
+said_room (accepted Unread) card h = omega arith
 
-line_room : (number : ℕ) (what : Said) (card : List ℕ) → length card ≤ 17 → length (line number what card) ≤ 108
+line_room : (number : ℕ) (what : Outcome Said) (card : List ℕ) → length card ≤ 17 → length (line number what card) ≤ 108
 unfolding line
 line_room number what card h = simp length-append (omega (arith, digits_room 19 number, said_room what card h))
 
 -- A line shows a card of at most 17 bytes.
-card_room_lem : (world : World) (store text : List ℕ) (party : Addressee) → length (does world store text party).card ≤ 17
+card_room_lem : (world : World) (store text : List ℕ) (party : Option Addressee) → length (does world store text party).card ≤ 17
 unfolding does client_turn replica_turn
-card_room_lem world store text (ToTheClient id call) = simp length-take (omega arith)
-card_room_lem world store text (ToTheReplica id m) = omega arith
-card_room_lem world store text Nobody = omega arith
+card_room_lem world store text (Some (ToTheClient id call)) = simp length-take (omega arith)
+card_room_lem world store text (Some (ToTheReplica id m)) = omega arith
+card_room_lem world store text None = omega arith
 
 lines_room : (world : World) (store : List ℕ) (number : ℕ) (texts : List (List ℕ)) → length (printed_lines world store number texts) ≤ 108 * length texts
 unfolding printed_lines turn

@@ -1,48 +1,49 @@
 -- A turn from what its call left. Assumes nothing.
-use mathlib.Core.Path.{◌≡◌, refl, sym, ap, ap₂, subst, ◌∙◌}
+use Rattle.std.proofs.Common.{Option, None, Result}
+use mathlib.Core.Path.{◌≡◌, refl, ap, ap₂, subst, ◌∙◌}
 use mathlib.Core.List.{List, [], ◌∷◌}
 use Prim.Native.Nat.{ℕ, zero, suc, ◌<◌}
 use native.Mathlib.Omega.{arith}
 use lib.ListN.{length, get_or, set}
+use Rattle.base.specs.Outcome.{Outcome, accepted}
+use Rattle.base.specs.Refusal.{outcome}
+use Rattle.base.specs.declared.refusal.Refusal.{Refusal}
 use Rattle.base.specs.declared.party.ClientId.{ClientId}
 use Rattle.base.specs.declared.party.ReplicaId.{ReplicaId}
 use Rattle.protocol.specs.Parts.{card_kept}
 use Rattle.protocol.specs.RegisterReplica.{no_register_replica}
-use Rattle.protocol.specs.Client.{no_client}
 use Rattle.protocol.specs.declared.replica.RegisterReplica.{RegisterReplica}
 use Rattle.protocol.specs.declared.client.Client.{Client}
-use Rattle.protocol.specs.declared.client.ClientAnswer.{ClientAnswer}
+use Rattle.protocol.specs.Client.{Response, answer_outcome, no_client}
 use Rattle.client.specs.declared.Stepped.{Stepped as ClientStepped}
 use Rattle.register_replica.specs.declared.Stepped.{Stepped as ReplicaStepped}
 use Rattle.play.specs.Calls.{sent_before, client_does, replica_does, ClientLeaves, ReplicaLeaves}
 use Rattle.play.specs.Grammar.{command}
 use Rattle.protocol.specs.Events.{as_client_answer}
 use Rattle.play.specs.Player.{said_of, logged_by, client_turn, replica_turn, addressee, does, turn, Says, Plays}
-use Rattle.play.specs.Worlds.{client_seat, replica_seat}
+use Rattle.play.specs.Worlds.{seat}
 use Rattle.play.specs.declared.calls.Call.{Call}
 use Rattle.play.specs.declared.log.Log.{Log}
 use Rattle.play.specs.declared.output.Said.{Said}
-use Rattle.play.specs.declared.output.Said.TheVariants.{Unread as NotRead}
+use Rattle.play.specs.declared.output.Said.TheVariants.{Unread}
 use Rattle.play.specs.declared.output.Saying.{Saying}
-use Rattle.play.specs.declared.grammar.Command.{Command}
 use Rattle.play.specs.declared.turn.Addressee.{Addressee}
-use Rattle.play.specs.declared.turn.Addressee.TheVariants.{Nobody}
 use Rattle.play.specs.declared.turn.Turned.{Turned}
 use Rattle.play.specs.declared.world.World.{World}
 
-module _ (world : World) (store : List ℕ) (answer : ClientAnswer) (next : Log) (what : Said) (old : List ℕ) (kept : next ≡ logged_by answer world.log)
-    (says : what ≡ said_of world.log.count answer) where
-  module _ (id : ReplicaId) (m i : ℕ) (one : RegisterReplica) (stepped : ReplicaStepped) (saying : Saying) (at : i ≡ replica_seat id) (first : one ≡ get_or world.replicas i no_register_replica)
-      (given : answer ≡ as_client_answer stepped.answer) (does : ReplicaLeaves (replica_does one world.log store m) (sent_before world.log store) stepped old)
-      (shown : Says what [] saying) where
+module _ (world : World) (store : List ℕ) (answer : Outcome Response) (next : Log) (what : Result Said Refusal) (old : List ℕ) (kept : next ≡ logged_by answer world.log)
+    (says : outcome what ≡ said_of world.log.count answer) where
+  module _ (id : ReplicaId) (m i : ℕ) (one : RegisterReplica) (stepped : ReplicaStepped) (saying : Saying) (at : i ≡ seat id.0) (first : one ≡ get_or world.replicas i no_register_replica)
+      (given : answer ≡ as_client_answer (outcome stepped.answer)) (does : ReplicaLeaves (replica_does one world.log store m) (sent_before world.log store) stepped old)
+      (shown : Says (outcome what) [] saying) where
     pub replica_plays : Plays (replica_turn world store id m)
         (record { world = record { replicas = set world.replicas i stepped.replica; clients = world.clients; log = next }; saying = saying }) old
     unfolding replica_turn
     replica_plays =
-        let party : one ≡ get_or world.replicas (replica_seat id) no_register_replica = first ∙ ap (λ (k : ℕ). get_or world.replicas k no_register_replica) at in
+        let party : one ≡ get_or world.replicas (seat id.0) no_register_replica = first ∙ ap (λ (k : ℕ). get_or world.replicas k no_register_replica) at in
         let d = subst (λ (r : RegisterReplica). ReplicaLeaves (replica_does r world.log store m) (sent_before world.log store) stepped old) party does in
         let said = given ∙ ap as_client_answer d.answer in
-        let log = kept ∙ ap (λ (a : ClientAnswer). logged_by a world.log) said in
+        let log = kept ∙ ap (λ (a : Outcome Response). logged_by a world.log) said in
         let replicas = ap₂ (λ (k : ℕ) (r : RegisterReplica). set world.replicas k r) at d.replica in
         record {
           world_is = ap₂ (λ (rs : List RegisterReplica) (l : Log). record { replicas = rs; clients = world.clients; log = l }) replicas log;
@@ -50,8 +51,8 @@ module _ (world : World) (store : List ℕ) (answer : ClientAnswer) (next : Log)
           store_is = d.store_is;
         }
 
-  module _ (id : ClientId) (call : Call) (asked : List ℕ) (i : ℕ) (one : Client) (stepped : ClientStepped) (at : i ≡ client_seat id) (first : one ≡ get_or world.clients i no_client)
-      (given : answer ≡ stepped.answer) (does : ClientLeaves (client_does one world.log store asked call) (sent_before world.log store) stepped old) where
+  module _ (id : ClientId) (call : Call) (asked : List ℕ) (i : ℕ) (one : Client) (stepped : ClientStepped) (at : i ≡ seat id.0) (first : one ≡ get_or world.clients i no_client)
+      (given : answer ≡ answer_outcome stepped.answer) (does : ClientLeaves (client_does one world.log store asked call) (sent_before world.log store) stepped old) where
     abbrev turned : Turned
     turned =
         record {
@@ -62,10 +63,10 @@ module _ (world : World) (store : List ℕ) (answer : ClientAnswer) (next : Log)
     pub client_plays : Plays (client_turn world store id call asked) turned old
     unfolding client_turn
     client_plays =
-        let party : one ≡ get_or world.clients (client_seat id) no_client = first ∙ ap (λ (k : ℕ). get_or world.clients k no_client) at in
+        let party : one ≡ get_or world.clients (seat id.0) no_client = first ∙ ap (λ (k : ℕ). get_or world.clients k no_client) at in
         let d = subst (λ (r : Client). ClientLeaves (client_does r world.log store asked call) (sent_before world.log store) stepped old) party does in
         let said = given ∙ d.answer in
-        let log = kept ∙ ap (λ (a : ClientAnswer). logged_by a world.log) said in
+        let log = kept ∙ ap (λ (a : Outcome Response). logged_by a world.log) said in
         let clients = ap₂ (λ (k : ℕ) (r : Client). set world.clients k r) at d.client in
         record {
           world_is = ap₂ (λ (cs : List Client) (l : Log). record { replicas = world.replicas; clients = cs; log = l }) clients log;
@@ -79,15 +80,11 @@ default_free [] i d e h = absurd (omega arith)
 default_free (x ∷ l) zero d e h = refl
 default_free (x ∷ l) (suc i) d e h = default_free l i d e (omega arith)
 
-module _ (world : World) (store text : List ℕ) (asked : Command) (party : Addressee) (old : List ℕ)
-    (reads : asked ≡ command text) (finds : party ≡ addressee world.log.count asked) where
-  found : addressee world.log.count (command text) ≡ party
-  found = ap (addressee world.log.count) (sym reads) ∙ sym finds
-
-  pub turn_plays : (turned : Turned) (known : Addressee) → party ≡ known → Plays (does world store text known) turned old → Plays (turn world store text) turned old
+module _ (world : World) (store text : List ℕ) (party : Option Addressee) (old : List ℕ) (finds : party ≡ addressee world.log.count (command text)) where
+  pub turn_plays : (turned : Turned) (known : Option Addressee) → party ≡ known → Plays (does world store text known) turned old → Plays (turn world store text) turned old
   unfolding turn
-  turn_plays turned known e p = rw (found, e) p
+  turn_plays turned known e p = rw (← finds, e) p
 
-  pub nobody_plays : (saying : Saying) → Says NotRead [] saying → old ≡ store → Plays (does world store text Nobody) (record { world = world; saying = saying }) old
+  pub nobody_plays : (saying : Saying) → Says (accepted Unread) [] saying → old ≡ store → Plays (does world store text None) (record { world = world; saying = saying }) old
   unfolding does
   nobody_plays saying s same = record { world_is = refl; says = s; store_is = same }

@@ -1,5 +1,6 @@
 -- Document 01, "The run player": the calls that a line asks for.
 use Rattle.std.specs.Prelude.{◌≡◌, List, ◌++◌, ℕ, ◌-◌, length, take, drop, replicate}
+use Rattle.base.specs.Refusal.{outcome}
 use Rattle.base.specs.declared.party.RegisterId.{RegisterId}
 use Rattle.wire.specs.Message.{longest}
 use Rattle.wire.specs.Signatures.{signatures_to}
@@ -7,7 +8,7 @@ use Rattle.wire.specs.declared.message.Party.{Party}
 use Rattle.wire.specs.declared.message.Party.TheVariants.{Replica as AtReplica, Client as AtClient}
 use Rattle.text.specs.Hex.{hex_pairs}
 use Rattle.protocol.specs.RegisterReplica.{RegisterCall, register_call}
-use Rattle.protocol.specs.Client.{ClientCall, begin_write_call, begin_read_call, client_call}
+use Rattle.protocol.specs.Client.{ClientCall, answer_outcome, begin_write_call, begin_read_call, client_call}
 use Rattle.protocol.specs.declared.replica.RegisterReplica.{RegisterReplica}
 use Rattle.protocol.specs.declared.client.Client.{Client}
 use Rattle.client.specs.declared.Stepped.{Stepped as ClientStepped}
@@ -47,13 +48,13 @@ replica_does replica log store m = register_call replica (message_at log store m
 
 -- What a call leaves, with its output behind some bytes of the store.
 pub record ClientLeaves (call : ClientCall) (sent : List ℕ) (stepped : ClientStepped) (store : List ℕ) : Type 0 where
-  pub answer : stepped.answer ≡ call.answer
+  pub answer : answer_outcome stepped.answer ≡ call.answer
   pub card_length : stepped.card_length ≡ call.card_length
   pub card : stepped.card ≡ call.card
   pub client : stepped.client ≡ call.client
   pub store_is : store ≡ sent ++ call.output
 
 pub record ReplicaLeaves (call : RegisterCall) (sent : List ℕ) (stepped : ReplicaStepped) (store : List ℕ) : Type 0 where
-  pub answer : stepped.answer ≡ call.answer
+  pub answer : outcome stepped.answer ≡ call.answer
   pub replica : stepped.replica ≡ call.replica
   pub store_is : store ≡ sent ++ call.output

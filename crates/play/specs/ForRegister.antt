@@ -1,6 +1,6 @@
 -- Document 02, #103: "The player works on set 1." So it keeps of each replica one register's part. That this is enough: every message sent
 -- is for that register, and with whole replicas, of sixteen registers each, the player would print the same.
-use Rattle.std.specs.Prelude.{◌≡◌, List, [], ◌∷◌, ◌++◌, ℕ, ◌+◌, ◌≤◌, get_or, take, set, replicate}
+use Rattle.std.specs.Prelude.{◌≡◌, Option, Some, None, List, [], ◌∷◌, ◌++◌, ℕ, ◌+◌, ◌≤◌, get_or, take, set, replicate}
 use Rattle.base.specs.Counting.{replica}
 use Rattle.base.specs.declared.party.ReplicaId.{ReplicaId}
 use Rattle.wire.specs.Decode.{register_in}
@@ -14,10 +14,10 @@ use Rattle.play.specs.Grammar.{command}
 use Rattle.play.specs.Output.{header, line}
 use Rattle.play.specs.Player.{Turn, after_replica, client_turn, addressee, does, turn}
 use Rattle.play.specs.Session.{printed}
-use Rattle.play.specs.Worlds.{fresh_world, replica_seat, empty_store}
+use Rattle.play.specs.Worlds.{fresh_world, seat, empty_store}
 use Rattle.play.specs.declared.log.Log.{Log}
 use Rattle.play.specs.declared.turn.Addressee.{Addressee}
-use Rattle.play.specs.declared.turn.Addressee.TheVariants.{Client as ToTheClient, Replica as ToTheReplica, Nobody}
+use Rattle.play.specs.declared.turn.Addressee.TheVariants.{Client as ToTheClient, Replica as ToTheReplica}
 use Rattle.play.specs.declared.world.World.{World}
 
 -- ---- Every message is for the register
@@ -56,15 +56,15 @@ bank_does bank log store m = bank_call bank (message_at log store m) (verdicts A
 abbrev pub after_bank : List Bank → World → List ℕ → ReplicaId → BankCall → BanksTurn
 after_bank banks world store id call =
     record {
-      banks = set banks (replica_seat id) call.bank;
+      banks = set banks (seat id.0) call.bank;
       turn = after_replica world store id (record { answer = call.answer; replica = no_register_replica; output = call.output });
     }
 
 -- Only a message to a replica is another thing than in `Player.does`.
-unfoldable pub banks_do : List Bank → World → List ℕ → List ℕ → Addressee → BanksTurn
-banks_do banks world store text (ToTheClient id call) = record { banks = banks; turn = client_turn world store id call text }
-banks_do banks world store text (ToTheReplica id m) = after_bank banks world store id (bank_does (get_or banks (replica_seat id) no_bank) world.log store m)
-banks_do banks world store text Nobody = record { banks = banks; turn = does world store text Nobody }
+unfoldable pub banks_do : List Bank → World → List ℕ → List ℕ → Option Addressee → BanksTurn
+banks_do banks world store text (Some (ToTheClient id call)) = record { banks = banks; turn = client_turn world store id call text }
+banks_do banks world store text (Some (ToTheReplica id m)) = after_bank banks world store id (bank_does (get_or banks (seat id.0) no_bank) world.log store m)
+banks_do banks world store text None = record { banks = banks; turn = does world store text None }
 
 unfoldable pub printed_lines_by_banks : List Bank → World → List ℕ → ℕ → List (List ℕ) → List ℕ
 printed_lines_by_banks banks world store number [] = []

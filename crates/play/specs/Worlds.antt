@@ -2,7 +2,6 @@
 use Rattle.std.specs.Prelude.{List, [], ◌∷◌, ℕ, ◌+◌, ◌%◌, replicate}
 use Rattle.base.specs.Counting.{replica}
 use Rattle.base.specs.declared.party.ClientId.{ClientId}
-use Rattle.base.specs.declared.party.ReplicaId.{ReplicaId}
 use Rattle.protocol.specs.RegisterReplica.{fresh_register_replica}
 use Rattle.protocol.specs.Client.{made_client}
 use Rattle.play.specs.Log.{empty_log}
@@ -20,12 +19,9 @@ fresh_world =
       log = empty_log;
     }
 
--- A party's place among the four of its kind: 1 to 4 stand at 0 to 3, and the grammar lets no other number through.
-unfoldable pub replica_seat : ReplicaId → ℕ
-replica_seat id = (id.0 + 3) % 4
-
-unfoldable pub client_seat : ClientId → ℕ
-client_seat id = (id.0 + 3) % 4
+-- A party's place among the four of its kind, by its number: 1 to 4 stand at 0 to 3, and the grammar lets no other number through.
+unfoldable pub seat : ℕ → ℕ
+seat number = (number + 3) % 4
 
 -- The store before the first line: room for 100 messages.
 unfoldable pub empty_store : List ℕ

@@ -2,6 +2,8 @@
 ghost use Rattle.std.specs.Prelude.{◌≡◌, [], ◌∷◌, leb};
 ghost use Rattle.play.specs.Input.{start_place, Keeps};
 
+use text::buffer::put;
+
 // Bytes of the last line, and whole lines before it.
 #[derive(Clone, Copy)]
 pub struct Place {
@@ -16,13 +18,14 @@ pub struct Kept {
     pub place: Place,
 }
 
-const NEWLINE: u8 = 10;
+const NEWLINE: u8 = b'\n';
 
 const LINES: usize = 100;
 
 // A line of the grammar has at most 38 bytes, so that a longer one is unread by its first 39.
 const COLUMNS: usize = 39;
 
+#[tactic(auto, unfolding(crate::specs::Input::start_place))]
 pub fn nothing() -> Kept
     ensures { result ≡ record { length = 0; place = start_place } }
 {
@@ -38,28 +41,27 @@ pub fn nothing() -> Kept
 fn keep_byte(script: &mut [u8], kept: Kept, byte: u8) -> Kept
     ensures { Keeps kept (byte ∷ []) script.old result script.new }
 {
-    let place = kept.place;
-    if LINES <= place.lines {
+    let Place { column, lines } = kept.place;
+    if LINES <= lines {
         return kept;
     }
-    let one = [byte];
     if byte == NEWLINE {
         return Kept {
-            length: text::buffer::put(script, kept.length, &one),
+            length: put(script, kept.length, &[byte]),
             place: Place {
                 column: 0,
-                lines: place.lines + 1,
+                lines: lines + 1,
             },
         };
     }
-    if COLUMNS <= place.column {
+    if COLUMNS <= column {
         return kept;
     }
     Kept {
-        length: text::buffer::put(script, kept.length, &one),
+        length: put(script, kept.length, &[byte]),
         place: Place {
-            column: place.column + 1,
-            lines: place.lines,
+            column: column + 1,
+            lines,
         },
     }
 }
@@ -69,10 +71,8 @@ pub fn keep(script: &mut [u8], kept: Kept, piece: &[u8]) -> Kept
     ensures { Keeps kept piece.now script.old result script.new }
 {
     let mut next = kept;
-    let mut i = 0;
-    while i < piece.len() {
-        next = keep_byte(script, next, piece[i]);
-        i += 1;
+    for byte in piece {
+        next = keep_byte(script, next, *byte);
     }
     next
 }
@@ -81,6 +81,5 @@ pub fn keep(script: &mut [u8], kept: Kept, piece: &[u8]) -> Kept
 pub fn is_full(kept: Kept) -> bool
     ensures { result ≡ leb 100 kept.place.lines }
 {
-    let place = kept.place;
-    LINES <= place.lines
+    LINES <= kept.place.lines
 }

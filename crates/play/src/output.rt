@@ -1,12 +1,14 @@
-// The lines that the player prints.
-ghost use Rattle.std.specs.Prelude.{◌≡◌, [], ◌++◌, min};
+// The lines that the player prints: `put` and not `Display`, since what has no room is cut, and each piece says where it ends.
+ghost use Rattle.std.specs.Prelude.{[], ◌++◌};
+ghost use Rattle.base.specs.Outcome.{accepted};
+ghost use Rattle.base.specs.Refusal.{outcome};
 ghost use Rattle.protocol.specs.Parts.{card_kept};
 ghost use Rattle.text.specs.Decimal.{decimal};
 ghost use Rattle.text.specs.Put.{Puts};
 ghost use Rattle.play.specs.Output.{behind_card, said, line};
 ghost use Rattle.play.specs.Player.{Says};
 
-use base::numbers::{smaller, wide};
+use base::refusal::Refusal;
 use base::replica_set::ReplicaSet;
 use base::slices::front;
 use base::timestamp::Timestamp;
@@ -14,33 +16,34 @@ use text::buffer::put;
 use text::decimal::put_number;
 use text::hex::put_hex;
 use text::timestamp::put_timestamp;
+use wire::layout::CARD_ROOM;
 
-// What a line says of its call.
-#[derive(Drop)]
+// What a line says of its call, unless that is refused.
+#[derive(Clone, Copy)]
 pub enum Said {
     Sent(u32),
     Taken,
     Done(Timestamp, ReplicaSet),
     Ended,
-    Refused(u8),
     Unread,
 }
 
-// The same with the card that `done` shows; no other answer shows one.
-#[derive(Drop)]
+// The same with the card that `done` shows; no other answer shows one. The card stands in an array with its length beside it, as the
+// client hands it over: the project's rule is no heap.
+#[derive(Clone, Copy)]
 pub struct Saying {
-    pub what: Said,
-    pub card: [u8; 17],
+    pub what: Result<Said, Refusal>,
+    pub card: [u8; CARD_ROOM],
     pub card_length: u8,
 }
 
 // What shows no card.
-pub(super) fn without_card(what: Said) -> Saying
-    ensures { Says what [] result }
+pub(super) fn without_card(what: Result<Said, Refusal>) -> Saying
+    ensures { Says (outcome what) [] result }
 {
     Saying {
-        what: what,
-        card: [0; 17],
+        what,
+        card: [0; CARD_ROOM],
         card_length: 0,
     }
 }
@@ -48,9 +51,8 @@ pub(super) fn without_card(what: Said) -> Saying
 fn put_signers(out: &mut [u8], at: usize, signers: ReplicaSet) -> usize
     ensures { Puts out.old at (behind_card signers) result out.new }
 {
-    let bytes = signers.to_bytes();
     let space = put(out, at, b" ");
-    put_hex(out, space, &bytes)
+    put_hex(out, space, &signers.to_bytes())
 }
 
 fn put_done(
@@ -60,7 +62,7 @@ fn put_done(
     card: &[u8],
     signers: ReplicaSet,
 ) -> usize
-    ensures { Puts out.old at (said (Said.Done timestamp signers) card.now) result out.new }
+    ensures { Puts out.old at (said (accepted (Said.Done timestamp signers)) card.now) result out.new }
 {
     let word = put(out, at, b"done ");
     let when = put_timestamp(out, word, timestamp);
@@ -77,35 +79,27 @@ fn put_numbered(out: &mut [u8], at: usize, word: &[u8], n: u64) -> usize
     put_number(out, next, n)
 }
 
-fn put_said(out: &mut [u8], at: usize, what: Said, card: &[u8]) -> usize
-    ensures { Puts out.old at (said what card.now) result out.new }
+#[tactic(auto, unfolding(crate::specs::Output::said))]
+fn put_said(out: &mut [u8], at: usize, what: Result<Said, Refusal>, card: &[u8]) -> usize
+    ensures { Puts out.old at (said (outcome what) card.now) result out.new }
 {
     match what {
-        Said::Sent(m) => put_numbered(out, at, b"sent ", m as u64),
-        Said::Taken => put(out, at, b"taken"),
-        Said::Done(timestamp, signers) => put_done(out, at, timestamp, card, signers),
-        Said::Ended => put(out, at, b"ended"),
-        Said::Refused(number) => put_numbered(out, at, b"refused ", number as u64),
-        Said::Unread => put(out, at, b"unread"),
+        Ok(Said::Sent(m)) => put_numbered(out, at, b"sent ", u64::from(m)),
+        Ok(Said::Taken) => put(out, at, b"taken"),
+        Ok(Said::Done(timestamp, signers)) => put_done(out, at, timestamp, card, signers),
+        Ok(Said::Ended) => put(out, at, b"ended"),
+        Ok(Said::Unread) => put(out, at, b"unread"),
+        Err(refusal) => put_numbered(out, at, b"refused ", u64::from(refusal.number())),
     }
-}
-
-// A card has at most 17 bytes.
-fn card_length(length: u8) -> usize
-    ensures { result ≡ min length 17 }
-{
-    smaller(wide(length), 17)
 }
 
 // A line of the output: the number of the input's line, and what is said of it.
 pub(super) fn put_line(out: &mut [u8], at: usize, number: u8, saying: Saying) -> usize
-    ensures { Puts out.old at (line number saying.what (card_kept saying.card saying.card_length)) result out.new }
+    ensures { Puts out.old at (line number (outcome saying.what) (card_kept saying.card saying.card_length)) result out.new }
 {
-    let what = saying.what;
-    let card = saying.card;
-    let length = card_length(saying.card_length);
-    let numbered = put_number(out, at, number as u64);
+    let card = front(&saying.card, usize::from(saying.card_length).min(CARD_ROOM));
+    let numbered = put_number(out, at, u64::from(number));
     let space = put(out, numbered, b" ");
-    let words = put_said(out, space, what, front(&card, length));
+    let words = put_said(out, space, saying.what, card);
     put(out, words, b"\n")
 }

@@ -8,7 +8,9 @@ ghost use Rattle.play.specs.Worlds.{empty_store};
 
 use crate::output::put_line;
 use crate::turn::turn;
-use crate::world::{World, fresh};
+use crate::world::World;
+use text::buffer::put;
+use text::line::line_end;
 
 // What the lines so far leave: the world, and the place behind what is printed.
 #[derive(Drop)]
@@ -24,14 +26,11 @@ const LINES: u8 = 100;
 fn play_line(before: Played, number: u8, line: &[u8], store: &mut [u8], out: &mut [u8]) -> Played
     ensures { PlaysLine (turn before.world store.old line.now) number out.old before.end result store.new out.new }
 {
-    let world = before.world;
-    let turned = turn(world, line, store);
-    let saying = turned.saying;
-    let end = put_line(out, before.end, number, saying);
-    let after = turned.world;
+    let turned = turn(before.world, line, store);
+    let end = put_line(out, before.end, number, turned.saying);
     Played {
-        world: after,
-        end: end,
+        world: turned.world,
+        end,
     }
 }
 
@@ -40,21 +39,20 @@ fn play_lines(begun: Played, script: &[u8], store: &mut [u8], out: &mut [u8]) ->
     ensures { Puts out.old begun.end (printed_lines begun.world store.old 1 (take 100 (lines script.now))) result out.new }
 {
     let mut played = begun;
-    let mut number: u8 = 0;
     let mut from = 0;
-    while from < script.len() {
-        if number == LINES {
-            return played.end;
+    for number in 0..LINES {
+        if script.len() <= from {
+            break;
         }
-        number += 1;
-        let end = text::line::line_end(script, from);
-        played = play_line(played, number, &script[from..end], store, out);
+        let end = line_end(script, from);
+        played = play_line(played, number + 1, &script[from..end], store, out);
         from = end + 1;
     }
     played.end
 }
 
 // Room for 100 messages, in a function of its own, so that no other's proof has to unfold so long an array.
+#[tactic(auto, unfolding(crate::specs::Worlds::empty_store))]
 fn store() -> [u8; 158_000]
     ensures { result ≡ empty_store }
 {
@@ -67,10 +65,10 @@ pub fn play(script: &[u8], out: &mut [u8]) -> usize
     ensures { Puts out.old 0 (printed script.now) result out.new }
 {
     let mut sent = store();
-    let at = text::buffer::put(out, 0, b"holders 4 desks 4\n");
+    let end = put(out, 0, b"holders 4 desks 4\n");
     let begun = Played {
-        world: fresh(),
-        end: at,
+        world: World::fresh(),
+        end,
     };
     play_lines(begun, script, &mut sent, out)
 }

@@ -1,24 +1,25 @@
 // One line of input: the call that it asks for, what that leaves, and what is said of it.
 ghost use Rattle.std.specs.Prelude.{◌≡◌};
-ghost use Rattle.base.specs.Range.{within};
+ghost use Rattle.base.specs.Refusal.{outcome};
+ghost use Rattle.protocol.specs.Client.{answer_outcome};
 ghost use Rattle.protocol.specs.Events.{as_client_answer};
+ghost use Rattle.play.specs.Grammar.{command};
 ghost use Rattle.play.specs.Player.{said_of, logged_by, addressee, client_turn, replica_turn, turn, Plays};
 
-use crate::calls::Call;
-use crate::grammar::Command;
+use crate::calls::{Call, client_does, replica_does};
+use crate::grammar::{Command, parse};
 use crate::log::Log;
 use crate::output::{Said, Saying, without_card};
-use crate::world::{World, client_seat, replica_seat};
-use base::party::{ClientId, ReplicaId};
+use crate::world::{World, seat};
+use base::party::{ClientId, ReplicaId, within};
+use base::refusal::Refusal;
 use protocol::client::ClientAnswer;
-use protocol::replica::ReplicaAnswer;
 
 // Whom a command is addressed to, and for what.
-#[derive(Drop)]
+#[derive(Clone, Copy)]
 pub enum Addressee {
     Client(ClientId, Call),
-    Replica(ReplicaId, usize),
-    Nobody,
+    Replica(ReplicaId, u8),
 }
 
 #[derive(Drop)]
@@ -27,110 +28,95 @@ pub struct Turned {
     pub saying: Saying,
 }
 
+// A message to send takes the next number.
+#[tactic(auto, unfolding(crate::specs::Player::logged_by))]
 fn logged(log: Log, answer: ClientAnswer) -> Log
-    ensures { result ≡ logged_by answer log }
+    ensures { result ≡ logged_by (answer_outcome answer) log }
 {
     match answer {
-        ClientAnswer::Send(length) => crate::log::with(log, length),
-        ClientAnswer::Counted => log,
-        ClientAnswer::Done(_, _) => log,
-        ClientAnswer::Ended => log,
-        ClientAnswer::Refused(_) => log,
+        ClientAnswer::Send(length) => log.with(length),
+        _ => log,
     }
 }
 
-fn said(count: u8, answer: ClientAnswer) -> Said
-    ensures { result ≡ said_of count answer }
+#[tactic(auto, unfolding(crate::specs::Player::said_of))]
+fn said(count: u8, answer: ClientAnswer) -> Result<Said, Refusal>
+    ensures { outcome result ≡ said_of count (answer_outcome answer) }
 {
     match answer {
-        ClientAnswer::Send(_) => Said::Sent(count as u32 + 1),
-        ClientAnswer::Counted => Said::Taken,
-        ClientAnswer::Done(timestamp, signers) => Said::Done(timestamp, signers),
-        ClientAnswer::Ended => Said::Ended,
-        ClientAnswer::Refused(number) => Said::Refused(number),
+        ClientAnswer::Send(_) => Ok(Said::Sent(u32::from(count) + 1)),
+        ClientAnswer::Counted => Ok(Said::Taken),
+        ClientAnswer::Done(timestamp, signers) => Ok(Said::Done(timestamp, signers)),
+        ClientAnswer::Ended => Ok(Said::Ended),
+        ClientAnswer::Refused(refusal) => Err(refusal),
     }
 }
 
-fn reply(answer: ReplicaAnswer) -> ClientAnswer
-    ensures { result ≡ as_client_answer answer }
+// A replica's answer is one of a client's.
+fn reply(answer: Result<usize, Refusal>) -> ClientAnswer
+    ensures { answer_outcome result ≡ as_client_answer (outcome answer) }
 {
     match answer {
-        ReplicaAnswer::Send(length) => ClientAnswer::Send(length),
-        ReplicaAnswer::Refused(number) => ClientAnswer::Refused(number),
+        Ok(length) => ClientAnswer::Send(length),
+        Err(refusal) => ClientAnswer::Refused(refusal),
     }
 }
 
-fn is_sent(m: usize, count: u8) -> bool
-    ensures { result ≡ within 1 count m }
+// Whom a line is addressed to, and for what; one of another form, or with an unsent message, goes to nobody.
+#[tactic(auto, unfolding(crate::specs::Player::addressee))]
+fn addressed(line: &[u8], count: u8) -> Option<Addressee>
+    ensures { result ≡ addressee count (command line.now) }
 {
-    if m == 0 {
-        return false;
-    }
-    m <= count as usize
-}
-
-// Whom a command is addressed to, and for what; an unsent message goes to nobody.
-fn addressed(command: Command, count: u8) -> Addressee
-    ensures { result ≡ addressee count command }
-{
-    match command {
-        Command::Write(id) => Addressee::Client(id, Call::Write),
-        Command::Read(id) => Addressee::Client(id, Call::Read),
-        Command::ToReplica(id, m) => if is_sent(m, count) {
-            Addressee::Replica(id, m)
-        } else {
-            Addressee::Nobody
-        },
-        Command::ToClient(id, m) => if is_sent(m, count) {
-            Addressee::Client(id, Call::Deliver(m))
-        } else {
-            Addressee::Nobody
-        },
-        Command::Unread => Addressee::Nobody,
+    match parse(line)? {
+        Command::Write(id) => Some(Addressee::Client(id, Call::Write)),
+        Command::Read(id) => Some(Addressee::Client(id, Call::Read)),
+        Command::ToReplica(id, m) if within(1, count, m) => Some(Addressee::Replica(id, m)),
+        Command::ToClient(id, m) if within(1, count, m) => Some(Addressee::Client(
+            id,
+            Call::Deliver(m),
+        )),
+        _ => None,
     }
 }
 
-// A client's call, and what that leaves.
+// A client's call, and what that leaves. `card`, `next` and `log` are locals, here and in a replica's turn, since the borrow checker
+// takes no field with an array that is stored straight.
 fn client_turn(mut world: World, id: ClientId, call: Call, line: &[u8], store: &mut [u8]) -> Turned
     ensures { Plays (client_turn world store.old id call line.now) result store.new }
 {
-    let log = world.log;
-    let i = client_seat(id);
-    let client = world.clients[i];
-    let stepped = crate::calls::client_does(client, log, call, line, store);
-    let next = stepped.client;
-    let answer = stepped.answer;
+    let i = seat(id.0);
+    let stepped = client_does(world.clients[i], &world.log, call, line, store);
+    let what = said(world.log.count, stepped.answer);
     let card = stepped.card;
-    let longer = logged(log, answer);
+    let next = stepped.client;
+    let log = logged(world.log, stepped.answer);
     world.clients[i] = next;
-    world.log = longer;
+    world.log = log;
     Turned {
-        world: world,
+        world,
         saying: Saying {
-            what: said(log.count, answer),
-            card: card,
+            what,
+            card,
             card_length: stepped.card_length,
         },
     }
 }
 
 // A replica's call, and what that leaves.
-fn replica_turn(mut world: World, id: ReplicaId, m: usize, store: &mut [u8]) -> Turned
+fn replica_turn(mut world: World, id: ReplicaId, m: u8, store: &mut [u8]) -> Turned
     ensures { Plays (replica_turn world store.old id m) result store.new }
 {
-    let log = world.log;
-    let i = replica_seat(id);
-    let replica = world.replicas[i];
-    let stepped = crate::calls::replica_does(replica, log, m, store);
+    let i = seat(id.0);
+    let stepped = replica_does(world.replicas[i], &world.log, m, store);
+    let answer = reply(stepped.answer);
+    let what = said(world.log.count, answer);
     let next = stepped.replica;
-    let given = stepped.answer;
-    let answer = reply(given);
-    let longer = logged(log, answer);
+    let log = logged(world.log, answer);
     world.replicas[i] = next;
-    world.log = longer;
+    world.log = log;
     Turned {
-        world: world,
-        saying: without_card(said(log.count, answer)),
+        world,
+        saying: without_card(what),
     }
 }
 
@@ -138,13 +124,12 @@ fn replica_turn(mut world: World, id: ReplicaId, m: usize, store: &mut [u8]) -> 
 pub(super) fn turn(world: World, line: &[u8], store: &mut [u8]) -> Turned
     ensures { Plays (turn world store.old line.now) result store.new }
 {
-    let log = world.log;
-    match addressed(crate::grammar::parse(line), log.count) {
-        Addressee::Client(id, call) => client_turn(world, id, call, line, store),
-        Addressee::Replica(id, m) => replica_turn(world, id, m, store),
-        Addressee::Nobody => Turned {
-            world: world,
-            saying: without_card(Said::Unread),
+    match addressed(line, world.log.count) {
+        Some(Addressee::Client(id, call)) => client_turn(world, id, call, line, store),
+        Some(Addressee::Replica(id, m)) => replica_turn(world, id, m, store),
+        None => Turned {
+            world,
+            saying: without_card(Ok(Said::Unread)),
         },
     }
 }

@@ -2,7 +2,7 @@
 ghost use Rattle.std.specs.Prelude.{◌≡◌, ◌<◌};
 ghost use Rattle.protocol.specs.RegisterReplica.{fresh_register_replica};
 ghost use Rattle.protocol.specs.Client.{made_client};
-ghost use Rattle.play.specs.Worlds.{fresh_world, replica_seat, client_seat};
+ghost use Rattle.play.specs.Worlds.{fresh_world, seat};
 
 use crate::log::Log;
 use base::client_set::ClientSet;
@@ -28,7 +28,7 @@ fn replica(id: ReplicaId) -> RegisterReplica
 {
     RegisterReplica {
         f: FAULT_BOUND,
-        id: id,
+        id,
         register: fresh_register(),
         withdrawn: ClientSet::nobody(),
     }
@@ -37,20 +37,18 @@ fn replica(id: ReplicaId) -> RegisterReplica
 fn client(id: ClientId) -> Client
     ensures { result ≡ made_client 1 id 1 }
 {
-    client::fresh(FAULT_BOUND, id, FIRST_NONCE).client
+    client::fresh(FAULT_BOUND, id, FIRST_NONCE).unwrap_or(client::nobody())
 }
 
+#[tactic(auto, unfolding(crate::specs::Worlds::fresh_world))]
 fn replicas() -> [RegisterReplica; 4]
     ensures { result ≡ fresh_world.replicas }
 {
-    [
-        replica(ReplicaId(1)),
-        replica(ReplicaId(2)),
-        replica(ReplicaId(3)),
-        replica(ReplicaId(4)),
-    ]
+    [1, 2, 3, 4].map(|i| replica(ReplicaId(i)))
 }
 
+// No `map` as in `replicas`: the search for what it gives stops at its limits, since a client's record unfolds there.
+#[tactic(auto, unfolding(crate::specs::Worlds::fresh_world))]
 fn clients() -> [Client; 4]
     ensures { result ≡ fresh_world.clients }
 {
@@ -62,27 +60,24 @@ fn clients() -> [Client; 4]
     ]
 }
 
-// The world before the first line.
-pub fn fresh() -> World
-    ensures { result ≡ fresh_world }
-{
-    World {
-        replicas: replicas(),
-        clients: clients(),
-        log: crate::log::empty(),
+impl World {
+    // The world before the first line.
+    #[tactic(auto, unfolding(crate::specs::Worlds::fresh_world))]
+    pub fn fresh() -> World
+        ensures { result ≡ fresh_world }
+    {
+        World {
+            replicas: replicas(),
+            clients: clients(),
+            log: Log::empty(),
+        }
     }
 }
 
-// A replica's place among the four.
-pub fn replica_seat(id: ReplicaId) -> usize
-    ensures { (result ≡ replica_seat id) × (result < 4) }
+// The place among the four of its kind of the party with this number.
+#[tactic(auto, unfolding(crate::specs::Worlds::seat))]
+pub fn seat(number: u8) -> usize
+    ensures { (result ≡ seat number) × (result < 4) }
 {
-    (id.0 as usize + 3) % 4
-}
-
-// A client's place among the four.
-pub fn client_seat(id: ClientId) -> usize
-    ensures { (result ≡ client_seat id) × (result < 4) }
-{
-    (id.0 as usize + 3) % 4
+    (usize::from(number) + 3) % 4
 }

@@ -1,32 +1,24 @@
 // The run player: plays the first 100 lines of standard input and prints a line for each.
 #![tactic(auto)]
 
-ghost use Rattle.std.specs.Io.{ReadsAtMost};
-
 use base::slices::front;
 use play::input::{is_full, keep};
 use std::io;
 use std::io::Read;
 
-// One read, so that nobody waits for what stands behind the lines that are played.
-fn read_piece(input: &mut impl Read, piece: &mut [u8]) -> io::Result<usize>
-    ensures { ReadsAtMost result piece.new }
-{
-    input.read(piece)
-}
-
 // What is kept of the input; answers how many bytes that are.
+// It reads once per piece, so that nobody waits for what stands behind the lines that are played.
 // A proved loop has to end, and nothing says that the input does: it counts up to a number that no run comes to.
 fn read_script(input: &mut impl Read, script: &mut [u8]) -> io::Result<usize> {
     let mut kept = play::input::nothing();
     for _ in 0..u64::MAX {
         if is_full(kept) {
-            return Ok(kept.length);
+            break;
         }
         let mut piece = [0u8; 4_096];
-        let n = read_piece(input, &mut piece)?;
+        let n = input.read(&mut piece)?;
         if n == 0 {
-            return Ok(kept.length);
+            break;
         }
         kept = keep(script, kept, &piece[..n]);
     }

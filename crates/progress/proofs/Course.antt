@@ -9,6 +9,8 @@ use native.Mathlib.Omega.{arith}
 use borrow.Author.Tests.{eqb-true}
 use lib.Dec.{eqb}
 use lib.ListN.{length, length-append}
+use Rattle.std.specs.declared.option.Option.{Option as CodeOption}
+use Rattle.std.specs.declared.option.Option.TheVariants.{Some, None}
 use Rattle.base.specs.Counting.{one, count}
 use Rattle.base.specs.Outcome.{Outcome, accepted}
 use Rattle.base.specs.Party.{replica_count, quorum_size, is_replica, is_writer, is_register}
@@ -72,10 +74,10 @@ InCourse f w stamps cards (Cards nonce best counted showed) = (w ≡ false) × C
 InCourse f w stamps cards (WriteBack timestamp counted) = (w ≡ false) × Differ f cards
 
 -- A successor is missing behind the last count alone.
-last_count : (best : Timestamp) (id : ClientId) → successor best id ≡ none → best.count ≡ 4_294_967_295
+last_count : (best : Timestamp) (id : ClientId) → successor best id ≡ None → best.count ≡ 4_294_967_295
 last_count best id e = go (eqb best.count 4_294_967_295) refl e
   where
-    go : (b : Bool) → eqb best.count 4_294_967_295 ≡ b → cond {A = Option Timestamp} b none (some (record { count = best.count + 1; client = id })) ≡ none → best.count ≡ 4_294_967_295
+    go : (b : Bool) → eqb best.count 4_294_967_295 ≡ b → cond {A = CodeOption Timestamp} b None (Some (record { count = best.count + 1; client = id })) ≡ None → best.count ≡ 4_294_967_295
     go true k e = eqb-true best.count 4_294_967_295 k
     go false k e = apart (cc)
 

@@ -10,6 +10,7 @@ use borrow.Author.Tests.{eq-eqb, eqb-true, eqb-false, ltb-true, ltb-false, le-le
 use lib.Dec.{eqb, leb, ltb}
 use lib.ListN.{length, get_or, set, get_or-replicate}
 use lib.Seq.{get_or-set_same}
+use Rattle.std.specs.declared.option.Option.TheVariants.{Some}
 use Rattle.base.specs.BigEndian.{Bytes}
 use Rattle.base.specs.Outcome.{Outcome, accepted, refused}
 use Rattle.base.specs.Party.{replica_count, is_register, register_place}
@@ -65,7 +66,7 @@ use Rattle.progress.proofs.Requests.{sends_writer}
 use Rattle.progress.proofs.Sound.{Stands, ProofSound, none_sound, proof_later, Sound, sound_later, Came, to_a_client, taken_sound, own_found}
 
 -- A successor's number is issued.
-successor_issued : (best next : Timestamp) (id : ClientId) → best.client.0 < 256 → 1 ≤ id.0 → id.0 ≤ 64 → successor best id ≡ some next → issued (number next) ≡ true
+successor_issued : (best next : Timestamp) (id : ClientId) → best.client.0 < 256 → 1 ≤ id.0 → id.0 ≤ 64 → successor best id ≡ Some next → issued (number next) ≡ true
 successor_issued best next id fits low high e =
     let is = successor_number best next id fits e in
     let count : 1 ≤ number next / 256 = omega arith in
@@ -259,7 +260,7 @@ module _ (R : Run) where
           let latest = best_of best proof in
           let fits : latest.client.0 < 256 = best_fits best proof (subst PhaseFits phase good.phase_fits).1 in
           let range = bounds 1 64 id.0 (sends_writer R id t h _ left.answer_is) in
-          let for_id : successor latest id ≡ some next = ap (successor latest) (sym good.id_is) ∙ succ in
+          let for_id : successor latest id ≡ Some next = ap (successor latest) (sym good.id_is) ∙ succ in
           let is = successor_issued latest next id fits range.0 range.1 for_id in
           let whole : of_number (prepared_timestamp shown) ≡ latest = ap of_number shows ∙ of_number_number latest fits in
           leaves left (h.facts.written_kept_lem (ap is_writing phase))

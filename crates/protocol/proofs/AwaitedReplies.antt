@@ -6,6 +6,8 @@ use mathlib.Core.List.{List}
 use mathlib.Core.Option.{Option, none, some}
 use Prim.Native.Nat.{ℕ}
 use borrow.Author.Tests.{eq-eqb}
+use Rattle.std.specs.declared.option.Option.{Option as CodeOption}
+use Rattle.std.specs.declared.option.Option.TheVariants.{Some, None}
 use Rattle.base.specs.Outcome.{Outcome, accepted, guard}
 use Rattle.base.specs.ReplicaSet.{has}
 use Rattle.base.specs.Timestamp.{number, successor}
@@ -39,9 +41,9 @@ module _ (now : Client) where
   unfolding after_stamp
   stamp_taken nonce best counted = either (enough now counted) _ _ (to_prepare_lem (successor best now.id)) (_, refl)
     where
-      to_prepare_lem : (next : Option Timestamp) → Takes (to_prepare now best next)
-      to_prepare_lem none = (_, refl)
-      to_prepare_lem (some next) = (_, refl)
+      to_prepare_lem : (next : CodeOption Timestamp) → Takes (to_prepare now best next)
+      to_prepare_lem None = (_, refl)
+      to_prepare_lem (Some next) = (_, refl)
 
   prepared_taken : (timestamp : Timestamp) (counted : ReplicaSet) → Takes (after_prepared timestamp counted now)
   unfolding after_prepared

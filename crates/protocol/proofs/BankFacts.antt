@@ -26,7 +26,6 @@ use Rattle.protocol.specs.RegisterReplica.{Reply, fresh_register, fresh_register
 use Rattle.protocol.specs.declared.replica.Bank.{Bank}
 use Rattle.protocol.specs.declared.replica.Register.{Register}
 use Rattle.protocol.specs.declared.replica.RegisterReplica.{RegisterReplica}
-use Rattle.protocol.specs.declared.replica.ReplicaAnswer.TheVariants.{Refused}
 use Rattle.wire.specs.Parts.{last_register}
 use Rattle.wire.proofs.LastRegister.{register_last}
 
@@ -91,10 +90,10 @@ refused_output old n = go (roomy old)
 
 module _ (bank : Bank) (bytes verdicts old : List ℕ) where
   -- A refusal leaves bank and output as they were, wherever it is judged.
-  pub refused_back : (at n : ℕ) → put_back at bank (register_answers (register_in bytes) (bank_part at bank) old (refused n)) ≡ record { answer = Refused n; bank = bank; output = old }
-  refused_back at n = ap (λ (left : Bank). record { answer = Refused n; bank = left; output = old }) (part_itself bank at)
+  pub refused_back : (at n : ℕ) → put_back at bank (register_answers (register_in bytes) (bank_part at bank) old (refused n)) ≡ record { answer = refused n; bank = bank; output = old }
+  refused_back at n = ap (λ (left : Bank). record { answer = refused n; bank = left; output = old }) (part_itself bank at)
 
-  refused_at : (at n : ℕ) → register_step (bank_part at bank) bytes verdicts ≡ refused n → bank_call_at at bank bytes verdicts old ≡ record { answer = Refused (cond (roomy old) n 1); bank = bank; output = old }
+  refused_at : (at n : ℕ) → register_step (bank_part at bank) bytes verdicts ≡ refused n → bank_call_at at bank bytes verdicts old ≡ record { answer = refused (cond (roomy old) n 1); bank = bank; output = old }
   unfolding register_call
   refused_at at n e =
       ap (λ (step : Outcome Reply). put_back at bank (register_answers (register_in bytes) (bank_part at bank) old (with_output old step))) e
@@ -171,11 +170,11 @@ module _ (bank : Bank) (bytes verdicts old : List ℕ) where
   output_stepped = refl
 
   -- A refusal leaves all as it was.
-  pub refusal_keeps : (n : ℕ) → (bank_call bank bytes verdicts old).answer ≡ Refused n → (left ≡ bank) × ((bank_call bank bytes verdicts old).output ≡ old)
+  pub refusal_keeps : (n : ℕ) → (bank_call bank bytes verdicts old).answer ≡ refused n → (left ≡ bank) × ((bank_call bank bytes verdicts old).output ≡ old)
   unfolding bank_call register_call
   refusal_keeps n e = go (with_output old (register_step (bank_part (place_in bytes) bank) bytes verdicts)) e
     where
-      go : (o : Outcome Reply) → (register_answers (register_in bytes) (bank_part (place_in bytes) bank) old o).answer ≡ Refused n
+      go : (o : Outcome Reply) → (register_answers (register_in bytes) (bank_part (place_in bytes) bank) old o).answer ≡ refused n
           → (with_bank_part (place_in bytes) (register_answers (register_in bytes) (bank_part (place_in bytes) bank) old o).replica bank ≡ bank)
           × ((register_answers (register_in bytes) (bank_part (place_in bytes) bank) old o).output ≡ old)
       go (accepted reply) e = apart (cc)

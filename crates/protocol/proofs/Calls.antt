@@ -25,7 +25,6 @@ use Rattle.protocol.specs.Viewer.{viewer_step, viewer_call}
 use Rattle.protocol.specs.declared.client.Client.{Client}
 use Rattle.protocol.specs.declared.replica.Bank.{Bank}
 use Rattle.protocol.specs.declared.replica.RegisterReplica.{RegisterReplica}
-use Rattle.protocol.specs.declared.replica.ReplicaAnswer.TheVariants.{Refused}
 use Rattle.protocol.proofs.BankFacts.{part_itself, refused_back}
 
 module _ {A : Type 0} (old : List ℕ) (next : Outcome A) where
@@ -43,7 +42,7 @@ module _ (replica : RegisterReplica) (bytes verdicts old : List ℕ) where
   unfolding register_call
   register_takes h = ap (register_answers (register_in bytes) replica old) (long_output old (register_step replica bytes verdicts) h)
 
-  pub register_short : length old < longest → register_call replica bytes verdicts old ≡ record { answer = Refused 1; replica = replica; output = old }
+  pub register_short : length old < longest → register_call replica bytes verdicts old ≡ record { answer = refused 1; replica = replica; output = old }
   unfolding register_call
   register_short h = ap (register_answers (register_in bytes) replica old) (short_output old (register_step replica bytes verdicts) h)
 
@@ -53,7 +52,7 @@ request_takes : (bank : Bank) (bytes verdicts old : List ℕ) → longest ≤ le
 unfolding bank_call bank_step
 request_takes bank bytes verdicts old long = ap (put_back (place_in bytes) bank) (register_takes (bank_part (place_in bytes) bank) bytes verdicts old long)
 
-pub request_short : (bank : Bank) (bytes verdicts old : List ℕ) → length old < longest → bank_call bank bytes verdicts old ≡ record { answer = Refused 1; bank = bank; output = old }
+pub request_short : (bank : Bank) (bytes verdicts old : List ℕ) → length old < longest → bank_call bank bytes verdicts old ≡ record { answer = refused 1; bank = bank; output = old }
 unfolding bank_call
 request_short bank bytes verdicts old short =
     ap (put_back (place_in bytes) bank) (register_short (bank_part (place_in bytes) bank) bytes verdicts old short)

@@ -8,6 +8,7 @@ use native.Mathlib.Omega.{arith}
 use borrow.Author.Tests.{eqb-false, ltb-true, ltb-false}
 use lib.Dec.{eqb}
 use lib.ListN.{length, take, drop, length-take, length-drop}
+use Rattle.std.specs.declared.option.Option.TheVariants.{Some, None}
 use Rattle.base.specs.Counting.{replica}
 use Rattle.base.specs.ReplicaSet.{has}
 use Rattle.base.specs.Timestamp.{number, successor}
@@ -91,10 +92,10 @@ best_least best proof = go (is_better best proof) refl
     go true e = let l = ltb-true (number best) (prepared_timestamp proof) e in rw e (omega arith, omega arith)
     go false e = let l = ltb-false (number best) (prepared_timestamp proof) e in rw e (omega arith, omega arith)
 
-pub successor_fits : (t next : Timestamp) (client : ClientId) → TimestampFits t → client.0 < 256 → successor t client ≡ some next → TimestampFits next
+pub successor_fits : (t next : Timestamp) (client : ClientId) → TimestampFits t → client.0 < 256 → successor t client ≡ Some next → TimestampFits next
 successor_fits t next client h small e = go (eqb t.count 4_294_967_295) refl e
   where
-    go : (b : Bool) → eqb t.count 4_294_967_295 ≡ b → cond b none (some (record { count = t.count + 1; client = client })) ≡ some next → TimestampFits next
+    go : (b : Bool) → eqb t.count 4_294_967_295 ≡ b → cond b None (Some (record { count = t.count + 1; client = client })) ≡ Some next → TimestampFits next
     go true same k = apart (cc)
     go false other k =
         let made : ◌≡◌ {A = Timestamp} (record { count = t.count + 1; client = client }) next = cc in

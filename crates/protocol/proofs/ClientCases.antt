@@ -6,6 +6,7 @@ use mathlib.Core.Option.{Option, none, some}
 use Prim.Native.Nat.{ℕ, ◌+◌, ◌^◌, ◌<◌}
 use lib.Dec.{ltb}
 use lib.ListN.{set}
+use Rattle.std.specs.declared.option.Option.TheVariants.{Some, None}
 use Rattle.base.specs.Party.{is_writer, is_replica, is_register, register_place}
 use Rattle.base.specs.ReplicaSet.{empty, has, with, is_quorum}
 use Rattle.base.specs.Timestamp.{number, successor}
@@ -109,13 +110,13 @@ pub data ClientCase (before : Client) (own : List ℕ) (message : Message) (turn
   stamps_enough : (sender : ReplicaId) (nonce : ℕ) (proof : Option PreparedProof) (best : Timestamp) (counted : ReplicaSet) (next : Timestamp)
       (shown : Option PreparedProof) (last : Option WrittenProof)
       → message ≡ STAMP sender nonce proof before.id → before.phase ≡ Stamps nonce best counted → OneMore before sender counted true
-      → successor (best_of best proof) before.id ≡ some next
+      → successor (best_of best proof) before.id ≡ Some next
       → current_card turn.next ≡ current_card before → turn.next.digest ≡ sha256 (current_card before) → turn.next.signers ≡ empty
       → shown ≡ better_proof best proof before → prepared_timestamp shown ≡ number (best_of best proof) → last ≡ last_written before
       → Leaves turn (send (PREPARE before.id (number next) (sha256 (current_card before)) shown last)) (Prepareds next empty) → ClientCase before own message turn
   stamps_ended : (sender : ReplicaId) (nonce : ℕ) (proof : Option PreparedProof) (best : Timestamp) (counted : ReplicaSet)
       → message ≡ STAMP sender nonce proof before.id → before.phase ≡ Stamps nonce best counted
-      → successor (best_of best proof) before.id ≡ none → Leaves turn ended Idle → ClientCase before own message turn
+      → successor (best_of best proof) before.id ≡ None → Leaves turn ended Idle → ClientCase before own message turn
   prepared_counted : (sender : ReplicaId) (timestamp : Timestamp) (counted : ReplicaSet)
       → message ≡ PREPARED sender (number timestamp) before.digest → before.phase ≡ Prepareds timestamp counted → OneMore before sender counted false
       → SameCard before turn.next → turn.next.signatures ≡ signatures_with before sender own

@@ -8,6 +8,8 @@ use native.Mathlib.Omega.{arith}
 use borrow.Author.Tests.{eqb-true, not-true}
 use lib.Dec.{eqb}
 use lib.ListN.{length, get_or, replicate}
+use Rattle.std.specs.declared.option.Option.{Option as CodeOption}
+use Rattle.std.specs.declared.option.Option.TheVariants.{Some, None}
 use Rattle.base.specs.BigEndian.{Bytes}
 use Rattle.base.specs.Party.{is_replica, replica_count}
 use Rattle.base.specs.ReplicaSet.{empty, has, with, is_quorum}
@@ -142,11 +144,11 @@ module _ (before : Client) (own verdicts : List ℕ) (message : Message) (passed
   module _ (sender : ReplicaId) (nonce : ℕ) (proof : Option PreparedProof) (best : Timestamp) (counted : ReplicaSet) (best_fit : TimestampFits (best_of best proof))
       (is_message : message ≡ STAMP sender nonce proof before.id) (at : before.phase ≡ Stamps nonce best counted) (new : NewFrom before sender counted)
       (client : Client) (after : Best before best proof (current_card before) client) where
-    to_prepare_lem : is_quorum before.f (with counted sender) ≡ true → (next : Option Timestamp) → successor (best_of best proof) client.id ≡ next
+    to_prepare_lem : is_quorum before.f (with counted sender) ≡ true → (next : CodeOption Timestamp) → successor (best_of best proof) client.id ≡ next
         → Accepts (ClientFacts before own verdicts message) (to_prepare client (best_of best proof) next)
-    to_prepare_lem quorum none e =
+    to_prepare_lem quorum None e =
         by_value (took _ (phase_kept before client after.kept Idle) tt (stamps_ended sender nonce proof best counted is_message at (rw (← after.kept.same_id) e) leaves) tt)
-    to_prepare_lem quorum (some next) e =
+    to_prepare_lem quorum (Some next) e =
         let next_fit = successor_fits (best_of best proof) next client.id best_fit after.kept.fits.id_fits e in
         let digest = sha256 (current_card client) in
         by_value (took _

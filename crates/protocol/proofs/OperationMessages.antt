@@ -7,6 +7,8 @@ use Prim.Native.Nat.{ℕ, ◌+◌, ◌≤◌}
 use native.Mathlib.Omega.{arith}
 use borrow.Author.Tests.{leb-true}
 use lib.Dec.{leb}
+use Rattle.std.specs.declared.option.Option.{Option as CodeOption}
+use Rattle.std.specs.declared.option.Option.TheVariants.{Some, None}
 use Rattle.base.specs.Outcome.{Outcome, accepted, refused, guard, ◌>>=◌}
 use Rattle.base.specs.Party.{is_writer, client_setup}
 use Rattle.base.specs.ReplicaSet.{with}
@@ -28,7 +30,7 @@ use Rattle.protocol.specs.Viewer.{after_view, on_viewer_reply, viewer_step, view
 use Rattle.protocol.specs.OperationMessages.{Call, sent_by, unless_begun, sent_after, sent_in, OperationMessages}
 use Rattle.protocol.specs.RegisterReplica.{with_output}
 use Rattle.protocol.specs.declared.client.Client.{Client}
-use Rattle.protocol.specs.declared.client.ClientAnswer.TheVariants.{Send}
+use Rattle.protocol.specs.Client.{Send}
 use Rattle.protocol.specs.declared.client.Phase.{Phase}
 use Rattle.protocol.specs.declared.client.Phase.TheVariants.{Idle, Stamps, Prepareds, Writtens, Cards, WriteBack}
 use Rattle.protocol.proofs.Accepts.{Accepts, by_value, by_refusal, by_guard, by_cases}
@@ -75,9 +77,9 @@ cond_same : (test : Bool) (b : Bool) → cond test b b ≡ b
 cond_same true b = refl
 cond_same false b = refl
 
-to_prepare_lem : (client : Client) (best : Timestamp) (next : Option Timestamp) → at_most 2 (to_prepare client best next) ≡ true
-to_prepare_lem client best none = refl
-to_prepare_lem client best (some next) = refl
+to_prepare_lem : (client : Client) (best : Timestamp) (next : CodeOption Timestamp) → at_most 2 (to_prepare client best next) ≡ true
+to_prepare_lem client best None = refl
+to_prepare_lem client best (Some next) = refl
 
 module _ (counted : ReplicaSet) (client : Client) where
   after_stamp_lem : (nonce : ℕ) (best : Timestamp) → Accepts (AtMost 2) (after_stamp nonce best counted client)
@@ -323,7 +325,7 @@ module _ (f : ℕ) (id : ClientId) (viewer : is_writer id ≡ false) where
   after_view_lem client ((proof_handed register bytes verdicts, old) ∷ calls) =
       omega (arith, (takes_quietly client old 0 register bytes verdicts).0, after_view_lem (after_taking old (hand_call client register bytes verdicts)).client calls)
 
-  view_sends : (client : Client) (register : RegisterId) (old : List ℕ) (n : ℕ) (calls : List Call) → (begin_read_call client register old).answer ≡ Send n
+  view_sends : (client : Client) (register : RegisterId) (old : List ℕ) (n : ℕ) (calls : List Call) → (begin_read_call client register old).answer ≡ accepted (Send n)
       → sent_in f id (begin_read_call client register old) calls ≡ 1
   view_sends client register old n calls e = let none = after_view_lem (begin_read_call client register old).client calls in rw e (omega arith)
 

@@ -12,7 +12,6 @@ use Rattle.base.specs.Party.{is_client, is_register}
 use Rattle.base.specs.Same.{same}
 use Rattle.base.specs.declared.party.ClientId.{ClientId}
 use Rattle.base.specs.declared.party.RegisterId.{RegisterId}
-use Rattle.base.specs.declared.taking.Taking.TheVariants.{Refused}
 use Rattle.base.proofs.Apart.{apart}
 use Rattle.base.proofs.Booleans.{and_true_both}
 use Rattle.base.proofs.ClientSet.{has_with, has_put, with_again}
@@ -84,7 +83,7 @@ module _ (bank : Bank) (order : List ℕ) where
       go (refused n) = record { same_f = refl; same_id = refl; same_registers = refl; same_key = refl }
 
   -- Refused, nothing changes.
-  pub order_refused : (n : ℕ) → take_order bank order ≡ refused n → order_call bank order ≡ record { answer = Refused n; bank = bank }
+  pub order_refused : (n : ℕ) → take_order bank order ≡ refused n → order_call bank order ≡ record { answer = refused n; bank = bank }
   unfolding order_call
   order_refused n e = rw e
 

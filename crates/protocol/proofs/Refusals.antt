@@ -13,7 +13,7 @@ use Rattle.base.proofs.Apart.{apart}
 use Rattle.base.proofs.Booleans.{and_true_both}
 use Rattle.wire.specs.Acceptance.{admits, admitted}
 use Rattle.wire.specs.Checks.{checked, proven}
-use Rattle.wire.specs.Decode.{proof_in, optional, Kind, of_kind, kinds, framed, message_in, decode}
+use Rattle.wire.specs.Decode.{proof_in, optional, Row, of_kind, kinds, framed, message_in, decode}
 use Rattle.wire.specs.Layout.{map_in, field}
 use Rattle.wire.specs.Message.{Message, READ-STAMP, PREPARE, WRITE, READ, STAMP, PREPARED, WRITTEN, CARD}
 use Rattle.wire.specs.Proof.{read_proof}
@@ -75,11 +75,11 @@ proof_in_lem d b bytes = go (bit (map_in bytes) b)
     go false = by_value
 
 -- Each row of the table of kinds.
-abbrev EachRefuses : List ℕ → List Kind → Type 0
+abbrev EachRefuses : List ℕ → List Row → Type 0
 EachRefuses bytes [] = Unit {0}
 EachRefuses bytes (row ∷ rows) = Refuses (row.message bytes) × EachRefuses bytes rows
 
-of_kind_lem : (party : Party) (map number : ℕ) (bytes : List ℕ) (rows : List Kind) → EachRefuses bytes rows → Refuses (of_kind party map number rows (λ row. row.message bytes))
+of_kind_lem : (party : Party) (map number : ℕ) (bytes : List ℕ) (rows : List Row) → EachRefuses bytes rows → Refuses (of_kind party map number rows (λ row. row.message bytes))
 unfolding of_kind
 of_kind_lem party map number bytes [] each = by_number 5 refl
 of_kind_lem party map number bytes (row ∷ rows) each = by_cases (eqb number row.number) (by_guard 5 refl (λ t. each.0)) (of_kind_lem party map number bytes rows each.1)

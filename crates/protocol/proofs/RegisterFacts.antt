@@ -10,6 +10,7 @@ use borrow.Author.Tests.{ltb-true, ltb-false, leb-true, eqb-true, eqb-false, ne_
 use lib.Dec.{eqb, leb, ltb}
 use lib.ListN.{get_or, set, length-set}
 use lib.Seq.{get_or-set_same, get_or-set_other}
+use Rattle.std.specs.declared.option.Option.TheVariants.{Some, None}
 use Rattle.base.specs.Outcome.{accepted, guard}
 use Rattle.base.specs.Party.{is_writer}
 use Rattle.base.specs.Same.{same}
@@ -365,7 +366,7 @@ module _ (slots : Slots) (fits : SlotsFit slots) (client : ClientId) (timestamp 
 next_number : (timestamp : ℕ) (t : Timestamp) (client : ClientId) → is_timestamp timestamp (successor t client) ≡ true → timestamp ≡ (t.count + 1) * 256 + client.0
 next_number timestamp t client e = go (eqb t.count 4_294_967_295) e
   where
-    go : (b : Bool) → is_timestamp timestamp (cond b none (some (record { count = t.count + 1; client = client }))) ≡ true → timestamp ≡ (t.count + 1) * 256 + client.0
+    go : (b : Bool) → is_timestamp timestamp (cond b None (Some (record { count = t.count + 1; client = client }))) ≡ true → timestamp ≡ (t.count + 1) * 256 + client.0
     go true k = apart (cc)
     go false k = eqb-true timestamp ((t.count + 1) * 256 + client.0) k
 

@@ -15,7 +15,6 @@ use Rattle.protocol.specs.declared.replica.Bank.{Bank}
 use Rattle.protocol.specs.declared.replica.Held.{Held}
 use Rattle.protocol.specs.declared.replica.Register.{Register}
 use Rattle.protocol.specs.declared.replica.RegisterReplica.{RegisterReplica}
-use Rattle.protocol.specs.declared.replica.ReplicaAnswer.{ReplicaAnswer}
 
 -- What stands past the end of a bank's registers, where nothing is read: numbers are 0 and arrays have no elements, as in the code's view.
 unfoldable pub no_register : Register
@@ -68,7 +67,7 @@ bank_step bank bytes verdicts = register_step (bank_part (place_in bytes) bank) 
 
 -- What a call of a replica leaves: answer, bank, and the output buffer.
 pub record BankCall : Type 0 where
-  pub answer : ReplicaAnswer
+  pub answer : Outcome ℕ
   pub bank : Bank
   pub output : List ℕ
 

@@ -1,11 +1,14 @@
 -- Document 01, "A desk": how a client begins, and what it makes of a message.
 use Rattle.std.specs.Prelude.{Bool, true, false, ◌&&◌, not, cond, List, [], ◌∷◌, ◌++◌, ℕ, zero, suc, ◌+◌, ◌-◌, ◌*◌, ◌^◌, eqb, ltb, length, get_or, take, drop, set, replicate}
 use Rattle.std.proofs.Math.Option.{Option, none, some}
+use Rattle.std.specs.declared.option.Option.{Option as CodeOption}
+use Rattle.std.specs.declared.option.Option.TheVariants.{Some, None}
 use Rattle.base.specs.ClientSet.{nobody}
 use Rattle.base.specs.Counting.{replica}
 use Rattle.base.specs.Bytes.{filled}
 use Rattle.base.specs.Outcome.{Outcome, accepted, refused, guard, ◌>>=◌}
 use Rattle.base.specs.Party.{replica_count, is_register, register_place, client_setup}
+use Rattle.base.specs.Refusal.{number_of}
 use Rattle.base.specs.ReplicaSet.{empty, has, with, is_quorum}
 use Rattle.base.specs.Same.{same}
 use Rattle.base.specs.Timestamp.{number, of_number, start, successor}
@@ -26,7 +29,7 @@ use Rattle.protocol.specs.Parts.{start_card, card_kept, entries_kept, if_issued,
 use Rattle.protocol.specs.RegisterReplica.{with_output}
 use Rattle.protocol.specs.declared.client.Client.{Client}
 use Rattle.protocol.specs.declared.client.ClientAnswer.{ClientAnswer}
-use Rattle.protocol.specs.declared.client.ClientAnswer.TheVariants.{Send, Counted, Done, Ended, Refused}
+use Rattle.protocol.specs.declared.client.ClientAnswer.TheVariants.{Send as ToSend, Counted as IsCounted, Done as IsDone, Ended as HasEnded, Refused}
 use Rattle.protocol.specs.declared.client.Phase.{Phase}
 use Rattle.protocol.specs.declared.client.Phase.TheVariants.{Idle, Stamps, Prepareds, Writtens, Cards, WriteBack}
 use Rattle.protocol.specs.declared.client.Written.{Written}
@@ -275,9 +278,9 @@ abbrev pub keep_better : Timestamp → Option PreparedProof → Client → Clien
 keep_better best proof client = cond (is_better best proof) (keep_proof proof client) client
 
 -- From q STAMPs: "PREPARE its successor with its proof and the desk's last written proof, if any"
-abbrev pub to_prepare : Client → Timestamp → Option Timestamp → Outcome Turn
-to_prepare client best none = turn ended (with_phase Idle client)
-to_prepare client best (some next) =
+abbrev pub to_prepare : Client → Timestamp → CodeOption Timestamp → Outcome Turn
+to_prepare client best None = turn ended (with_phase Idle client)
+to_prepare client best (Some next) =
     let digest = sha256 (current_card client) in
     turn (send (PREPARE client.id (number next) digest (best_shown client best) (last_written client)))
     (with_phase (Prepareds next empty) (with_digest digest client))
@@ -395,30 +398,45 @@ client_step client bytes verdicts = admitted AtClient client.f nobody bytes verd
 
 -- ---- The calls
 
+-- What a call answers that is not refused: the length of the message to send, counted, done with the card's timestamp and signers, or ended.
+pub data Response : Type 0 where
+  Send : ℕ → Response
+  Counted : Response
+  Done : Timestamp → ReplicaSet → Response
+  Ended : Response
+
+-- What an answer of the code stands for: that, or the refusal by its number.
+abbrev pub answer_outcome : ClientAnswer → Outcome Response
+answer_outcome (ToSend n) = accepted (Send n)
+answer_outcome IsCounted = accepted Counted
+answer_outcome (IsDone timestamp signers) = accepted (Done timestamp signers)
+answer_outcome HasEnded = accepted Ended
+answer_outcome (Refused refusal) = refused (number_of refusal)
+
 -- What a call gives back beside the record: answer, card, and the output buffer.
 pub record Given : Type 0 where
-  pub answer : ClientAnswer
+  pub answer : Outcome Response
   pub card_length : ℕ
   pub card : List ℕ
   pub output : List ℕ
 
 -- The card stands beside Done, zeros behind it; zeros beside the other answers.
-abbrev pub giving : ClientAnswer → List ℕ → List ℕ → Given
+abbrev pub giving : Outcome Response → List ℕ → List ℕ → Given
 giving answer card output = record { answer = answer; card_length = length card; card = filled card_room card; output = output }
 
 -- What an answer is in a call whose output held `old`: "In every answer the lent output holds the message in front and its old bytes behind
 -- (only old bytes where nothing is sent)"; "A refusal is its number alone; record and lent bytes keep their old contents." A message is for
 -- this register.
 abbrev pub given : RegisterId → List ℕ → Outcome Answer → Given
-given register old (accepted (send message)) = giving (Send (length (unsigned register message))) [] (in_front (unsigned register message) old)
-given register old (accepted waits) = giving Counted [] old
-given register old (accepted (done timestamp card signers)) = giving (Done timestamp signers) card old
-given register old (accepted ended) = giving Ended [] old
-given register old (refused number) = giving (Refused number) [] old
+given register old (accepted (send message)) = giving (accepted (Send (length (unsigned register message)))) [] (in_front (unsigned register message) old)
+given register old (accepted waits) = giving (accepted Counted) [] old
+given register old (accepted (done timestamp card signers)) = giving (accepted (Done timestamp signers)) card old
+given register old (accepted ended) = giving (accepted Ended) [] old
+given register old (refused number) = giving (refused number) [] old
 
 -- What a call of a client leaves: that, and the record.
 pub record ClientCall : Type 0 where
-  pub answer : ClientAnswer
+  pub answer : Outcome Response
   pub card_length : ℕ
   pub card : List ℕ
   pub client : Client
@@ -441,7 +459,7 @@ begin_read_call client register old = client_answers client old (with_output old
 unfoldable pub client_call : Client → List ℕ → List ℕ → List ℕ → ClientCall
 client_call client bytes verdicts old = client_answers client old (with_output old (client_step client bytes verdicts))
 
--- What an answer of the code stands for, with the card beside it and the output: "a message to send", "counted", "done,
+-- What a call's answer stands for, with the card beside it and the output: "a message to send", "counted", "done,
 -- with stamp and card" and the card's signers, "ended", or the refusal by its number.
 pub data Meaning : Type 0 where
   message : List ℕ → Meaning
@@ -449,12 +467,12 @@ pub data Meaning : Type 0 where
   finished : Timestamp → List ℕ → ReplicaSet → Meaning
   no_successor : Meaning
 
-abbrev pub client_outcome : ClientAnswer → ℕ → List ℕ → List ℕ → Outcome Meaning
-client_outcome (Send n) size card output = accepted (message (take n output))
-client_outcome Counted size card output = accepted nothing
-client_outcome (Done timestamp signers) size card output = accepted (finished timestamp (take size card) signers)
-client_outcome Ended size card output = accepted no_successor
-client_outcome (Refused number) size card output = refused number
+abbrev pub client_outcome : Outcome Response → ℕ → List ℕ → List ℕ → Outcome Meaning
+client_outcome (accepted (Send n)) size card output = accepted (message (take n output))
+client_outcome (accepted Counted) size card output = accepted nothing
+client_outcome (accepted (Done timestamp signers)) size card output = accepted (finished timestamp (take size card) signers)
+client_outcome (accepted Ended) size card output = accepted no_successor
+client_outcome (refused number) size card output = refused number
 
 -- The same of a step, in an operation of a register.
 abbrev pub meaning : RegisterId → Answer → Meaning

@@ -6,22 +6,16 @@ use Rattle.base.specs.Outcome.{Outcome, accepted, refused, ◌>>=◌}
 use Rattle.base.specs.Party.{is_writer}
 use Rattle.base.specs.declared.party.ClientId.{ClientId}
 use Rattle.base.specs.declared.party.RegisterId.{RegisterId}
-use Rattle.base.specs.declared.taking.Taking.{Taking}
-use Rattle.base.specs.declared.taking.Taking.TheVariants.{Taken, Refused as OrderRefused}
 use Rattle.wire.specs.Decode.{register_in}
 use Rattle.wire.specs.Writing.{unsigned}
 use Rattle.protocol.specs.Bank.{with_bank_part, place_in, bank_step, BankCall, bank_call}
-use Rattle.protocol.specs.Client.{Answer, send, waits, done, ended, Turn, turn, made_client, begin_write, begin_read, client_step, Given, giving, ClientCall, leaving, begin_write_call, begin_read_call, client_call}
+use Rattle.protocol.specs.Client.{Answer, send, waits, done, ended, Turn, turn, made_client, begin_write, begin_read, client_step, Response, Send, Counted, Given, giving, ClientCall, leaving, begin_write_call, begin_read_call, client_call}
 use Rattle.protocol.specs.Handing.{making, take_proof, TakingCall, hand_call, making_call}
 use Rattle.protocol.specs.Order.{take_order, OrderCall, order_call}
 use Rattle.protocol.specs.RegisterReplica.{Reply}
 use Rattle.protocol.specs.Viewer.{made_viewer, viewer_step, viewer_call}
 use Rattle.protocol.specs.declared.client.Client.{Client}
-use Rattle.protocol.specs.declared.client.ClientAnswer.{ClientAnswer}
-use Rattle.protocol.specs.declared.client.ClientAnswer.TheVariants.{Send, Counted, Refused}
 use Rattle.protocol.specs.declared.replica.Bank.{Bank}
-use Rattle.protocol.specs.declared.replica.ReplicaAnswer.{ReplicaAnswer}
-use Rattle.protocol.specs.declared.replica.ReplicaAnswer.TheVariants.{Send as ReplicaSend, Refused as ReplicaRefused}
 
 -- "a holder or a desk is handed a message, of any bytes and length, with marks of any number and value": the bytes, and the verdicts. At a
 -- replica it is a request. Document 02, #105: "handing a holder an order is an event too, refused or not".
@@ -103,18 +97,18 @@ abbrev pub bank_after : Bank → ReplicaEvent → Bank
 bank_after bank e = next_bank bank (on_replica_event e bank)
 
 -- What a call answered, as bytes: its reply stands in front of its output.
-abbrev pub answered_by : ReplicaAnswer → List ℕ → Outcome (List ℕ)
-answered_by (ReplicaSend size) output = accepted (take size output)
-answered_by (ReplicaRefused number) output = refused number
+abbrev pub answered_by : Outcome ℕ → List ℕ → Outcome (List ℕ)
+answered_by (accepted size) output = accepted (take size output)
+answered_by (refused number) output = refused number
 
 -- What a replica answers to a request is one of the answers of a client, and so is what it answers to an order.
-abbrev pub as_client_answer : ReplicaAnswer → ClientAnswer
-as_client_answer (ReplicaSend size) = Send size
-as_client_answer (ReplicaRefused number) = Refused number
+abbrev pub as_client_answer : Outcome ℕ → Outcome Response
+as_client_answer (accepted size) = accepted (Send size)
+as_client_answer (refused number) = refused number
 
-abbrev pub taking_answer : Taking → ClientAnswer
-taking_answer Taken = Counted
-taking_answer (OrderRefused number) = Refused number
+abbrev pub taking_answer : Outcome (Unit {0}) → Outcome Response
+taking_answer (accepted taken) = accepted Counted
+taking_answer (refused number) = refused number
 
 -- What an event's call leaves: what it gives, with no card beside it, and the bank. "No output is lent with an order": one that there was
 -- stays as it was.

@@ -1,6 +1,7 @@
 -- Document 01's proved examples, A to K, and one of document 02's #106.
 use Rattle.std.specs.Prelude.{◌≡◌, true, false, List, [], ◌∷◌, ℕ, ◌/◌, ◌≤◌, ◌<◌}
 use Rattle.std.proofs.Math.Option.{Option, none, some}
+use Rattle.std.specs.declared.option.Option.TheVariants.{Some, None}
 use Rattle.base.specs.ClientSet.{has}
 use Rattle.base.specs.Outcome.{Outcome, accepted, refused, ◌>>=◌}
 use Rattle.base.specs.Party.{replica_count, quorum_size, is_register}
@@ -67,11 +68,11 @@ pub record Examples : Type 0 where
   -- "f = 1 gives n 4, q 3; f = 5 gives 16, 11."
   pub A : (replica_count 1 ≡ 4) × (quorum_size 1 ≡ 3) × (replica_count 5 ≡ 16) × (quorum_size 5 ≡ 11)
   -- "7.9 for desk 2 gives 8.2."
-  pub B : successor (stamp 7 9) two ≡ some (stamp 8 2)
+  pub B : successor (stamp 7 9) two ≡ Some (stamp 8 2)
   -- "7.9 < 8.2 < 8.3."
   pub C : (number (stamp 7 9) < number (stamp 8 2)) × (number (stamp 8 2) < number (stamp 8 3))
   -- "4,294,967,295.1 has no successor."
-  pub D : (client : ClientId) → successor (stamp 4_294_967_295 1) client ≡ none
+  pub D : (client : ClientId) → successor (stamp 4_294_967_295 1) client ≡ None
   -- "card `00 00` good."
   pub E : is_card (0x00 ∷ 0x00 ∷ []) ≡ true
   -- "`00 03 1C 20 1C 1F` is 7,200 and 7,199."

@@ -7,8 +7,6 @@ use Rattle.base.specs.Party.{register_place, client_setup}
 use Rattle.base.specs.Timestamp.{of_number}
 use Rattle.base.specs.declared.party.ClientId.{ClientId}
 use Rattle.base.specs.declared.party.RegisterId.{RegisterId}
-use Rattle.base.specs.declared.taking.Taking.{Taking}
-use Rattle.base.specs.declared.taking.Taking.TheVariants.{Taken, Refused}
 use Rattle.wire.specs.HandedProof.{admitted_proof}
 use Rattle.wire.specs.Proof.{WrittenProof, read_proof}
 use Rattle.protocol.specs.Client.{fresh_client, made_client, written_in_place, last_written, keeping, with_written_for, beginning, is_idle}
@@ -39,13 +37,13 @@ take_proof client register bytes verdicts =
 
 -- What a call leaves that sends nothing.
 pub record TakingCall : Type 0 where
-  pub answer : Taking
+  pub answer : Outcome (Unit {0})
   pub client : Client
 
 -- "A good one is answered "taken"", and a refusal leaves the record as it was.
 abbrev pub taking_answers : Client → Outcome Client → TakingCall
-taking_answers client (accepted next) = record { answer = Taken; client = next }
-taking_answers client (refused number) = record { answer = Refused number; client = client }
+taking_answers client (accepted next) = record { answer = accepted tt; client = next }
+taking_answers client (refused number) = record { answer = refused number; client = client }
 
 unfoldable pub hand_call : Client → RegisterId → List ℕ → List ℕ → TakingCall
 hand_call client register bytes verdicts = taking_answers client (take_proof client register bytes verdicts)

@@ -1,37 +1,33 @@
 -- Document 01, "A desk": "A read sends at most two messages, a write at most three." Of a view (document 02, #101): just one. What
 -- counts as sent in an operation.
 use Rattle.std.specs.Prelude.{true, false, List, [], ◌∷◌, ◌≡◌, ℕ, ◌+◌, ◌≤◌}
+use Rattle.base.specs.Outcome.{Outcome, accepted, refused}
 use Rattle.base.specs.Party.{is_writer}
 use Rattle.base.specs.declared.party.ClientId.{ClientId}
 use Rattle.base.specs.declared.party.RegisterId.{RegisterId}
-use Rattle.protocol.specs.Client.{ClientCall, begin_write_call, begin_read_call}
+use Rattle.protocol.specs.Client.{Response, Send, Counted, Done, Ended, ClientCall, begin_write_call, begin_read_call}
 use Rattle.protocol.specs.Events.{ClientEvent, write_begun, read_begun, reply_handed, made, proof_handed, client_event_call}
 use Rattle.protocol.specs.declared.client.Client.{Client}
-use Rattle.protocol.specs.declared.client.ClientAnswer.{ClientAnswer}
-use Rattle.protocol.specs.declared.client.ClientAnswer.TheVariants.{Send, Counted, Done, Ended, Refused}
 
 -- A call of a client: its event, and what stood in the output.
 abbrev pub Call : Type 0
 Call = ClientEvent × List ℕ
 
 -- The messages that an answer sends.
-abbrev pub sent_by : ClientAnswer → ℕ
-sent_by (Send n) = 1
-sent_by Counted = 0
-sent_by (Done timestamp signers) = 0
-sent_by Ended = 0
-sent_by (Refused number) = 0
+abbrev pub sent_by : Outcome Response → ℕ
+sent_by (accepted (Send n)) = 1
+sent_by (accepted Counted) = 0
+sent_by (accepted (Done timestamp signers)) = 0
+sent_by (accepted Ended) = 0
+sent_by (refused number) = 0
 
 -- A beginning ends the operation before it, unless it is refused; and so does a making.
-abbrev pub unless_begun : ClientAnswer → ℕ → ℕ
-unless_begun (Send n) rest = 0
-unless_begun Counted rest = 0
-unless_begun (Done timestamp signers) rest = 0
-unless_begun Ended rest = 0
-unless_begun (Refused number) rest = rest
+abbrev pub unless_begun : Outcome Response → ℕ → ℕ
+unless_begun (accepted answer) rest = 0
+unless_begun (refused number) rest = rest
 
 -- What an operation sends from a call on, by the call's answer and what it sends in the later ones.
-abbrev pub sent_from : ClientEvent → ClientAnswer → ℕ → ℕ
+abbrev pub sent_from : ClientEvent → Outcome Response → ℕ → ℕ
 sent_from (write_begun register card) answer rest = unless_begun answer rest
 sent_from (read_begun register) answer rest = unless_begun answer rest
 sent_from (reply_handed bytes verdicts) answer rest = sent_by answer + rest
@@ -56,5 +52,5 @@ pub record OperationMessages : Type 0 where
   -- "A read sends at most two messages"
   pub read : (f : ℕ) (id : ClientId) → is_writer id ≡ true → (client : Client) (register : RegisterId) (old : List ℕ) (calls : List Call) → sent_in f id (begin_read_call client register old) calls ≤ 2
   -- "READ, then q CARDs, then done .. and no write-back"
-  pub view : (f : ℕ) (id : ClientId) → is_writer id ≡ false → (client : Client) (register : RegisterId) (old : List ℕ) (n : ℕ) (calls : List Call) → (begin_read_call client register old).answer ≡ Send n
+  pub view : (f : ℕ) (id : ClientId) → is_writer id ≡ false → (client : Client) (register : RegisterId) (old : List ℕ) (n : ℕ) (calls : List Call) → (begin_read_call client register old).answer ≡ accepted (Send n)
       → sent_in f id (begin_read_call client register old) calls ≡ 1

@@ -4,8 +4,6 @@ use Rattle.base.specs.ClientSet.{with}
 use Rattle.base.specs.Outcome.{Outcome, accepted, refused, guard, ◌>>=◌}
 use Rattle.base.specs.declared.client_set.ClientSet.{ClientSet}
 use Rattle.base.specs.declared.party.ClientId.{ClientId}
-use Rattle.base.specs.declared.taking.Taking.{Taking}
-use Rattle.base.specs.declared.taking.Taking.TheVariants.{Taken, Refused}
 use Rattle.lms.specs.Lms.{genuine}
 use Rattle.wire.specs.Order.{client_named, order_covered, order_signature, is_order}
 use Rattle.protocol.specs.declared.replica.Bank.{Bank}
@@ -32,13 +30,13 @@ take_order bank order = ordered bank.key order >>= λ client. accepted (withdraw
 -- ---- The call: "No output is lent with an order."
 
 pub record OrderCall : Type 0 where
-  pub answer : Taking
+  pub answer : Outcome (Unit {0})
   pub bank : Bank
 
 -- "A good one is answered "taken"", and a refused one changes nothing.
 abbrev pub order_answers : Bank → Outcome Bank → OrderCall
-order_answers bank (accepted next) = record { answer = Taken; bank = next }
-order_answers bank (refused number) = record { answer = Refused number; bank = bank }
+order_answers bank (accepted next) = record { answer = accepted tt; bank = next }
+order_answers bank (refused number) = record { answer = refused number; bank = bank }
 
 unfoldable pub order_call : Bank → List ℕ → OrderCall
 order_call bank order = order_answers bank (take_order bank order)

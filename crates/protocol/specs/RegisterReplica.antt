@@ -1,6 +1,8 @@
 -- Document 01, "A holder": what a replica makes of a message, with one register. `Bank` has the sixteen.
 use Rattle.std.specs.Prelude.{Bool, false, ◌&&◌, ◌||◌, cond, List, ◌++◌, ℕ, ◌+◌, ◌-◌, ◌*◌, ◌/◌, max, eqb, leb, ltb, length, get_or, take, drop, set, replicate}
-use Rattle.std.proofs.Math.Option.{Option, none, some}
+use Rattle.std.proofs.Math.Option.{Option, some}
+use Rattle.std.specs.declared.option.Option.{Option as CodeOption}
+use Rattle.std.specs.declared.option.Option.TheVariants.{Some, None}
 use Rattle.base.specs.Bytes.{filled}
 use Rattle.base.specs.ClientSet.{nobody}
 use Rattle.base.specs.Outcome.{Outcome, accepted, refused, guard, ◌>>=◌}
@@ -22,8 +24,6 @@ use Rattle.protocol.specs.Parts.{card_kept, entries_kept, if_issued, card_stands
 use Rattle.protocol.specs.declared.replica.Held.{Held}
 use Rattle.protocol.specs.declared.replica.Register.{Register}
 use Rattle.protocol.specs.declared.replica.RegisterReplica.{RegisterReplica}
-use Rattle.protocol.specs.declared.replica.ReplicaAnswer.{ReplicaAnswer}
-use Rattle.protocol.specs.declared.replica.ReplicaAnswer.TheVariants.{Send, Refused}
 use Rattle.protocol.specs.declared.replica.Slots.{Slots}
 use Rattle.wire.specs.Parts.{timestamp_if_there}
 
@@ -132,9 +132,9 @@ after_write card proof held = cond (ltb (held_timestamp held) proof.timestamp) (
 -- ---- What a replica does
 
 -- 13: "The PREPARE stamp is not the successor of the proof's stamp for the sender."
-abbrev pub is_timestamp : ℕ → Option Timestamp → Bool
-is_timestamp timestamp none = false
-is_timestamp timestamp (some next) = eqb timestamp (number next)
+abbrev pub is_timestamp : ℕ → CodeOption Timestamp → Bool
+is_timestamp timestamp None = false
+is_timestamp timestamp (Some next) = eqb timestamp (number next)
 
 -- A reply, and the record afterwards.
 pub record Reply : Type 0 where
@@ -189,16 +189,11 @@ register_step replica bytes verdicts = admitted AtReplica replica.f replica.with
 
 -- ---- The call
 
--- What a call of a replica leaves: answer, record, and the output buffer.
+-- What a call of a replica leaves: its answer, which is the length of the message to send, or the refusal; record, and the output buffer.
 pub record RegisterCall : Type 0 where
-  pub answer : ReplicaAnswer
+  pub answer : Outcome ℕ
   pub replica : RegisterReplica
   pub output : List ℕ
-
--- What an answer stands for: the length of the message to send, or the refusal by its number.
-abbrev pub answer_outcome : ReplicaAnswer → Outcome ℕ
-answer_outcome (Send n) = accepted n
-answer_outcome (Refused number) = refused number
 
 -- The length of the message that a reply sends, for the register that was asked for.
 abbrev pub sent_length : RegisterId → Outcome Reply → Outcome ℕ
@@ -208,8 +203,8 @@ sent_length register (refused number) = refused number
 -- "A refusal is its number alone; record and lent bytes keep their old contents."
 abbrev pub register_answers : RegisterId → RegisterReplica → List ℕ → Outcome Reply → RegisterCall
 register_answers register replica old (accepted reply) =
-    record { answer = Send (length (unsigned register reply.message)); replica = reply.next; output = in_front (unsigned register reply.message) old }
-register_answers register replica old (refused number) = record { answer = Refused number; replica = replica; output = old }
+    record { answer = accepted (length (unsigned register reply.message)); replica = reply.next; output = in_front (unsigned register reply.message) old }
+register_answers register replica old (refused number) = record { answer = refused number; replica = replica; output = old }
 
 -- 1: "The output is shorter than" the longest message, which has 1,580 bytes (document 02, #103).
 abbrev pub with_output : {A : Type 0} → List ℕ → Outcome A → Outcome A

@@ -1,5 +1,6 @@
 // A client's record (document 01: a desk's).
 use base::party::{ClientId, REGISTERS, RegisterId};
+use base::refusal::Refusal;
 use base::replica_set::ReplicaSet;
 use base::timestamp::Timestamp;
 use wire::layout::{CARD_ROOM, DIGEST, ENTRIES_ROOM, SIGNATURES_ROOM};
@@ -21,6 +22,7 @@ pub enum Phase {
 }
 
 // A written proof, as it is kept; 0.0 for none.
+// Here and in `Client` lengths stand beside arrays of the most that they can be: no heap, fixed memory.
 #[derive(Clone, Copy)]
 pub struct Written {
     pub timestamp: Timestamp,
@@ -54,12 +56,13 @@ pub struct Client {
     pub written: [Written; REGISTERS],
 }
 
-// The answer of a call of a client. Done has the card's timestamp and signers; the card stands beside it.
+// What a call of a client answers. No Result: document 01 names these cases as the answer's form. Done has the card's timestamp and
+// signers; the card stands beside it.
 #[derive(Clone, Copy)]
 pub enum ClientAnswer {
     Send(usize),
     Counted,
     Done(Timestamp, ReplicaSet),
     Ended,
-    Refused(u8),
+    Refused(Refusal),
 }

@@ -13,6 +13,7 @@ pub const SLOT_DIGESTS: usize = SLOTS * DIGEST;
 
 // The prepare list: a slot for each client (document 01: line), client c's at c - 1, with its count, 0 for an unused slot, and
 // its digest's 32 bytes; and the written timestamp (document 01: written stamp), which closes slots.
+// Two arrays side by side, and below card and entries beside their lengths: the layout of the C interface.
 #[repr(C)]
 #[derive(Clone, Copy)]
 pub struct Slots {
@@ -62,11 +63,4 @@ pub struct Bank {
     pub registers: [Register; REGISTERS],
     pub withdrawn: ClientSet,
     pub key: [u8; KEY],
-}
-
-// The answer of a call of a replica.
-#[derive(Clone, Copy)]
-pub enum ReplicaAnswer {
-    Send(usize),
-    Refused(u8),
 }

@@ -1,30 +1,27 @@
 -- What the replica's private functions leave, and what they know of a message.
-use Rattle.std.specs.Prelude.{◌≡◌, false, List, ℕ, replicate}
+use Rattle.std.specs.Prelude.{◌≡◌, List, ℕ}
+use Rattle.std.specs.declared.result.Result.{Result}
 use Rattle.base.specs.Outcome.{accepted}
-use Rattle.base.specs.Timestamp.{start}
+use Rattle.base.specs.Refusal.{outcome}
+use Rattle.base.specs.declared.refusal.Refusal.{Refusal}
 use Rattle.base.specs.declared.replica_set.ReplicaSet.{ReplicaSet}
 use Rattle.wire.specs.Acceptance.{acceptance}
 use Rattle.wire.specs.Decode.{register_in}
 use Rattle.wire.specs.declared.message.Fields.{Fields}
 use Rattle.wire.specs.declared.message.Party.TheVariants.{Replica as AtReplica}
-use Rattle.protocol.specs.RegisterReplica.{register_step, RegisterCall, register_answers, fresh_register}
+use Rattle.protocol.specs.RegisterReplica.{register_step, RegisterCall, register_answers}
 use Rattle.protocol.specs.declared.replica.RegisterReplica.{RegisterReplica}
-use Rattle.protocol.specs.declared.replica.ReplicaAnswer.{ReplicaAnswer}
 use Rattle.register_replica.specs.Stepping.{Changes}
-use Rattle.register_replica.specs.declared.Prepared.{Prepared}
+use Rattle.register_replica.specs.declared.Change.TheVariants.{Nothing}
 use Rattle.register_replica.specs.declared.Stepped.{Stepped}
 
--- What stands in the place of what was not prepared, and of what is not held.
-abbrev pub nothing_prepared : Prepared
-nothing_prepared = record { client = record { 0 = 1 }; count = 0; digest = replicate 32 0; written = start }
-
 -- An answer that leaves the record as it was.
-abbrev pub keeping : ReplicaAnswer → RegisterReplica → Stepped
-keeping answer replica = record { answer = answer; holds = false; prepares = false; replica = replica; prepared = nothing_prepared; held = fresh_register.held }
+abbrev pub keeping : Result ℕ Refusal → RegisterReplica → Stepped
+keeping answer replica = record { answer = answer; replica = replica; change = Nothing }
 
 -- What a call leaves: its answer and record, and the output.
 pub record Leaves (replica : RegisterReplica) (call : RegisterCall) (stepped : Stepped) (new : List ℕ) : Type 0 where
-  pub answer : stepped.answer ≡ call.answer
+  pub answer : outcome stepped.answer ≡ call.answer
   pub next : stepped.replica ≡ call.replica
   pub output : new ≡ call.output
   pub changes : Changes replica stepped

@@ -7,8 +7,10 @@ mod read;
 mod read_stamp;
 mod register;
 mod write;
+pub mod writer;
 
 ghost use Rattle.std.specs.Prelude.{◌≡◌, ◌≤◌, length};
+ghost use Rattle.base.specs.Refusal.{outcome};
 ghost use Rattle.wire.specs.Message.{longest};
 ghost use Rattle.protocol.specs.RegisterReplica.{fresh_register};
 ghost use Rattle.register_replica.specs.Leaving.{Passes, Answers};
@@ -17,49 +19,38 @@ ghost use Rattle.register_replica.specs.Stepping.{register_replica, Steps, Chang
 use answers::refuse;
 use base::client_set::ClientSet;
 use base::party::{ClientId, ReplicaId};
-use base::refusal::OUTPUT_TOO_SHORT;
+use base::refusal::Refusal;
 use base::replica_set::ReplicaSet;
 use base::timestamp::Timestamp;
-use protocol::replica::{
-    Held, Register, RegisterReplica, ReplicaAnswer, SLOT_DIGESTS, SLOTS, Slots,
-};
-use wire::acceptance::{Accepting, accept};
+use protocol::replica::{Held, Register, RegisterReplica, SLOT_DIGESTS, SLOTS, Slots};
+use wire::acceptance::accept;
 use wire::layout::{CARD_ROOM, DIGEST, ENTRIES_ROOM, LONGEST_MESSAGE};
-use wire::message::{Fields, Party};
+use wire::message::{Fields, Kind, Party};
+use writer::Writer;
 
 // What a PREPARE puts: its client's slot, and the written timestamp.
 #[derive(Clone, Copy)]
 pub struct Prepared {
-    pub client: ClientId,
+    pub client: Writer,
     pub count: u32,
     pub digest: [u8; DIGEST],
     pub written: Timestamp,
 }
 
-// What a step leaves. Of the record it changes what is held, to `held`, only if `holds`, and the slots, by `prepared`, only if
-// `prepares`. So the thin step needs no part of the record that is left.
-#[derive(Drop)]
-pub struct Stepped {
-    pub answer: ReplicaAnswer,
-    pub holds: bool,
-    pub prepares: bool,
-    pub replica: RegisterReplica,
-    pub prepared: Prepared,
-    pub held: Held,
+// What a step changes of the record: a PREPARE the slots, and a WRITE what is held.
+#[derive(Clone, Copy)]
+pub enum Change {
+    Nothing,
+    Prepares(Prepared),
+    Holds(Held),
 }
 
-fn fresh_held() -> Held
-    ensures { result ≡ fresh_register.held }
-{
-    Held {
-        timestamp: Timestamp::start(),
-        card_length: 2,
-        card: [0; CARD_ROOM],
-        digest: [0; DIGEST],
-        signers: ReplicaSet::empty(),
-        entry_count: 0,
-        entries: [0; ENTRIES_ROOM],
-    }
+// What a step leaves. The thin step stores the change alone, and needs no part of the record that is left.
+#[derive(Drop)]
+pub struct Stepped {
+    pub answer: Result<usize, Refusal>,
+    pub replica: RegisterReplica,
+    pub change: Change,
 }
 
 pub fn fresh_register() -> Register
@@ -71,11 +62,21 @@ pub fn fresh_register() -> Register
             digests: [0; SLOT_DIGESTS],
             written: Timestamp::start(),
         },
-        held: fresh_held(),
+        held: Held {
+            timestamp: Timestamp::start(),
+            card_length: 2,
+            card: [0; CARD_ROOM],
+            digest: [0; DIGEST],
+            signers: ReplicaSet::empty(),
+            entry_count: 0,
+            entries: [0; ENTRIES_ROOM],
+        },
     }
 }
 
-// What a replica makes of a message that tests 2 to 11 let through: a file for each kind.
+// What a replica makes of a message that tests 2 to 11 let through: a file for each kind. The lent output stays a slice, with
+// `longest ≤ length out.old` behind test 1: a struct around it would stand between it and the writers' `&mut [u8]`. What passed
+// (`Passes`) names the replica and the message, which each kind is handed anyway.
 fn on_message(
     replica: RegisterReplica,
     message: &[u8],
@@ -86,21 +87,19 @@ fn on_message(
     requires { Passes replica message.now fields signers × (longest ≤ length out.old) }
     ensures { Answers replica message.now fields out.old result out.new }
 {
-    let kind = fields.kind;
-    let register = fields.register;
-    match kind {
-        1 => read_stamp::read_stamp(
+    match fields.kind {
+        Kind::ReadStamp => read_stamp::read_stamp(
             replica,
-            register,
+            fields.register,
             ClientId(fields.sender),
             fields.nonce,
             out,
         ),
-        2 => prepare::on_prepare(replica, message, fields, out),
-        3 => write::on_write(replica, message, fields, signers, out),
+        Kind::Prepare => prepare::on_prepare(replica, message, fields, out),
+        Kind::Write => write::on_write(replica, message, fields, signers, out),
         _ => read::read(
             replica,
-            register,
+            fields.register,
             ClientId(fields.sender),
             fields.nonce,
             out,
@@ -110,10 +109,10 @@ fn on_message(
 
 // A message is handed to a replica, with a verdict for each signature and an output for the reply.
 pub fn step(replica: RegisterReplica, message: &[u8], verdicts: &[u8], out: &mut [u8]) -> Stepped
-    ensures { Steps replica message.now verdicts.now out.old result.answer result.replica out.new × Changes replica result }
+    ensures { Steps replica message.now verdicts.now out.old (outcome result.answer) result.replica out.new × Changes replica result }
 {
     if out.len() < LONGEST_MESSAGE {
-        return refuse(replica, OUTPUT_TOO_SHORT);
+        return refuse(replica, Refusal::OutputTooShort);
     }
     match accept(
         Party::Replica,
@@ -122,10 +121,8 @@ pub fn step(replica: RegisterReplica, message: &[u8], verdicts: &[u8], out: &mut
         message,
         verdicts,
     ) {
-        Accepting::Message(fields, signers) => {
-            on_message(replica, message, fields, signers, out)
-        }
-        Accepting::Refused(number) => refuse(replica, number),
+        Ok((fields, signers)) => on_message(replica, message, fields, signers, out),
+        Err(refusal) => refuse(replica, refusal),
     }
 }
 
@@ -138,22 +135,24 @@ pub fn register_in_place(
     message: &[u8],
     verdicts: &[u8],
     out: &mut [u8],
-) -> ReplicaAnswer
-    ensures { Steps (register_replica f id withdrawn register.old) message.now verdicts.now out.old result (register_replica f id withdrawn register.new) out.new }
+) -> Result<usize, Refusal>
+    ensures { Steps (register_replica f id withdrawn register.old) message.now verdicts.now out.old (outcome result) (register_replica f id withdrawn register.new) out.new }
 {
     let before = RegisterReplica {
-        f: f,
-        id: id,
+        f,
+        id,
         register: *register,
-        withdrawn: withdrawn,
+        withdrawn,
     };
     let stepped = step(before, message, verdicts, out);
-    if stepped.holds {
-        register.held = stepped.held;
-    } else if stepped.prepares {
-        register::put_count(&mut register.slots.counts, stepped.prepared);
-        register::put_digest(&mut register.slots.digests, stepped.prepared);
-        register.slots.written = stepped.prepared.written;
+    match stepped.change {
+        Change::Nothing => {}
+        Change::Prepares(prepared) => {
+            register::put_count(&mut register.slots.counts, prepared);
+            register::put_digest(&mut register.slots.digests, prepared);
+            register.slots.written = prepared.written;
+        }
+        Change::Holds(held) => register.held = held,
     }
     stepped.answer
 }

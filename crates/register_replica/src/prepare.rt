@@ -2,18 +2,20 @@
 ghost use Rattle.std.specs.Prelude.{◌≡◌, ◌≤◌, length};
 ghost use Rattle.base.specs.Timestamp.{number, of_number, successor};
 ghost use Rattle.wire.specs.Message.{longest};
+ghost use Rattle.wire.specs.declared.message.Kind.TheVariants.{Prepare};
 ghost use Rattle.protocol.specs.RegisterReplica.{is_timestamp, with_slots, on_prepare, register_answers};
 ghost use Rattle.register_replica.specs.Leaving.{Leaves, Passes, Answers};
 
-use crate::answers::{answer_of, keep, refuse};
-use crate::register::{is_kept, later, put_slot, slot_admits, slot_is};
-use crate::{Prepared, Stepped, fresh_held};
+use crate::answers::{keep, refuse};
+use crate::register::{is_kept, later, put_slot, slot, slot_admits, slot_is};
+use crate::writer::Writer;
+use crate::{Change, Prepared, Stepped};
+use base::bytes::array;
 use base::party::{ClientId, RegisterId};
-use base::refusal::{NOT_SUCCESSOR, NOT_TAKEN};
+use base::refusal::Refusal;
 use base::replica_set::ReplicaSet;
-use base::timestamp::{Successor, Timestamp};
+use base::timestamp::Timestamp;
 use protocol::replica::{Register, RegisterReplica, Slots};
-use wire::arrays::digest_array;
 use wire::layout::DIGEST;
 use wire::message::Fields;
 use wire::parts;
@@ -21,15 +23,13 @@ use wire::parts;
 fn with_slots(replica: RegisterReplica, slots: Slots) -> RegisterReplica
     ensures { result ≡ with_slots replica slots }
 {
-    let id = replica.id;
-    let withdrawn = replica.withdrawn;
-    let held = replica.register.held;
-    let register = Register { slots, held };
+    let register = Register {
+        slots,
+        ..replica.register
+    };
     RegisterReplica {
-        f: replica.f,
-        id: id,
-        register: register,
-        withdrawn: withdrawn,
+        register,
+        ..replica
     }
 }
 
@@ -37,58 +37,55 @@ fn with_slots(replica: RegisterReplica, slots: Slots) -> RegisterReplica
 fn is_successor(timestamp: Timestamp, shown: Timestamp, client: ClientId) -> bool
     ensures { result ≡ is_timestamp (number timestamp) (successor (of_number (number shown)) client) }
 {
-    match shown.successor(client) {
-        Successor::Next(next) => timestamp.is(next),
-        Successor::Missing => false,
-    }
+    shown.successor(client) == Some(timestamp)
 }
 
 // PREPARE, with 0.0 for the timestamp of a missing proof.
 fn prepare(
     replica: RegisterReplica,
     register: RegisterId,
-    client: ClientId,
+    client: Writer,
     timestamp: Timestamp,
     digest: &[u8; DIGEST],
     shown: Timestamp,
     last: Timestamp,
     out: &mut [u8],
 ) -> Stepped
-    requires { ((1 ≤ client.0) × (client.0 ≤ 64)) × (longest ≤ length out.old) }
-    ensures { Leaves replica (register_answers register replica out.old (on_prepare replica client (number timestamp) digest.now (number shown) (number last))) result out.new }
+    requires { longest ≤ length out.old }
+    ensures { Leaves replica (register_answers register replica out.old (on_prepare replica client.id (number timestamp) digest.now (number shown) (number last))) result out.new }
 {
-    if !is_successor(timestamp, shown, client) {
-        return refuse(replica, NOT_SUCCESSOR);
+    if !is_successor(timestamp, shown, client.id) {
+        return refuse(replica, Refusal::NotSuccessor);
     }
     let before = replica.register.slots.written;
     let written = later(before, last);
-    let counts = replica.register.slots.counts;
-    let count = counts[client.0 as usize - 1];
-    let digests = replica.register.slots.digests;
-    let again = slot_is(count, digests, client, timestamp, digest);
-    if !slot_admits(again, count, client, timestamp, written) {
+    let held = slot(replica.register.slots.counts, client);
+    let again = slot_is(
+        held,
+        replica.register.slots.digests,
+        client,
+        timestamp,
+        digest,
+    );
+    if !slot_admits(held, again, timestamp, written) {
         // A refused PREPARE leaves the written timestamp too as it was.
-        return refuse(replica, NOT_TAKEN);
+        return refuse(replica, Refusal::NotTaken);
     }
-    let encoded = wire::writer::write_prepared(out, register, replica.id, timestamp, digest);
-    let answer = answer_of(encoded);
+    let answer = wire::writer::write_prepared(out, register, replica.id, timestamp, digest);
     if is_kept(again, before, written) {
         return keep(replica, answer);
     }
     let prepared = Prepared {
-        client: client,
+        client,
         count: timestamp.count,
         digest: *digest,
-        written: written,
+        written,
     };
-    let slots = put_slot(replica.register.slots, prepared);
+    let next = put_slot(replica.register.slots, prepared);
     Stepped {
-        answer: answer,
-        holds: false,
-        prepares: true,
-        replica: with_slots(replica, slots),
-        prepared: prepared,
-        held: fresh_held(),
+        answer,
+        replica: with_slots(replica, next),
+        change: Change::Prepares(prepared),
     }
 }
 
@@ -99,20 +96,24 @@ pub(super) fn on_prepare(
     fields: Fields,
     out: &mut [u8],
 ) -> Stepped
-    requires { ((signers : ReplicaSet) × Passes replica message.now fields signers) × (fields.kind ≡ 2) × (longest ≤ length out.old) }
+    requires { ((signers : ReplicaSet) × Passes replica message.now fields signers) × (fields.kind ≡ Prepare) × (longest ≤ length out.old) }
     ensures { Answers replica message.now fields out.old result out.new }
 {
-    let register = fields.register;
-    let client = ClientId(fields.sender);
-    let timestamp = fields.timestamp;
-    let digest_at = fields.digest;
-    let prepared_at = fields.prepared;
-    let written_at = fields.written;
-    let digest = digest_array(parts::part(message, digest_at));
+    let client = Writer {
+        id: ClientId(fields.sender),
+    };
+    let digest = array(parts::part(message, fields.digest));
     // 0.0 where the proof is missing.
-    let shown = parts::timestamp(parts::part(message, prepared_at));
-    let last = parts::timestamp(parts::part(message, written_at));
+    let shown = parts::timestamp(parts::part(message, fields.prepared));
+    let last = parts::timestamp(parts::part(message, fields.written));
     prepare(
-        replica, register, client, timestamp, &digest, shown, last, out,
+        replica,
+        fields.register,
+        client,
+        fields.timestamp,
+        &digest,
+        shown,
+        last,
+        out,
     )
 }

@@ -5,9 +5,11 @@ ghost use Rattle.protocol.specs.RegisterReplica.{on_read, register_answers};
 ghost use Rattle.register_replica.specs.Leaving.{Leaves};
 
 use crate::Stepped;
-use crate::answers::{answer_of, keep};
+use crate::answers::keep;
+use crate::register::kept_proof;
 use base::party::{ClientId, RegisterId};
 use protocol::replica::RegisterReplica;
+use wire::writer::{KeptCard, write_card};
 
 pub(super) fn read(
     replica: RegisterReplica,
@@ -19,22 +21,19 @@ pub(super) fn read(
     requires { longest ≤ length out.old }
     ensures { Leaves replica (register_answers register replica out.old (on_read replica client nonce)) result out.new }
 {
-    let held = replica.register.held;
-    let card = held.card;
-    let digest = held.digest;
-    let entries = held.entries;
-    let encoded = wire::writer::write_card(
+    let held = &replica.register.held;
+    let card = KeptCard {
+        length: held.card_length,
+        card: &held.card,
+    };
+    let answer = write_card(
         out,
         register,
         replica.id,
         nonce,
-        &card,
-        held.card_length,
-        held.timestamp,
-        &digest,
-        held.entry_count,
-        &entries,
+        card,
+        kept_proof(held),
         client,
     );
-    keep(replica, answer_of(encoded))
+    keep(replica, answer)
 }

@@ -5,9 +5,11 @@ ghost use Rattle.protocol.specs.RegisterReplica.{on_read_stamp, register_answers
 ghost use Rattle.register_replica.specs.Leaving.{Leaves};
 
 use crate::Stepped;
-use crate::answers::{answer_of, keep};
+use crate::answers::keep;
+use crate::register::kept_proof;
 use base::party::{ClientId, RegisterId};
 use protocol::replica::RegisterReplica;
+use wire::writer::write_stamp;
 
 pub(super) fn read_stamp(
     replica: RegisterReplica,
@@ -19,19 +21,7 @@ pub(super) fn read_stamp(
     requires { longest ≤ length out.old }
     ensures { Leaves replica (register_answers register replica out.old (on_read_stamp replica client nonce)) result out.new }
 {
-    let proof = replica.register.held;
-    let digest = proof.digest;
-    let entries = proof.entries;
-    let encoded = wire::writer::write_stamp(
-        out,
-        register,
-        replica.id,
-        nonce,
-        proof.timestamp,
-        &digest,
-        proof.entry_count,
-        &entries,
-        client,
-    );
-    keep(replica, answer_of(encoded))
+    let proof = kept_proof(&replica.register.held);
+    let answer = write_stamp(out, register, replica.id, nonce, proof, client);
+    keep(replica, answer)
 }

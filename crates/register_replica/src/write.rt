@@ -3,14 +3,15 @@ ghost use Rattle.std.specs.Prelude.{◌≡◌, ◌≤◌, length};
 ghost use Rattle.wire.specs.Message.{longest};
 ghost use Rattle.wire.specs.Parts.{Whole};
 ghost use Rattle.wire.specs.Proof.{prepared_from, signer_set};
+ghost use Rattle.wire.specs.declared.message.Kind.TheVariants.{Write};
 ghost use Rattle.protocol.specs.RegisterReplica.{with_held, on_write, register_answers};
 ghost use Rattle.register_replica.specs.Leaving.{Leaves, Passes, Answers};
 
-use crate::Stepped;
-use crate::answers::{answer_of, keep, nothing_prepared, refuse};
+use crate::answers::{keep, refuse};
 use crate::register::holding;
+use crate::{Change, Stepped};
 use base::party::RegisterId;
-use base::refusal::BAD_CARD;
+use base::refusal::Refusal;
 use base::replica_set::ReplicaSet;
 use protocol::replica::{Held, Register, RegisterReplica};
 use wire::card::stands_under;
@@ -20,15 +21,13 @@ use wire::parts;
 fn with_held(replica: RegisterReplica, held: Held) -> RegisterReplica
     ensures { result ≡ with_held replica held }
 {
-    let id = replica.id;
-    let withdrawn = replica.withdrawn;
-    let slots = replica.register.slots;
-    let register = Register { slots, held };
+    let register = Register {
+        held,
+        ..replica.register
+    };
     RegisterReplica {
-        f: replica.f,
-        id: id,
-        register: register,
-        withdrawn: withdrawn,
+        register,
+        ..replica
     }
 }
 
@@ -45,23 +44,18 @@ fn write(
     ensures { Leaves replica (register_answers register replica out.old (on_write replica card.now (prepared_from proof.now))) result out.new }
 {
     if !stands_under(card, parts::digest(proof)) {
-        return refuse(replica, BAD_CARD);
+        return refuse(replica, Refusal::BadCard);
     }
     let timestamp = parts::timestamp(proof);
-    let encoded = wire::writer::write_written(out, register, replica.id, timestamp);
-    let answer = answer_of(encoded);
-    let current = replica.register.held.timestamp;
-    if !current.is_before(timestamp) {
+    let answer = wire::writer::write_written(out, register, replica.id, timestamp);
+    if !replica.register.held.timestamp.is_before(timestamp) {
         return keep(replica, answer);
     }
-    let next = holding(card, proof, signers);
+    let held = holding(card, proof, signers);
     Stepped {
-        answer: answer,
-        holds: true,
-        prepares: false,
-        replica: with_held(replica, next),
-        prepared: nothing_prepared(),
-        held: next,
+        answer,
+        replica: with_held(replica, held),
+        change: Change::Holds(held),
     }
 }
 
@@ -73,17 +67,14 @@ pub(super) fn on_write(
     signers: ReplicaSet,
     out: &mut [u8],
 ) -> Stepped
-    requires { Passes replica message.now fields signers × (fields.kind ≡ 3) × (longest ≤ length out.old) }
+    requires { Passes replica message.now fields signers × (fields.kind ≡ Write) × (longest ≤ length out.old) }
     ensures { Answers replica message.now fields out.old result out.new }
 {
-    let register = fields.register;
-    let card_at = fields.card;
-    let proof_at = fields.prepared;
     write(
         replica,
-        register,
-        parts::card(message, card_at),
-        parts::part(message, proof_at),
+        fields.register,
+        parts::card(message, fields.card),
+        parts::part(message, fields.prepared),
         signers,
         out,
     )

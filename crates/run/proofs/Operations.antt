@@ -8,6 +8,7 @@ use Prim.Native.Nat.{ℕ, suc, ◌%◌, ◌≤◌, ◌<◌}
 use native.Mathlib.Omega.{arith}
 use borrow.Author.Tests.{eqb-true, leb-true, lt-leb}
 use lib.Dec.{eqb, ltb}
+use Rattle.std.specs.declared.option.Option.TheVariants.{Some}
 use Rattle.base.specs.Counting.{count, replica as numbered}
 use Rattle.base.specs.Outcome.{accepted}
 use Rattle.base.specs.Party.{replica_count, quorum_size, is_writer}
@@ -349,7 +350,7 @@ module _ (R : Run) (x : RegisterId) where
         seen_more sender counted best proof (λ c. (stamp_within h sender nonce proof it.new c e).0) it.seen
 
     -- The successor of the best timestamp, for this client.
-    choose : (best next : Timestamp) → best.client.0 < 256 → successor best now.id ≡ some next → ((s : ℕ) → Settled t₀ s → s ≤ number best) → Chosen id t₀ (number next)
+    choose : (best next : Timestamp) → best.client.0 < 256 → successor best now.id ≡ Some next → ((s : ℕ) → Settled t₀ s → s ≤ number best) → Chosen id t₀ (number next)
     choose best next fits e least =
         let is = successor_number best next now.id fits e in
         let same_id : now.id.0 ≡ id.0 = ap (λ (i : ClientId). i.0) good.id_is in

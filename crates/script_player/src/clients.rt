@@ -1,134 +1,63 @@
-// Calls of a client.
-use crate::answers::{
-    Answer, COUNTED, ENDED, Outcome, READY, UNREAD, finish, plain, taking, untouched,
-};
-use crate::log::{Message, Store, Verdicts, handed};
-use crate::tasks::{Call, Held, Task, behind_lent, lent};
-use base::party::{ClientId, RegisterId, Setup};
-use base::slices::front;
-use client::Stepped;
+// Clients, and viewing clients.
+use crate::answers::{Card, Outcome, Word};
+use crate::parties::{Call, Party};
+use base::party::ClientId;
+use base::refusal::Refusal;
+use client::handing::hand;
+use client::viewer;
+use client::viewer::Viewer;
 use protocol::client::{Client, ClientAnswer};
-use std::io;
+use text::decimal::read_decimal;
+use wire::layout::CARD_ROOM;
 
-// What a call leaves.
-#[derive(Drop)]
-struct ClientCalled {
-    client: Client,
-    answer: Answer,
-}
-
-pub fn nobody() -> Client {
-    client::fresh(0, ClientId(0), 0).client
-}
-
-// A record, and an outcome with no card.
-fn kept(client: Client, outcome: Outcome) -> ClientCalled {
-    ClientCalled {
-        client: client,
-        answer: plain(outcome),
-    }
-}
-
-// A refused set-up leaves what was set up before.
-fn set_up(before: Client, f: u8, id: u8, nonce: u64) -> ClientCalled {
-    let new = client::fresh(f, ClientId(id), nonce);
-    let setup = new.setup;
-    let client = new.client;
-    match setup {
-        Setup::Good => kept(client, Outcome::Said(READY)),
-        Setup::Refused(number) => kept(before, Outcome::Refused(number)),
-    }
-}
-
-pub fn outcome(answer: ClientAnswer) -> Outcome {
+// The outcome of a call, with the card that stands beside the answer.
+fn outcome(answer: ClientAnswer, length: u8, bytes: [u8; CARD_ROOM]) -> Outcome {
     match answer {
         ClientAnswer::Send(length) => Outcome::Sent(length),
-        ClientAnswer::Counted => Outcome::Said(COUNTED),
-        ClientAnswer::Done(timestamp, signers) => Outcome::Done(timestamp, signers),
-        ClientAnswer::Ended => Outcome::Said(ENDED),
-        ClientAnswer::Refused(number) => Outcome::Refused(number),
-    }
-}
-
-fn called(stepped: Stepped) -> ClientCalled {
-    let answer = stepped.answer;
-    let card = stepped.card;
-    let client = stepped.client;
-    ClientCalled {
-        client: client,
-        answer: Answer {
-            outcome: outcome(answer),
-            card_length: stepped.card_length,
-            card: card,
-        },
-    }
-}
-
-fn begin_write(client: Client, register: u8, card: &[u8], out: &mut [u8]) -> ClientCalled {
-    called(client::begin_write(client, RegisterId(register), card, out))
-}
-
-fn begin_read(client: Client, register: u8, out: &mut [u8]) -> ClientCalled {
-    called(client::begin_read(client, RegisterId(register), out))
-}
-
-fn step(client: Client, message: &[u8], verdicts: &[u8], out: &mut [u8]) -> ClientCalled {
-    called(client::step(client, message, verdicts, out))
-}
-
-fn hand(client: Client, register: u8, proof: &[u8], verdicts: &[u8]) -> ClientCalled {
-    let handed = client::handing::hand(client, RegisterId(register), proof, verdicts);
-    let answer = handed.answer;
-    let left = handed.client;
-    kept(left, taking(answer))
-}
-
-fn call(
-    client: Client,
-    call: Call,
-    message: &Message,
-    verdicts: &Verdicts,
-    out: &mut [u8],
-) -> ClientCalled {
-    match call {
-        Call::SetUp(f, id, nonce) => set_up(client, f, id, nonce),
-        Call::Write(register, n) => begin_write(client, register, front(message, n), out),
-        Call::Read(register) => begin_read(client, register, out),
-        Call::HandOver(n, m) => step(client, front(message, n), front(verdicts, m), out),
-        Call::Hand(register, n, m) => {
-            hand(client, register, front(message, n), front(verdicts, m))
+        ClientAnswer::Counted => Outcome::Said(Word::Counted),
+        ClientAnswer::Done(timestamp, signers) => {
+            Outcome::Done(timestamp, Card { length, bytes }, signers)
         }
-        Call::Copy(said) => kept(client, Outcome::Said(said)),
-        // A client takes no orders, and has no key.
-        _ => kept(client, Outcome::Said(UNREAD)),
+        ClientAnswer::Ended => Outcome::Said(Word::Ended),
+        ClientAnswer::Refused(refusal) => Outcome::Refused(refusal),
     }
 }
 
-// What a line about a client does: answers the record that it leaves.
-pub fn turn(
-    rt: &impl Print,
-    before: Client,
-    task: Task,
-    line: &[u8],
-    held: &mut Held,
-    store: &mut Store,
-    sent: &mut usize,
-) -> io::Result<Client> {
-    let mut message = [0u8; 4_096];
-    let mut verdicts = [1u8; 400];
-    let mut out = untouched();
-    let room = lent(line);
-    let asked = handed(
-        task,
-        behind_lent(line),
-        store,
-        *sent,
-        &mut message,
-        &mut verdicts,
-    );
-    let called = call(before, asked, &message, &verdicts, &mut out[0..room]);
-    let client = called.client;
-    let answer = called.answer;
-    finish(rt, answer, task, line, &out, held, store, sent)?;
-    Ok(client)
+impl Party for Client {
+    fn set_up(f: u8, id: u8, word: &[u8]) -> Option<Result<Client, Refusal>> {
+        Some(client::fresh(f, ClientId(id), read_decimal(word)?))
+    }
+
+    fn call(self, call: Call<'_>, out: &mut [u8]) -> Option<(Client, Outcome)> {
+        let stepped = match call {
+            Call::Write(register, card) => client::begin_write(self, register, card, out),
+            Call::Read(register) => client::begin_read(self, register, out),
+            Call::HandOver(message, verdicts) => client::step(self, message, verdicts, out),
+            Call::Hand(register, proof, verdicts) => {
+                let handed = hand(self, register, proof, verdicts);
+                return Some((handed.client, handed.answer.into()));
+            }
+            // A client takes no orders.
+            Call::Order(_) => return None,
+        };
+        let outcome = outcome(stepped.answer, stepped.card_length, stepped.card);
+        Some((stepped.client, outcome))
+    }
+}
+
+impl Party for Viewer {
+    fn set_up(f: u8, id: u8, word: &[u8]) -> Option<Result<Viewer, Refusal>> {
+        Some(viewer::fresh(f, ClientId(id), read_decimal(word)?))
+    }
+
+    fn call(self, call: Call<'_>, out: &mut [u8]) -> Option<(Viewer, Outcome)> {
+        let stepped = match call {
+            Call::Read(register) => viewer::begin_view(self, register, out),
+            Call::HandOver(message, verdicts) => viewer::step(self, message, verdicts, out),
+            // A viewing client writes nothing, and takes neither orders nor written proofs.
+            _ => return None,
+        };
+        let outcome = outcome(stepped.answer, stepped.card_length, stepped.card);
+        Some((stepped.viewer, outcome))
+    }
 }

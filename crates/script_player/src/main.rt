@@ -19,83 +19,55 @@
 mod answers;
 mod clients;
 mod log;
+mod parties;
 mod replicas;
 mod tasks;
-mod viewers;
 mod words;
 
+use answers::Word;
 use base::slices::front;
+use client::viewer::Viewer;
+use log::Log;
+use parties::turn;
+use protocol::client::Client;
+use protocol::replica::Bank;
 use std::io;
 use std::io::Read;
-use tasks::{CLIENT_PLACES, REPLICA_PLACES, VIEWER_PLACES, Whom, place};
+use tasks::{CLIENT_PLACES, REPLICA_PLACES, VIEWER_PLACES, Whom, of_line};
 
 const SCRIPT: usize = 1_048_576;
 
 // The records are made here: another function's result would stand on the stack a second time, and they fill half of it.
 fn play_lines(rt: &impl Print, script: &[u8]) -> io::Result<()> {
-    let mut replicas = [replicas::nobody(); REPLICA_PLACES];
-    let mut clients = [clients::nobody(); CLIENT_PLACES];
-    let mut viewers = [viewers::nobody(); VIEWER_PLACES];
-    let mut held = tasks::nothing_held();
-    let mut store = log::empty();
-    let mut sent = 0;
-    let mut from = 0;
-    while from < script.len() {
-        let end = text::line::line_end(script, from);
-        let line = &script[from..end];
-        from = end + 1;
-        let task = tasks::of_line(line, &held);
-        let whom = task.whom;
-        match whom {
-            Whom::Replica => {
-                let taken = place(task.taken, 33);
-                let left = place(task.left, 33);
-                let replica = replicas::turn(
-                    rt,
-                    replicas[taken],
-                    task,
-                    line,
-                    &mut held,
-                    &mut store,
-                    &mut sent,
-                )?;
-                replicas[left] = replica;
+    let mut replicas: [Option<Bank>; REPLICA_PLACES] = [None; REPLICA_PLACES];
+    let mut clients: [Option<Client>; CLIENT_PLACES] = [None; CLIENT_PLACES];
+    let mut viewers: [Option<Viewer>; VIEWER_PLACES] = [None; VIEWER_PLACES];
+    let mut log = Log::empty();
+    for line in script.split_inclusive(|byte| *byte == b'\n') {
+        let line = line.strip_suffix(b"\n").unwrap_or(line);
+        match line {
+            b"new" => {
+                replicas.fill(None);
+                clients.fill(None);
+                viewers.fill(None);
+                log.clear();
+                print!(rt; "{}\n", Word::New)?;
             }
-            Whom::Client => {
-                let taken = place(task.taken, 129);
-                let left = place(task.left, 129);
-                let client = clients::turn(
-                    rt,
-                    clients[taken],
-                    task,
-                    line,
-                    &mut held,
-                    &mut store,
-                    &mut sent,
-                )?;
-                clients[left] = client;
+            [b'#', b' ', ..] => {
+                console::print(rt, line)?;
+                print!(rt; "\n")?;
             }
-            Whom::Viewer => {
-                let taken = place(task.taken, 65);
-                let left = place(task.left, 65);
-                let viewer = viewers::turn(
-                    rt,
-                    viewers[taken],
-                    task,
-                    line,
-                    &mut held,
-                    &mut store,
-                    &mut sent,
-                )?;
-                viewers[left] = viewer;
-            }
+            _ => match of_line(line) {
+                Some(task) => match task.whom {
+                    Whom::Replica => turn(rt, &mut replicas, task, line, &mut log)?,
+                    Whom::Client => turn(rt, &mut clients, task, line, &mut log)?,
+                    Whom::Viewer => turn(rt, &mut viewers, task, line, &mut log)?,
+                },
+                None => print!(rt; "{}\n", Word::Unread)?,
+            },
         }
     }
     Ok(())
-}
-
-fn empty() -> [u8; SCRIPT] {
-    [0; SCRIPT]
 }
 
 fn read(input: &mut impl Read, script: &mut [u8; SCRIPT]) -> io::Result<usize> {
@@ -108,7 +80,7 @@ fn play(rt: &impl Print, script: &[u8; SCRIPT], n: usize) -> io::Result<()> {
 
 fn main(rt: HostRuntime) -> io::Result<()> {
     let mut stdin = rt.stdin();
-    let mut script = empty();
+    let mut script = console::zeros::<SCRIPT>();
     let n = read(&mut stdin, &mut script)?;
     play(&rt, &script, n)?;
     console::say_rest(&rt, &mut stdin, n, SCRIPT)

@@ -1,6 +1,6 @@
 // The words of a line, parted by one space each, and the bytes that they write.
 use base::slices::{behind, front};
-use text::hex::{Length, read_word};
+use text::hex::read_word;
 use text::line::word_end;
 
 // Where the word with a number starts, from 0.
@@ -22,13 +22,12 @@ pub fn word(line: &[u8], number: usize) -> &[u8] {
     front(from, word_end(from, 0))
 }
 
-// Stores the bytes that a word writes in hex, `-` for none, and answers their number: a word that is no hex, or too long for the room, writes nothing.
-pub fn hex(word: &[u8], to: &mut [u8]) -> Length {
-    if check::same(word, b"-") {
-        return Length::Count(0);
-    }
-    if word.len() == 0 {
-        return Length::NoHex;
-    }
-    read_word(word, to)
+// The bytes that a word writes in hex, `-` for none, stored where there is room; a word that is no hex, or too long for the room, writes nothing.
+pub fn hex<'a>(word: &[u8], to: &'a mut [u8]) -> Option<&'a [u8]> {
+    let n = match word {
+        b"-" => 0,
+        [] => return None,
+        _ => read_word(word, to)?,
+    };
+    Some(front(to, n))
 }

@@ -2,16 +2,18 @@
 use mathlib.Core.Path.{◌≡◌, refl, ap}
 use mathlib.Core.Bool.{Bool, true, false, cond, ◌&&◌}
 use mathlib.Core.List.{List, [], ◌∷◌, ◌++◌}
-use mathlib.Core.Option.{none, some}
+use Rattle.std.specs.declared.option.Option.TheVariants.{Some, None}
 use Prim.Native.Nat.{ℕ, zero, suc, ◌+◌, ◌-◌, ◌*◌, ◌/◌, ◌%◌, ◌^◌, ◌≤◌, ◌<◌}
 use native.Mathlib.Nat.{pow-suc}
+use native.Mathlib.Numerals.{add-one}
 use native.Mathlib.Omega.{arith}
 use borrow.Author.Tests.{lt-ltb, le-ltb}
 use lib.Dec.{ltb}
-use lib.ListN.{length}
+use lib.ListN.{length, get_or, drop, drop_of_length-le}
+use lib.Seq.{drop-cons}
 use Rattle.base.specs.Range.{within}
 use Rattle.base.proofs.Apart.{apart}
-use Rattle.text.specs.Decimal.{digits_within, decimal, with_digits, numeral}
+use Rattle.text.specs.Decimal.{digits_within, decimal, with_digits}
 
 -- One digit more is not used by a number that has fewer.
 spare : (more n : ℕ) → n < 10 ^ suc more → digits_within (suc more) n ≡ digits_within more n
@@ -32,36 +34,24 @@ module _ (n : ℕ) where
   unfolding digits_within
   last_digit large fits = rw (le-ltb n 10 large, spare 18 (n / 10) (omega arith))
 
-module _ (n byte : ℕ) (bytes : List ℕ) where
-  pub no_digit : within 48 57 byte ≡ false → none ≡ with_digits n (byte ∷ bytes)
+-- The digit at a place of a word, and those behind it.
+module _ (n : ℕ) (word : List ℕ) (i : ℕ) (inside : i < length word) where
+  pub none_further : with_digits n (get_or word i 0 ∷ []) ≡ None → with_digits n (drop i word) ≡ None
   unfolding with_digits
-  no_digit e = rw e
-
-  pub no_room : within 48 57 byte ≡ true → 2 ^ 64 ≤ n * 10 + (byte - 48) → none ≡ with_digits n (byte ∷ bytes)
-  unfolding with_digits
-  no_room e h = rw (e, le-ltb (n * 10 + (byte - 48)) (2 ^ 64) h)
-
-  pub one_more : within 48 57 byte ≡ true → n * 10 + (byte - 48) < 2 ^ 64 → with_digits (n * 10 + (byte - 48)) bytes ≡ with_digits n (byte ∷ bytes)
-  unfolding with_digits
-  one_more e h = rw (e, lt-ltb (n * 10 + (byte - 48)) (2 ^ 64) h)
-
-  -- The first digit, and those behind it.
-  pub none_further : none ≡ with_digits n (byte ∷ []) → with_digits n (byte ∷ bytes) ≡ none
-  unfolding with_digits
-  none_further first = go (within 48 57 byte && ltb (n * 10 + (byte - 48)) (2 ^ 64)) first
+  none_further e = rw (drop-cons word i 0 inside) (go (within 48 57 (get_or word i 0) && ltb (n * 10 + (get_or word i 0 - 48)) (2 ^ 64)) e)
     where
-      go : (b : Bool) → none ≡ cond b (some (n * 10 + (byte - 48))) none → cond b (with_digits (n * 10 + (byte - 48)) bytes) none ≡ none
+      go : (b : Bool) → cond b (Some (n * 10 + (get_or word i 0 - 48))) None ≡ None → cond b (with_digits (n * 10 + (get_or word i 0 - 48)) (drop (suc i) word)) None ≡ None
       go true e = apart (cc)
       go false e = refl
 
-  pub further : (m : ℕ) → some m ≡ with_digits n (byte ∷ []) → with_digits n (byte ∷ bytes) ≡ with_digits m bytes
+  pub further : (m : ℕ) → with_digits n (get_or word i 0 ∷ []) ≡ Some m → with_digits n (drop i word) ≡ with_digits m (drop (i + 1) word)
   unfolding with_digits
-  further m first = go (within 48 57 byte && ltb (n * 10 + (byte - 48)) (2 ^ 64)) first
+  further m e = rw (drop-cons word i 0 inside, add-one) (go (within 48 57 (get_or word i 0) && ltb (n * 10 + (get_or word i 0 - 48)) (2 ^ 64)) e)
     where
-      go : (b : Bool) → some m ≡ cond b (some (n * 10 + (byte - 48))) none → cond b (with_digits (n * 10 + (byte - 48)) bytes) none ≡ with_digits m bytes
-      go true e = let same : n * 10 + (byte - 48) ≡ m = cc in rw same
+      go : (b : Bool) → cond b (Some (n * 10 + (get_or word i 0 - 48))) None ≡ Some m → cond b (with_digits (n * 10 + (get_or word i 0 - 48)) (drop (suc i) word)) None ≡ with_digits m (drop (suc i) word)
+      go true e = let same : n * 10 + (get_or word i 0 - 48) ≡ m = cc in rw same
       go false e = apart (cc)
 
-pub some_digits : (word : List ℕ) → 0 < length word → numeral word ≡ with_digits 0 word
-some_digits [] h = absurd (omega arith)
-some_digits (byte ∷ bytes) h = refl
+pub none_left : (n : ℕ) (word : List ℕ) (i : ℕ) → length word ≤ i → with_digits n (drop i word) ≡ Some n
+unfolding with_digits
+none_left n word i h = rw (drop_of_length-le word h)

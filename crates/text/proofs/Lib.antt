@@ -1,3 +1,4 @@
 pub mod Decimals
 pub mod Lines
+pub mod Pairs
 pub mod Putting

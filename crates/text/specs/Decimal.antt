@@ -1,9 +1,6 @@
 -- Numbers in decimal, and words that write them.
-use Rattle.std.specs.Prelude.{cond, ◌&&◌, List, [], ◌∷◌, ◌++◌, ℕ, zero, suc, ◌+◌, ◌-◌, ◌*◌, ◌/◌, ◌%◌, ◌^◌, ltb}
-use Rattle.std.proofs.Math.Option.{Option, none, some}
+use Rattle.std.specs.Prelude.{cond, ◌&&◌, Option, Some, None, List, [], ◌∷◌, ◌++◌, ℕ, zero, suc, ◌+◌, ◌-◌, ◌*◌, ◌/◌, ◌%◌, ◌^◌, ltb}
 use Rattle.base.specs.Range.{within}
-use Rattle.text.specs.declared.decimal.Numeral.{Numeral}
-use Rattle.text.specs.declared.decimal.Numeral.TheVariants.{Value, Nothing}
 
 -- A number below 10 is its digit; any other is the number without its last digit, then that digit. At most so many digits come
 -- before the last one.
@@ -17,21 +14,16 @@ decimal n = digits_within 19 n
 
 -- The number with further digits behind it: none if a byte is no digit, or if the number has more than 64 bits.
 unfoldable pub with_digits : ℕ → List ℕ → Option ℕ
-with_digits n [] = some n
+with_digits n [] = Some n
 with_digits n (byte ∷ bytes) =
     let more = n * 10 + (byte - 48) in
-    cond (within 48 57 byte && ltb more (2 ^ 64)) (with_digits more bytes) none
+    cond (within 48 57 byte && ltb more (2 ^ 64)) (with_digits more bytes) None
 
 -- The number that a word writes, which has at least one digit.
 abbrev pub numeral : List ℕ → Option ℕ
-numeral [] = none
+numeral [] = None
 numeral (byte ∷ bytes) = with_digits 0 (byte ∷ bytes)
 
 abbrev pub below : ℕ → Option ℕ → Option ℕ
-below n none = none
-below n (some m) = cond (ltb m n) (some m) none
-
--- What an answer of the code stands for.
-abbrev pub numeral_of : Numeral → Option ℕ
-numeral_of (Value n) = some n
-numeral_of Nothing = none
+below n None = None
+below n (Some m) = cond (ltb m n) (Some m) None

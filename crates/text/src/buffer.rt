@@ -2,18 +2,12 @@
 ghost use Rattle.text.specs.Put.{Puts};
 
 // Stores bytes from a place on, as far as there is room, and answers the place behind them.
+#[tactic(auto, unfolding(crate::specs::Put::written))]
 pub fn put(to: &mut [u8], at: usize, bytes: &[u8]) -> usize
     ensures { Puts to.old at bytes.now result to.new }
 {
-    let mut next = at;
-    let mut i = 0;
-    while i < bytes.len() {
-        if to.len() <= next {
-            return next;
-        }
-        to[next] = bytes[i];
-        next += 1;
-        i += 1;
-    }
-    next
+    let from = at.min(to.len());
+    let n = bytes.len().min(to.len() - from);
+    to[from..from + n].copy_from_slice(&bytes[..n]);
+    at + n
 }

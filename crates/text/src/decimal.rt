@@ -1,88 +1,59 @@
 // Numbers in decimal digits.
-ghost use Rattle.std.specs.Prelude.{◌≡◌, ◌∷◌, [], ◌+◌, ◌<◌};
-ghost use Rattle.std.proofs.Math.Option.{get_or};
-ghost use Rattle.text.specs.Decimal.{decimal, with_digits, numeral, below, numeral_of};
-ghost use Rattle.text.specs.Hex.{digit_of};
+ghost use Rattle.std.specs.Prelude.{◌≡◌, ◌∷◌, [], ◌+◌, ◌<◌, unwrap_or};
+ghost use Rattle.text.specs.Decimal.{decimal, with_digits, numeral, below};
 ghost use Rattle.text.specs.Put.{Puts};
 
 use crate::buffer::put;
-use crate::hex::Digit;
-use base::party::within;
-
-// A number, which other text lacks.
-#[derive(Drop)]
-pub enum Numeral {
-    Value(u64),
-    Nothing,
-}
-
-const LARGEST: u64 = 18_446_744_073_709_551_615;
 
 // The number with a digit behind it.
-fn with_digit(n: u64, byte: u8) -> Numeral
-    ensures { numeral_of result ≡ with_digits n (byte ∷ []) }
+#[tactic(auto, unfolding(crate::specs::Decimal::with_digits, base::specs::Range::within))]
+fn with_digit(n: u64, byte: u8) -> Option<u64>
+    ensures { result ≡ with_digits n (byte ∷ []) }
 {
-    if !within(b'0', b'9', byte) {
-        return Numeral::Nothing;
+    if !byte.is_ascii_digit() {
+        return None;
     }
-    let digit = (byte - 48) as u64;
-    if (LARGEST - digit) / 10 < n {
-        return Numeral::Nothing;
-    }
-    Numeral::Value(n * 10 + digit)
+    n.checked_mul(10)?.checked_add(u64::from(byte - b'0'))
 }
 
 // The number that a word is.
-pub fn read_decimal(word: &[u8]) -> Numeral
-    ensures { numeral_of result ≡ numeral word.now }
+#[tactic(auto, using(crate::proofs::Decimals::none_further, crate::proofs::Decimals::further, crate::proofs::Decimals::none_left))]
+pub fn read_decimal(word: &[u8]) -> Option<u64>
+    ensures { result ≡ numeral word.now }
 {
-    if word.len() == 0 {
-        return Numeral::Nothing;
+    if word.is_empty() {
+        return None;
     }
-    let mut n: u64 = 0;
-    let mut i = 0;
-    while i < word.len() {
-        let Numeral::Value(more) = with_digit(n, word[i]) else {
-            return Numeral::Nothing;
-        };
-        n = more;
-        i += 1;
+    let mut n = 0;
+    for byte in word {
+        n = with_digit(n, *byte)?;
     }
-    Numeral::Value(n)
+    Some(n)
 }
 
 // The same, 0 for other text.
 pub fn decimal_or_zero(word: &[u8]) -> u64
-    ensures { result ≡ get_or (numeral word.now) 0 }
+    ensures { result ≡ unwrap_or (numeral word.now) 0 }
 {
-    match read_decimal(word) {
-        Numeral::Value(n) => n,
-        Numeral::Nothing => 0,
-    }
+    read_decimal(word).unwrap_or(0)
 }
 
 // The same of a number of one byte.
-pub fn decimal_byte(word: &[u8]) -> Digit
-    ensures { digit_of result ≡ below 256 (numeral word.now) }
+pub fn decimal_byte(word: &[u8]) -> Option<u8>
+    ensures { result ≡ below 256 (numeral word.now) }
 {
-    let Numeral::Value(n) = read_decimal(word) else {
-        return Digit::Nothing;
-    };
-    if n < 256 {
-        return Digit::Value(n as u8);
-    }
-    Digit::Nothing
+    u8::try_from(read_decimal(word)?).ok()
 }
 
 fn put_digit(to: &mut [u8], at: usize, digit: u64) -> usize
     requires { digit < 10 }
     ensures { Puts to.old at ((48 + digit) ∷ []) result to.new }
 {
-    let one = [48 + digit as u8];
-    put(to, at, &one)
+    put(to, at, &[b'0' + digit as u8])
 }
 
-// A number's digits, stored as `put` stores bytes: those before the last, and the last.
+// A number's digits, stored as `put` stores bytes: those before the last, and the last. Not by Display, of which no contract says the
+// bytes.
 pub fn put_number(to: &mut [u8], at: usize, n: u64) -> usize
     ensures { Puts to.old at (decimal n) result to.new }
 {

@@ -1,19 +1,25 @@
 // Lines of a text, and words of a line.
-ghost use Rattle.text.specs.Line.{EndsAt};
+ghost use Rattle.std.specs.Prelude.{◌≡◌, ◌≤◌, length};
+ghost use Rattle.text.specs.Line.{EndsAt, length_to};
 
-const NEWLINE: u8 = 10;
+use base::slices::behind;
+
+const NEWLINE: u8 = b'\n';
+
+// How many bytes come before the first such byte, or in all.
+fn length_to(mark: u8, text: &[u8]) -> usize
+    ensures value { result ≡ length_to mark text.now }
+    ensures inside { result ≤ length text.now }
+{
+    text.iter()
+        .position(|byte| *byte == mark)
+        .unwrap_or(text.len())
+}
 
 fn end_at(mark: u8, text: &[u8], from: usize) -> usize
     ensures { EndsAt mark text.now from result }
 {
-    let mut at = from;
-    while at < text.len() {
-        if text[at] == mark {
-            return at;
-        }
-        at += 1;
-    }
-    at
+    from + length_to(mark, behind(text, from))
 }
 
 // Where the line that starts at `from` ends: at its newline, or where the text ends.

@@ -6,11 +6,11 @@ use crate::buffer::put;
 use crate::decimal::put_number;
 use base::timestamp::Timestamp;
 
-// A timestamp's text, stored as `put` stores bytes.
+// A timestamp's text, stored as `put` stores bytes. Not by Display, of which no contract says the bytes.
 pub fn put_timestamp(to: &mut [u8], at: usize, timestamp: Timestamp) -> usize
     ensures { Puts to.old at (stamp timestamp) result to.new }
 {
-    let count = put_number(to, at, timestamp.count as u64);
+    let count = put_number(to, at, u64::from(timestamp.count));
     let dot = put(to, count, b".");
-    put_number(to, dot, timestamp.client.0 as u64)
+    put_number(to, dot, u64::from(timestamp.client.0))
 }

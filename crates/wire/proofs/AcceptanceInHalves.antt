@@ -12,11 +12,8 @@ use Rattle.wire.specs.Acceptance.{sender_of, in_its_range, may_send, is_served, 
 use Rattle.wire.specs.Accepting.{opening, opened, signature_count, Ready, Judges}
 use Rattle.wire.specs.Checks.{prepared_of, one_verdict_each, own_genuine, all, proven, checked}
 use Rattle.wire.specs.Decode.{message_in, for_register, decode, register_in, reading, fields_in}
-use Rattle.wire.specs.Judging.{proof_check_outcome}
 use Rattle.wire.specs.Message.{Message, kind_of}
 use Rattle.wire.specs.Parts.{prepared_signers}
-use Rattle.wire.specs.declared.checks.ProofCheck.{ProofCheck}
-use Rattle.wire.specs.declared.checks.ProofCheck.TheVariants.{Good, Refused}
 use Rattle.wire.specs.declared.message.Fields.{Fields}
 use Rattle.wire.specs.declared.message.Party.{Party}
 use Rattle.wire.proofs.Tests6To11.{one_each}
@@ -36,13 +33,13 @@ pub record Opened (party : Party) (f : ℕ) (withdrawn : ClientSet) (bytes verdi
   pub ready : Ready bytes verdicts fields
 
 module _ (party : Party) (f : ℕ) (withdrawn : ClientSet) (bytes verdicts : List ℕ) where
-  pub opened_accepted : (fields : Fields) → opened party f withdrawn bytes verdicts ≡ accepted fields → Opened party f withdrawn bytes verdicts fields
+  pub opened_accepted : (fields : Fields) → accepted fields ≡ opened party f withdrawn bytes verdicts → Opened party f withdrawn bytes verdicts fields
   unfolding opened
-  opened_accepted fields e = go (message_in party bytes) refl
+  opened_accepted fields back = go (message_in party bytes) refl (sym back)
     where
-      go : (o : Outcome Message) → message_in party bytes ≡ o → Opened party f withdrawn bytes verdicts fields
-      go (refused n) d = absurd (no_both fields n (sym e ∙ rw d))
-      go (accepted m) d =
+      go : (o : Outcome Message) → message_in party bytes ≡ o → opened party f withdrawn bytes verdicts ≡ accepted fields → Opened party f withdrawn bytes verdicts fields
+      go (refused n) d e = absurd (no_both fields n (sym e ∙ rw d))
+      go (accepted m) d e =
           let last : Outcome Fields = accepted (fields_in bytes) in
           let served = guard 23 (is_served withdrawn (sender_of m)) last in
           let eight = guard 8 (own_genuine verdicts) served in
@@ -120,9 +117,9 @@ module _ (party : Party) (f : ℕ) (withdrawn : ClientSet) (bytes verdicts : Lis
       go (accepted m) = halves m
 
   -- The two halves of the code together.
-  module _ (fields : Fields) (check : ProofCheck) (e : opened party f withdrawn bytes verdicts ≡ accepted fields) (judged : Judges f bytes verdicts check) where
-    rest : acceptance party f withdrawn bytes verdicts ≡ (proof_check_outcome check >>= λ signers. accepted (fields, signers))
-    rest =
+  module _ (fields : Fields) (e : accepted fields ≡ opened party f withdrawn bytes verdicts) where
+    rest : (check : Outcome ReplicaSet) → Judges f bytes verdicts check → acceptance party f withdrawn bytes verdicts ≡ (check >>= λ signers. accepted (fields, signers))
+    rest check judged =
         let o = opened_accepted fields e in
         let read : accepted (fields_in bytes) ≡ accepted fields = sym (message_reads party bytes o.message o.decodes) ∙ o.reads in
         let same : fields_in bytes ≡ fields = cc in
@@ -130,11 +127,11 @@ module _ (party : Party) (f : ℕ) (withdrawn : ClientSet) (bytes verdicts : Lis
         acceptance_opening ∙ o.passes (Fields × ReplicaSet) (λ message. proven f message (drop 1 verdicts) (accepted (found_in bytes (for_register (register_in bytes) message))))
         ∙ sym (proven_then f o.message (drop 1 verdicts) signers (λ (set : ReplicaSet). accepted (fields_in bytes, set))) ∙ rw (same, judged party o.message o.decodes)
 
-    pub both_good : (signers : ReplicaSet) → check ≡ Good signers → accepted (fields, signers) ≡ acceptance party f withdrawn bytes verdicts
-    both_good signers good = sym (rest ∙ rw good)
+    pub both_good : (signers : ReplicaSet) → Judges f bytes verdicts (accepted signers) → accepted (fields, signers) ≡ acceptance party f withdrawn bytes verdicts
+    both_good signers judged = sym (rest (accepted signers) judged)
 
-    pub second_refuses : (n : ℕ) → check ≡ Refused n → refused n ≡ acceptance party f withdrawn bytes verdicts
-    second_refuses n bad = sym (rest ∙ rw bad)
+    pub second_refuses : (n : ℕ) → Judges f bytes verdicts (refused n) → refused n ≡ acceptance party f withdrawn bytes verdicts
+    second_refuses n judged = sym (rest (refused n) judged)
 
-  pub first_refuses : (n : ℕ) → opened party f withdrawn bytes verdicts ≡ refused n → refused n ≡ acceptance party f withdrawn bytes verdicts
-  first_refuses n e = sym (acceptance_opening ∙ opened_refused n e (Fields × ReplicaSet) (λ message. proven f message (drop 1 verdicts) (accepted (found_in bytes (for_register (register_in bytes) message)))))
+  pub first_refuses : (n : ℕ) → refused n ≡ opened party f withdrawn bytes verdicts → refused n ≡ acceptance party f withdrawn bytes verdicts
+  first_refuses n e = sym (acceptance_opening ∙ opened_refused n (sym e) (Fields × ReplicaSet) (λ message. proven f message (drop 1 verdicts) (accepted (found_in bytes (for_register (register_in bytes) message)))))

@@ -1,94 +1,71 @@
 -- The fields of bytes that passed tests 2 to 4, as the reader takes them. Assumes nothing.
-use Rattle.std.proofs.Common.{◌≡◌, ℕ, suc, ◌+◌, ◌-◌, ◌<◌, ◌≤◌, Bool, true, false, List, length, get_or, take, drop, refl, ap, ◌∙◌, arith, length-take, take_all}
+use Rattle.std.proofs.Common.{◌≡◌, Some, ℕ, suc, ◌-◌, ◌<◌, ◌≤◌, Bool, true, false, List, [], ◌∷◌, length, get_or, drop, refl, ap, ◌∙◌, arith, inl, inr, ◌⊎◌, sym, le-ltb, take_all, get_or-take, get_or-drop}
+use Rattle.base.proofs.Apart.{apart}
 use Rattle.base.specs.BigEndian.{from_bytes}
 use Rattle.base.specs.BitMap.{bit}
 use Rattle.base.specs.Bytes.{between}
 use Rattle.base.specs.Timestamp.{of_number}
 use Rattle.base.specs.declared.timestamp.Timestamp.{Timestamp}
 use Rattle.wire.specs.Decode.{fields_in}
-use Rattle.wire.specs.Layout.{fixed, extent, rules, map_in, place, field}
-use Rattle.wire.specs.Places.{Room, places_in}
+use Rattle.wire.specs.Kind.{kind_of_number, kind_there}
+use Rattle.wire.specs.Layout.{fixed, rules, map_in, place, field}
+use Rattle.wire.specs.Parts.{number_part, timestamp_part}
+use Rattle.wire.specs.Places.{places_in}
 use Rattle.wire.specs.declared.frame.Places.{Places}
 use Rattle.wire.specs.declared.message.Fields.{Fields}
-use Rattle.wire.proofs.FieldPlaces.{Framed, place_present, place_absent, place_rises, place_within, place_one, place_two, first_bits}
-use Rattle.wire.proofs.Windows.{front, front_some}
+use Rattle.wire.specs.declared.message.Kind.{Kind}
+use Rattle.wire.proofs.FieldPlaces.{Framed, place_present, field_absent, length_field, place_within, place_one, place_two, first_bits}
+use Rattle.wire.proofs.Windows.{number_whole}
 
--- A field, if it is there, has at least so many bytes.
-least : (s : List ℕ) (b width : ℕ) → ((l : List ℕ) → width ≤ extent (get_or rules b (fixed 0)) l) → place s b < place s (suc b) → place s b + width ≤ place s (suc b)
-least s b width wide h = go (bit (map_in s) b) refl
+-- A field of a fixed width is so long, or not there.
+pub fixed_field : (s : List ℕ) (b width : ℕ) → Framed s → b ≤ 9 → get_or rules b (fixed 0) ≡ fixed width → (length (field s b) ≡ width) ⊎ (field s b ≡ [])
+fixed_field s b width whole low rule = go (bit (map_in s) b) refl
   where
-    go : (there : Bool) → bit (map_in s) b ≡ there → place s b + width ≤ place s (suc b)
-    go true e = let w = wide (drop (place s b) s) in rw (place_present s b e) (omega arith)
-    go false e = let same = place_absent s b e in absurd (omega arith)
+    go : (there : Bool) → bit (map_in s) b ≡ there → (length (field s b) ≡ width) ⊎ (field s b ≡ [])
+    go true e = inl (length_field s whole b low ∙ rw (place_present s b e, rule) (omega arith))
+    go false e = inr (field_absent s b e)
 
-pub room : (s : List ℕ) (b width : ℕ) → b < 10 → ((l : List ℕ) → width ≤ extent (get_or rules b (fixed 0)) l) → Framed s → Room s width (place s b) (place s (suc b))
-room s b width low wide whole =
-    let ends = whole.ends in
-    let up = place_rises s (suc b) 10 low in
-    record { rises = place_rises s b (suc b) (omega arith); inside = omega arith; wide = least s b width wide }
-
--- A field of a fixed width is no longer than that.
-at_most_lem : (s : List ℕ) (b width : ℕ) → get_or rules b (fixed 0) ≡ fixed width → place s (suc b) - place s b ≤ width
-at_most_lem s b width rule = go (bit (map_in s) b) refl
-  where
-    go : (there : Bool) → bit (map_in s) b ≡ there → place s (suc b) - place s b ≤ width
-    go true e = rw (place_present s b e, rule) (omega arith)
-    go false e = rw (place_absent s b e) (omega arith)
-
-pub fixed_front : (s : List ℕ) (b width : ℕ) → get_or rules b (fixed 0) ≡ fixed width → take width (between s (place s b) (place s (suc b))) ≡ field s b
-unfolding field
-fixed_front s b width rule =
-    let few = at_most_lem s b width rule in
-    take_all width (between s (place s b) (place s (suc b))) (rw length-take (omega arith))
-
--- A field of one byte that is there.
-single : (s : List ℕ) (b : ℕ) → get_or rules b (fixed 0) ≡ fixed 1 → bit (map_in s) b ≡ true → place s b < length s → from_bytes (field s b) ≡ get_or s (place s b) 0
+-- The byte of a field of one byte; 0 if it is not there.
+byte_of : (field : List ℕ) → (length field ≡ 1) ⊎ (field ≡ []) → get_or field 0 0 ≡ from_bytes field
 unfolding from_bytes
-single s b rule there h =
-    let next = place_present s b there in
-    rw (← fixed_front s b 1 rule, front_some s 1 (place s b) (place s (suc b)) (rw (next, rule) (omega arith)), front s (place s b) 0 (omega arith)) (omega arith)
+byte_of [] e = refl
+byte_of (b ∷ []) e = omega arith
+byte_of (b ∷ c ∷ field) (inl e) = absurd (omega arith)
+byte_of (b ∷ c ∷ field) (inr e) = apart (cc)
+
+timestamp_whole : (field : List ℕ) → (length field ≡ 5) ⊎ (field ≡ []) → timestamp_part field ≡ of_number (from_bytes field)
+unfolding timestamp_part from_bytes
+timestamp_whole field (inl e) = rw (le-ltb (length field) 5 (omega arith), take_all 5 field (omega arith))
+timestamp_whole field (inr e) = rw e
 
 -- Kind and sender are always there.
 module _ (s : List ℕ) (whole : Framed s) where
   pub room_for_both : 4 ≤ length s
   room_for_both = omega (arith, place_two s whole, place_within s whole 2 (omega arith))
 
+  single : (b : ℕ) → b ≤ 9 → get_or rules b (fixed 0) ≡ fixed 1 → bit (map_in s) b ≡ true → place s b < length s → from_bytes (field s b) ≡ get_or s (place s b) 0
+  unfolding field
+  single b low rule there h =
+      let next = place_present s b there in
+      let one : place s (suc b) - place s b ≡ 1 = rw (next, rule) (omega arith) in
+      sym (byte_of (field s b) (fixed_field s b 1 whole low rule)) ∙ rw (one, get_or-take 1 (drop (place s b) s) 0 0 (omega arith), get_or-drop (place s b) s 0 0) (ap (λ (i : ℕ). get_or s i 0) (omega arith))
+
   pub kind_at : from_bytes (field s 0) ≡ get_or s 2 0
   unfolding place rules
-  kind_at = let h = room_for_both in single s 0 refl (first_bits s whole).0 (omega arith)
+  kind_at = let h = room_for_both in single 0 (omega arith) refl (first_bits s whole).0 (omega arith)
 
   pub sender_is : from_bytes (field s 1) ≡ get_or s 3 0
   unfolding rules
-  sender_is = let h = room_for_both in let at = place_one s whole in single s 1 refl (first_bits s whole).1 (omega arith) ∙ rw at
+  sender_is = let h = room_for_both in let at = place_one s whole in single 1 (omega arith) refl (first_bits s whole).1 (omega arith) ∙ rw at
 
--- The places as the code has them.
-pub record Rooms (s : List ℕ) (p : Places) : Type 0 where
-  pub nonce : Room s 8 p.nonce p.timestamp
-  pub timestamp : Room s 5 p.timestamp p.digest
-  pub addressed : Room s 1 p.addressed p.register
-  pub register : Room s 1 p.register p.signature
-  pub prepared : Room s 5 p.prepared p.written
-
-pub rooms : (s : List ℕ) (p : Places) → Framed s → p ≡ places_in s → Rooms s p
-unfolding places_in rules
-rooms s p whole e =
-    rw e
-    (record {
-      nonce = room s 2 8 (omega arith) (λ l. omega arith) whole;
-      timestamp = room s 3 5 (omega arith) (λ l. omega arith) whole;
-      addressed = room s 8 1 (omega arith) (λ l. omega arith) whole;
-      register = room s 9 1 (omega arith) (λ l. omega arith) whole;
-      prepared = room s 6 5 (omega arith) (λ l. omega arith) whole;
-    })
-
-pub made : (s : List ℕ) (p : Places) (nonce : ℕ) (timestamp : Timestamp) (addressed register : ℕ) → Framed s → p ≡ places_in s
-    → nonce ≡ from_bytes (take 8 (between s p.nonce p.timestamp))
-    → timestamp ≡ of_number (from_bytes (take 5 (between s p.timestamp p.digest)))
-    → addressed ≡ from_bytes (take 1 (between s p.addressed p.register))
-    → register ≡ from_bytes (take 1 (between s p.register p.signature))
+pub made : (s : List ℕ) (p : Places) (kind : Kind) (nonce : ℕ) (timestamp : Timestamp) (addressed register : ℕ) → Framed s → p ≡ places_in s → kind_of_number (get_or s 2 0) ≡ Some kind
+    → nonce ≡ number_part 8 (between s p.nonce p.timestamp)
+    → timestamp ≡ timestamp_part (between s p.timestamp p.digest)
+    → addressed ≡ get_or (between s p.addressed p.register) 0 0
+    → register ≡ get_or (between s p.register p.signature) 0 0
     → ◌≡◌ {A = Fields} (record {
       map = p.map;
-      kind = get_or s 2 0;
+      kind = kind;
       sender = get_or s 3 0;
       nonce = nonce;
       timestamp = timestamp;
@@ -100,10 +77,11 @@ pub made : (s : List ℕ) (p : Places) (nonce : ℕ) (timestamp : Timestamp) (ad
       register = record { 0 = register };
       signature = record { start = p.signature; end = length s };
     }) (fields_in s)
-unfolding places_in fields_in rules
-made s p nonce timestamp addressed register whole e n t a r =
-    let n' : nonce ≡ from_bytes (field s 2) = n ∙ rw e (ap from_bytes (fixed_front s 2 8 refl)) in
-    let t' : timestamp ≡ of_number (from_bytes (field s 3)) = t ∙ rw e (ap (λ (l : List ℕ). of_number (from_bytes l)) (fixed_front s 3 5 refl)) in
-    let a' : addressed ≡ from_bytes (field s 8) = a ∙ rw e (ap from_bytes (fixed_front s 8 1 refl)) in
-    let r' : register ≡ from_bytes (field s 9) = r ∙ rw e (ap from_bytes (fixed_front s 9 1 refl)) in
-    rw (n', t', a', r', ← kind_at s whole, ← sender_is s whole, e)
+unfolding places_in fields_in field rules
+made s p kind nonce timestamp addressed register whole e k n t a r =
+    let n' : nonce ≡ from_bytes (field s 2) = n ∙ rw e (number_whole 8 (field s 2) (fixed_field s 2 8 whole (omega arith) refl)) in
+    let t' : timestamp ≡ of_number (from_bytes (field s 3)) = t ∙ rw e (timestamp_whole (field s 3) (fixed_field s 3 5 whole (omega arith) refl)) in
+    let a' : addressed ≡ from_bytes (field s 8) = a ∙ rw e (byte_of (field s 8) (fixed_field s 8 1 whole (omega arith) refl)) in
+    let r' : register ≡ from_bytes (field s 9) = r ∙ rw e (byte_of (field s 9) (fixed_field s 9 1 whole (omega arith) refl)) in
+    let k' : kind_there (kind_of_number (from_bytes (field s 0))) ≡ kind = rw (kind_at s whole, k) in
+    rw (n', t', a', r', k', ← sender_is s whole, e)

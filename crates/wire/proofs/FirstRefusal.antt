@@ -1,5 +1,5 @@
 -- Tests 9 to 11 of a message from those of its proofs: the smallest refusal is the first. Assumes nothing.
-use Rattle.std.proofs.Common.{◌≡◌, ℕ, ◌≤◌, Bool, true, false, ◌&&◌, eqb, List, [], ◌++◌, refl, ap, ◌∙◌, arith}
+use Rattle.std.proofs.Common.{◌≡◌, ℕ, ◌≤◌, Bool, true, false, ◌&&◌, eqb, List, [], ◌++◌, sym, refl, ap, ◌∙◌, arith}
 use mathlib.Core.Option.{Option, none, some}
 use native.Mathlib.Nat.{min-eq_left, min-eq_right}
 use Rattle.base.specs.Outcome.{Outcome, accepted, refused, guard, ◌>>=◌}
@@ -21,13 +21,23 @@ module _ (f : ℕ) (entries : List Entry) (verdicts : List ℕ) (timestamp : ℕ
   unfolding proof_outcome
   shape_passed signers e = let passed = guard_accepted 9 (shaped f entries) (accepted (signer_set entries)) signers e in guard_passes 9 (shaped f entries) _ passed.0 ∙ rw passed.1
 
-  pub shape_refused : (n : ℕ) → shaped_signers f entries ≡ refused n → proof_outcome f entries verdicts timestamp ≡ refused 9
+  pub shape_refused : (n : ℕ) → shaped_signers f entries ≡ refused n → proof_outcome f entries verdicts timestamp ≡ refused n
   unfolding proof_outcome
   shape_refused n e = go (shaped f entries) e
     where
-      go : (b : Bool) → guard 9 b (accepted (signer_set entries)) ≡ refused n → guard 9 b (guard 10 (genuine verdicts) (guard 11 (issued timestamp) (accepted (signer_set entries)))) ≡ refused 9
+      go : (b : Bool) → guard 9 b (accepted (signer_set entries)) ≡ refused n → guard 9 b (guard 10 (genuine verdicts) (guard 11 (issued timestamp) (accepted (signer_set entries)))) ≡ refused n
       go true k = let p = guard_passes 9 true (accepted (signer_set entries)) refl in apart (cc)
-      go false k = guard_refuses 9 false _ refl
+      go false k = guard_refuses 9 false _ refl ∙ sym (guard_refuses 9 false (accepted (signer_set entries)) refl) ∙ k
+
+  module _ {signers : ReplicaSet} (e : shaped_signers f entries ≡ accepted signers) where
+    pub not_real : genuine verdicts ≡ false → proof_outcome f entries verdicts timestamp ≡ refused 10
+    not_real h = shape_passed signers e ∙ guard_refuses 10 (genuine verdicts) _ h
+
+    pub not_issued : genuine verdicts ≡ true → issued timestamp ≡ false → proof_outcome f entries verdicts timestamp ≡ refused 11
+    not_issued h t = shape_passed signers e ∙ guard_passes 10 (genuine verdicts) _ h ∙ guard_refuses 11 (issued timestamp) _ t
+
+    pub all_passed : genuine verdicts ≡ true → issued timestamp ≡ true → proof_outcome f entries verdicts timestamp ≡ accepted signers
+    all_passed h t = shape_passed signers e ∙ guard_passes 10 (genuine verdicts) _ h ∙ guard_passes 11 (issued timestamp) _ t
 
 -- No refusal below a number.
 abbrev From : {A : Type 0} → ℕ → Outcome A → Type 0

@@ -13,10 +13,12 @@ pub mod LastRegister
 pub mod MessageParts
 pub mod MessageSignatures
 pub mod OneForm
+pub mod Passing
 pub mod ProofBytes
 pub mod ProofSignatures
 pub mod ReadingByKind
 pub mod RecordBytes
+pub mod RefusalOrder
 pub mod RoundTrip
 pub mod Rows
 pub mod SignerSets

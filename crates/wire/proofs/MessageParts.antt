@@ -19,14 +19,16 @@ use Rattle.wire.specs.Message.{Message, kind_of, READ-STAMP, PREPARE, WRITE, REA
 use Rattle.wire.specs.Parts.{part_at, card_at, proof_part, prepared_part, timestamp_if_there, prepared_timestamp, prepared_signers, timestamp_part, digest_part, count_part, entries_part, Whole, WholeIfThere}
 use Rattle.wire.specs.Proof.{signers, signer_set, entries_bytes, proof_from, prepared_from}
 use Rattle.wire.specs.declared.message.Fields.{Fields}
+use Rattle.wire.specs.declared.message.Kind.TheVariants.{ReadStamp, Prepare, Write, Read, Stamp, Prepared, Written, Card}
 use Rattle.wire.specs.declared.message.Party.{Party}
 use Rattle.wire.specs.declared.message.Party.TheVariants.{Replica, Client}
 use Rattle.wire.proofs.Tests6To11.{seen}
 use Rattle.wire.proofs.AdmittedMessage.{admitted_passed, acceptance_accepted}
 use Rattle.wire.proofs.FieldPlaces.{field_absent, place_present}
-use Rattle.wire.proofs.ReadingByKind.{ProofBit, prepared_bit, written_bit, Parsed, parsed, proof_at, proof_ends, taken_kind, decode_splits, replica_kind, client_kind, reads_1, reads_2, reads_3, reads_4, reads_5, reads_6, reads_7, reads_8}
+use Rattle.wire.proofs.ReadingByKind.{ProofBit, prepared_bit, written_bit, Parsed, parsed, proof_at, proof_ends, taken_kind, decode_splits, replica_kind, client_kind, reads_read_stamp, reads_prepare, reads_write, reads_read, reads_stamp, reads_prepared, reads_written, reads_card}
 use Rattle.wire.proofs.Tests7To11.{Passed}
 use Rattle.wire.proofs.ProofBytes.{length_read, entries_read, extent_is}
+pub use Rattle.wire.proofs.ProofBytes.{front_timestamp}
 use Rattle.wire.proofs.Rows.{Taken, prepare, write}
 
 -- ---- A proof by its parts
@@ -39,11 +41,6 @@ pub record ByParts (d : ℕ) (proof : List ℕ) : Type 0 where
   pub entries : entries_bytes (proof_from d proof).entries ≡ entries_part d proof
   pub digest_length : length (digest_part d proof) ≡ d
   pub entries_length : length (entries_part d proof) ≡ 65 * count_part d proof
-
--- The timestamp in front of enough bytes.
-pub front_timestamp : (proof : List ℕ) → 5 ≤ length proof → timestamp_part proof ≡ of_number (from_bytes (take 5 proof))
-unfolding timestamp_part
-front_timestamp proof long = rw (le-ltb (length proof) 5 long)
 
 pub by_parts : {d : ℕ} (proof : List ℕ) → Whole d proof → ByParts d proof
 unfolding digest_part count_part entries_part
@@ -205,26 +202,26 @@ module _ (party : Party) (f : ℕ) (withdrawn : ClientSet) (bytes verdicts : Lis
 
 -- The requests, kind by kind, with the parts that the code takes out of them.
 module _ (f : ℕ) (withdrawn : ClientSet) (bytes verdicts : List ℕ) (fields : Fields) {signers : ReplicaSet} (e : acceptance Replica f withdrawn bytes verdicts ≡ accepted (fields, signers)) where
-  pub handed_read_stamp : fields.kind ≡ 1 → Handed Replica f withdrawn bytes verdicts (READ-STAMP (record { 0 = fields.sender }) fields.nonce)
-  handed_read_stamp k = handed Replica f withdrawn bytes verdicts fields e _ (reads_1 bytes fields (reads Replica f withdrawn bytes verdicts fields e) k)
+  pub handed_read_stamp : fields.kind ≡ ReadStamp → Handed Replica f withdrawn bytes verdicts (READ-STAMP (record { 0 = fields.sender }) fields.nonce)
+  handed_read_stamp k = handed Replica f withdrawn bytes verdicts fields e _ (reads_read_stamp bytes fields (reads Replica f withdrawn bytes verdicts fields e) k)
 
-  pub handed_prepare : fields.kind ≡ 2
+  pub handed_prepare : fields.kind ≡ Prepare
       → Handed Replica f withdrawn bytes verdicts (PREPARE (record { 0 = fields.sender }) (number fields.timestamp) (part_at bytes fields.digest) (prepared_part (part_at bytes fields.prepared)) (proof_part 0 (part_at bytes fields.written)))
   handed_prepare k =
       rw (digest_is Replica f withdrawn bytes verdicts fields e, prepared_shown Replica bytes fields (found Replica f withdrawn bytes verdicts fields e), written_shown Replica bytes fields (found Replica f withdrawn bytes verdicts fields e))
-      (handed Replica f withdrawn bytes verdicts fields e _ (reads_2 bytes fields (reads Replica f withdrawn bytes verdicts fields e) k))
+      (handed Replica f withdrawn bytes verdicts fields e _ (reads_prepare bytes fields (reads Replica f withdrawn bytes verdicts fields e) k))
 
-  pub handed_write : fields.kind ≡ 3 → Handed Replica f withdrawn bytes verdicts (WRITE (record { 0 = fields.sender }) (card_at bytes fields.card) (prepared_from (part_at bytes fields.prepared)))
+  pub handed_write : fields.kind ≡ Write → Handed Replica f withdrawn bytes verdicts (WRITE (record { 0 = fields.sender }) (card_at bytes fields.card) (prepared_from (part_at bytes fields.prepared)))
   handed_write k =
       rw (card_is Replica f withdrawn bytes verdicts fields e, prepared_is Replica bytes fields (found Replica f withdrawn bytes verdicts fields e))
-      (handed Replica f withdrawn bytes verdicts fields e _ (reads_3 bytes fields (reads Replica f withdrawn bytes verdicts fields e) k))
+      (handed Replica f withdrawn bytes verdicts fields e _ (reads_write bytes fields (reads Replica f withdrawn bytes verdicts fields e) k))
 
-  pub handed_read : fields.kind ≡ 4 → Handed Replica f withdrawn bytes verdicts (READ (record { 0 = fields.sender }) fields.nonce)
-  handed_read k = handed Replica f withdrawn bytes verdicts fields e _ (reads_4 bytes fields (reads Replica f withdrawn bytes verdicts fields e) k)
+  pub handed_read : fields.kind ≡ Read → Handed Replica f withdrawn bytes verdicts (READ (record { 0 = fields.sender }) fields.nonce)
+  handed_read k = handed Replica f withdrawn bytes verdicts fields e _ (reads_read bytes fields (reads Replica f withdrawn bytes verdicts fields e) k)
 
   -- "holders 1 to 4"
-  pub request_kind : (fields.kind ≡ 1) ⊎ ((fields.kind ≡ 2) ⊎ ((fields.kind ≡ 3) ⊎ (fields.kind ≡ 4)))
-  request_kind = replica_kind (found Replica f withdrawn bytes verdicts fields e).taken
+  pub request_kind : (fields.kind ≡ ReadStamp) ⊎ ((fields.kind ≡ Prepare) ⊎ ((fields.kind ≡ Write) ⊎ (fields.kind ≡ Read)))
+  request_kind = replica_kind fields.kind (taken_kind Replica bytes fields (reads Replica f withdrawn bytes verdicts fields e) fields.kind refl)
 
   prepare_set : {map : ℕ} → Taken map 2 Replica → bit map 4 ≡ true
   prepare_set (prepare set) = cc
@@ -232,41 +229,41 @@ module _ (f : ℕ) (withdrawn : ClientSet) (bytes verdicts : List ℕ) (fields :
   write_set : {map : ℕ} → Taken map 3 Replica → bit map 6 ≡ true
   write_set (write set) = cc
 
-  pub prepare_digest : fields.kind ≡ 2 → length (part_at bytes fields.digest) ≡ 32
-  prepare_digest k = digest_there Replica f withdrawn bytes verdicts fields e (prepare_set (taken_kind Replica bytes fields (reads Replica f withdrawn bytes verdicts fields e) 2 k))
+  pub prepare_digest : fields.kind ≡ Prepare → length (part_at bytes fields.digest) ≡ 32
+  prepare_digest k = digest_there Replica f withdrawn bytes verdicts fields e (prepare_set (taken_kind Replica bytes fields (reads Replica f withdrawn bytes verdicts fields e) Prepare k))
 
-  pub write_proof : fields.kind ≡ 3 → Whole 32 (part_at bytes fields.prepared)
+  pub write_proof : fields.kind ≡ Write → Whole 32 (part_at bytes fields.prepared)
   write_proof k =
-      let set = write_set (taken_kind Replica bytes fields (reads Replica f withdrawn bytes verdicts fields e) 3 k) in
+      let set = write_set (taken_kind Replica bytes fields (reads Replica f withdrawn bytes verdicts fields e) Write k) in
       let whole = proof_ends bytes (found Replica f withdrawn bytes verdicts fields e).framed prepared_bit set in
       let same = prepared_is Replica bytes fields (found Replica f withdrawn bytes verdicts fields e) in
       (proof_there (part_at bytes fields.prepared) (proof_whole Replica f withdrawn bytes verdicts fields e) (λ none. let size = ap length same in omega arith)).whole
 
-  pub write_signers : fields.kind ≡ 3 → signers ≡ signer_set (prepared_from (part_at bytes fields.prepared)).entries
+  pub write_signers : fields.kind ≡ Write → signers ≡ signer_set (prepared_from (part_at bytes fields.prepared)).entries
   write_signers k =
       let ends = (write_proof k).ends in
       signers_are Replica f withdrawn bytes verdicts fields e ∙ ap prepared_signers (some_part 32 (part_at bytes fields.prepared) (omega arith))
 
 -- The replies, kind by kind.
 module _ (f : ℕ) (withdrawn : ClientSet) (bytes verdicts : List ℕ) (fields : Fields) {signers : ReplicaSet} (e : acceptance Client f withdrawn bytes verdicts ≡ accepted (fields, signers)) where
-  pub handed_stamp : fields.kind ≡ 5 → Handed Client f withdrawn bytes verdicts (STAMP (record { 0 = fields.sender }) fields.nonce (prepared_part (part_at bytes fields.prepared)) fields.addressed)
+  pub handed_stamp : fields.kind ≡ Stamp → Handed Client f withdrawn bytes verdicts (STAMP (record { 0 = fields.sender }) fields.nonce (prepared_part (part_at bytes fields.prepared)) fields.addressed)
   handed_stamp k =
       rw (prepared_shown Client bytes fields (found Client f withdrawn bytes verdicts fields e))
-      (handed Client f withdrawn bytes verdicts fields e _ (reads_5 bytes fields (reads Client f withdrawn bytes verdicts fields e) k))
+      (handed Client f withdrawn bytes verdicts fields e _ (reads_stamp bytes fields (reads Client f withdrawn bytes verdicts fields e) k))
 
-  pub handed_prepared : fields.kind ≡ 6 → Handed Client f withdrawn bytes verdicts (PREPARED (record { 0 = fields.sender }) (number fields.timestamp) (part_at bytes fields.digest))
+  pub handed_prepared : fields.kind ≡ Prepared → Handed Client f withdrawn bytes verdicts (PREPARED (record { 0 = fields.sender }) (number fields.timestamp) (part_at bytes fields.digest))
   handed_prepared k =
       rw (digest_is Client f withdrawn bytes verdicts fields e)
-      (handed Client f withdrawn bytes verdicts fields e _ (reads_6 bytes fields (reads Client f withdrawn bytes verdicts fields e) k))
+      (handed Client f withdrawn bytes verdicts fields e _ (reads_prepared bytes fields (reads Client f withdrawn bytes verdicts fields e) k))
 
-  pub handed_written : fields.kind ≡ 7 → Handed Client f withdrawn bytes verdicts (WRITTEN (record { 0 = fields.sender }) (number fields.timestamp))
-  handed_written k = handed Client f withdrawn bytes verdicts fields e _ (reads_7 bytes fields (reads Client f withdrawn bytes verdicts fields e) k)
+  pub handed_written : fields.kind ≡ Written → Handed Client f withdrawn bytes verdicts (WRITTEN (record { 0 = fields.sender }) (number fields.timestamp))
+  handed_written k = handed Client f withdrawn bytes verdicts fields e _ (reads_written bytes fields (reads Client f withdrawn bytes verdicts fields e) k)
 
-  pub handed_card : fields.kind ≡ 8 → Handed Client f withdrawn bytes verdicts (CARD (record { 0 = fields.sender }) fields.nonce (card_at bytes fields.card) (prepared_part (part_at bytes fields.prepared)) fields.addressed)
+  pub handed_card : fields.kind ≡ Card → Handed Client f withdrawn bytes verdicts (CARD (record { 0 = fields.sender }) fields.nonce (card_at bytes fields.card) (prepared_part (part_at bytes fields.prepared)) fields.addressed)
   handed_card k =
       rw (card_is Client f withdrawn bytes verdicts fields e, prepared_shown Client bytes fields (found Client f withdrawn bytes verdicts fields e))
-      (handed Client f withdrawn bytes verdicts fields e _ (reads_8 bytes fields (reads Client f withdrawn bytes verdicts fields e) k))
+      (handed Client f withdrawn bytes verdicts fields e _ (reads_card bytes fields (reads Client f withdrawn bytes verdicts fields e) k))
 
   -- "desks 5 to 8"
-  pub reply_kind : (fields.kind ≡ 5) ⊎ ((fields.kind ≡ 6) ⊎ ((fields.kind ≡ 7) ⊎ (fields.kind ≡ 8)))
-  reply_kind = client_kind (found Client f withdrawn bytes verdicts fields e).taken
+  pub reply_kind : (fields.kind ≡ Stamp) ⊎ ((fields.kind ≡ Prepared) ⊎ ((fields.kind ≡ Written) ⊎ (fields.kind ≡ Card)))
+  reply_kind = client_kind fields.kind (taken_kind Client bytes fields (reads Client f withdrawn bytes verdicts fields e) fields.kind refl)

@@ -1,12 +1,14 @@
 -- Proofs alone, with a digest of d bytes: what is written is read back, and what is read is written back. Assumes nothing.
-use Rattle.std.proofs.Common.{◌≡◌, ℕ, zero, suc, ◌+◌, ◌-◌, ◌*◌, ◌≤◌, eqb, List, [], ◌∷◌, ◌++◌, length, get_or, take, drop, sym, refl, ap, ◌∙◌, subst, append_assoc, append-nil, arith, length-append, length-drop, length-take-le, take_all, drop-drop, take_at, take-add, drop_at, eq-eqb, eqb-true}
+use Rattle.std.proofs.Common.{◌≡◌, ℕ, zero, suc, ◌+◌, ◌-◌, ◌*◌, ◌≤◌, eqb, List, [], ◌∷◌, ◌++◌, length, get_or, take, drop, sym, refl, ap, ◌∙◌, subst, append_assoc, append-nil, arith, length-append, length-drop, length-take-le, take_all, drop-drop, take_at, take-add, drop_at, eq-eqb, eqb-true, le-ltb}
 use lib.Seq.{split_at, get_or_at}
 use Rattle.base.specs.BigEndian.{from_bytes, to_bytes, Bytes}
 use Rattle.base.specs.Outcome.{accepted}
+use Rattle.base.specs.Timestamp.{of_number}
 use Rattle.base.proofs.BigEndian.{length_to_bytes, from_bytes_to_bytes}
 use Rattle.base.proofs.Outcome.{guard_passes, guard_accepted}
 use Rattle.wire.specs.Layout.{extent, proof_rule}
 use Rattle.wire.specs.Message.{EachFits, ProofFits}
+use Rattle.wire.specs.Parts.{timestamp_part}
 use Rattle.wire.specs.Proof.{Entry, Proof, entries_bytes, counted_entries, proof_bytes, read_entries, proof_from, read_proof}
 use Rattle.base.proofs.BigEndian.{bytes_take, bytes_drop}
 use Rattle.wire.proofs.Widths.{rewritten, below}
@@ -143,3 +145,8 @@ pub proof_rewritten : {d : ℕ} (bytes : List ℕ) (p : Proof d) → Bytes bytes
 proof_rewritten {d} bytes p small e =
     let found = proof_accepted bytes p e in
     subst (λ (q : Proof d). (proof_bytes q ≡ bytes) × ProofFits q) found.1 (proof_back d bytes found.0 small, proof_fits d bytes found.0 small)
+
+-- The timestamp in front of enough bytes.
+pub front_timestamp : (proof : List ℕ) → 5 ≤ length proof → timestamp_part proof ≡ of_number (from_bytes (take 5 proof))
+unfolding timestamp_part
+front_timestamp proof long = rw (le-ltb (length proof) 5 long)

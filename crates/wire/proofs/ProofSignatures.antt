@@ -1,6 +1,5 @@
 -- The signatures of a written proof by itself, by the parts that the code takes out of its bytes. Assumes nothing.
-use Rattle.std.proofs.Common.{◌≡◌, ℕ, ◌≤◌, true, false, eqb, List, length, sym, ◌∙◌, arith, length-drop, eqb-true}
-use mathlib.Core.Option.{none}
+use Rattle.std.proofs.Common.{◌≡◌, ℕ, true, false, eqb, List, length, sym, ◌∙◌, arith, length-drop, eqb-true}
 use lib.ListN.{get_elem?}
 use Rattle.base.specs.Outcome.{accepted, refused}
 use Rattle.base.specs.declared.party.RegisterId.{RegisterId}
@@ -10,7 +9,7 @@ use Rattle.wire.specs.Parts.{count_part, entries_part}
 use Rattle.wire.specs.Proof.{proof_from, read_proof}
 use Rattle.wire.specs.Signatures.{written_signatures, handed_signatures, handed_signature, EntriesStand}
 use Rattle.wire.proofs.AdmittedProof.{is_proof, its_count}
-use Rattle.wire.proofs.MessageSignatures.{length_signed, behind_all}
+use Rattle.wire.proofs.MessageSignatures.{length_signed}
 
 module _ (x : RegisterId) (bytes : List ℕ) where
   module _ (broken : eqb (extent written_rule bytes) (length bytes) ≡ false) where
@@ -37,9 +36,6 @@ module _ (x : RegisterId) (bytes : List ℕ) where
     pub found_at : (i : ℕ) → handed_signature x bytes i ≡ accepted (get_elem? (written_signatures x (proof_from 0 bytes)) i)
     unfolding handed_signature
     found_at i = rw (is_proof bytes whole)
-
-    pub none_behind : (i : ℕ) → count_part 0 bytes ≤ i → handed_signature x bytes i ≡ accepted none
-    none_behind i past = let all = size in found_at i ∙ rw (behind_all (written_signatures x (proof_from 0 bytes)) i (omega arith))
 
     pub entries_stand : EntriesStand 0 bytes
     unfolding count_part entries_part

@@ -9,11 +9,14 @@ use Rattle.base.specs.declared.party.RegisterId.{RegisterId}
 use Rattle.base.proofs.Timestamps.{number_of_number}
 use Rattle.base.proofs.Outcome.{guard_alike}
 use Rattle.base.proofs.Apart.{apart}
-use Rattle.wire.specs.Decode.{Kind, kinds, suits, of_kind, good_map, framed, tested, message_in, for_register, decode, register_in, reading, fields_in, kind_in, client_in, replica_in, nonce_in, timestamp_in, digest_in, card_in, addressed_in, optional, proof_in}
+use Rattle.wire.specs.Decode.{Row, kinds, suits, of_kind, good_map, framed, tested, message_in, for_register, decode, register_in, reading, fields_in, kind_in, client_in, replica_in, nonce_in, timestamp_in, digest_in, card_in, addressed_in, optional, proof_in}
+use Rattle.wire.specs.Kind.{kind_number, kind_of_number, kind_there}
 use Rattle.wire.specs.Layout.{rules, map_in, place, field}
 use Rattle.wire.specs.Message.{Message, READ-STAMP, PREPARE, WRITE, READ, STAMP, PREPARED, WRITTEN, CARD, longest}
 use Rattle.wire.specs.Proof.{Proof, proof_from, read_proof}
 use Rattle.wire.specs.declared.message.Fields.{Fields}
+use Rattle.wire.specs.declared.message.Kind.{Kind}
+use Rattle.wire.specs.declared.message.Kind.TheVariants.{ReadStamp, Prepare, Write, Read, Stamp, Prepared, Written, Card}
 use Rattle.wire.specs.declared.message.Party.{Party}
 use Rattle.wire.specs.declared.message.Party.TheVariants.{Replica, Client}
 use Rattle.wire.proofs.FieldPlaces.{Framed, framed_passes, framed_accepted, field_whole, place_rises, place_within, place_one, place_two}
@@ -77,13 +80,13 @@ pub record Tested (party : Party) (bytes : List ℕ) : Type 1 where
   pub framed : Framed bytes
   pub passed : HasRow party (map_in bytes) (kind_in bytes)
 
-pub tested_accepted : {A : Type 0} (party : Party) (bytes : List ℕ) (next : Kind → Outcome A) (a : A) → tested party bytes next ≡ accepted a → Tested party bytes
+pub tested_accepted : {A : Type 0} (party : Party) (bytes : List ℕ) (next : Row → Outcome A) (a : A) → tested party bytes next ≡ accepted a → Tested party bytes
 tested_accepted party bytes next a e =
     let found = framed_accepted bytes (of_kind party (map_in bytes) (kind_in bytes) kinds next) a e in
     record { framed = found.0; passed = accepted_passed party (map_in bytes) (kind_in bytes) next a found.1 }
 
 module _ (party : Party) (bytes : List ℕ) (t : Tested party bytes) where
-  tested_passes : (A : Type 0) (next : Kind → Outcome A) → tested party bytes next ≡ next (row (kind_in bytes))
+  tested_passes : (A : Type 0) (next : Row → Outcome A) → tested party bytes next ≡ next (row (kind_in bytes))
   tested_passes A next = framed_passes bytes (of_kind party (map_in bytes) (kind_in bytes) kinds next) t.framed ∙ t.passed.passes A next
 
   -- Then the bytes are a message, and reading accepts.
@@ -95,6 +98,17 @@ module _ (party : Party) (bytes : List ℕ) (t : Tested party bytes) where
   unfolding reading
   reading_tested = tested_passes Fields (λ row. accepted (fields_in bytes))
 
+-- Bytes that the table lets through are read with the kind of their number.
+kind_kept : {map number : ℕ} {party : Party} → Taken map number party → kind_number (kind_there (kind_of_number number)) ≡ number
+kind_kept (read_stamp e) = refl
+kind_kept (prepare e) = refl
+kind_kept (write e) = refl
+kind_kept (read e) = refl
+kind_kept (stamp e) = refl
+kind_kept (prepared e) = refl
+kind_kept (written e) = refl
+kind_kept (card e) = refl
+
 -- What an accepted reading says.
 pub record Parsed (party : Party) (bytes : List ℕ) (fs : Fields) : Type 0 where
   pub same : fs ≡ fields_in bytes
@@ -104,7 +118,8 @@ pub record Parsed (party : Party) (bytes : List ℕ) (fs : Fields) : Type 0 wher
   pub third : place bytes 2 ≡ 4
   pub rises : (a b : ℕ) → a ≤ b → place bytes a ≤ place bytes b
   pub inside : (b : ℕ) → b ≤ 10 → place bytes b + 64 ≤ length bytes
-  pub taken : Taken (map_in bytes) fs.kind party
+  pub taken : Taken (map_in bytes) (kind_in bytes) party
+  pub kind : kind_number fs.kind ≡ kind_in bytes
   pub decodes : message_in party bytes ≡ accepted (message_of taken bytes)
 
 module _ (party : Party) (bytes : List ℕ) (fs : Fields) (e : reading party bytes ≡ accepted fs) where
@@ -126,75 +141,85 @@ module _ (party : Party) (bytes : List ℕ) (fs : Fields) (e : reading party byt
         rises = place_rises bytes;
         inside = place_within bytes t.framed;
         taken = t.passed.taken;
+        kind = kind_kept t.passed.taken;
         decodes = message_tested party bytes t;
       }
       in
       subst (λ (fs : Fields). Parsed party bytes fs) same first
 
-module _ (party : Party) (bytes : List ℕ) (fs : Fields) (e : reading party bytes ≡ accepted fs) (k : ℕ) (same : fs.kind ≡ k) where
-  -- The bits of a kind: of these constructors one is left to match.
-  pub taken_kind : Taken (map_in bytes) k party
-  taken_kind = subst (λ (n : ℕ). Taken (map_in bytes) n party) same (parsed party bytes fs e).taken
+module _ (party : Party) (bytes : List ℕ) (fs : Fields) (e : reading party bytes ≡ accepted fs) (k : Kind) (same : fs.kind ≡ k) where
+  number_is : kind_in bytes ≡ kind_number k
+  number_is = sym (parsed party bytes fs e).kind ∙ ap kind_number same
 
-  kind_row : message_in party bytes ≡ (row k).message bytes
-  unfolding message_in fields_in
+  -- The bits of a kind: of these constructors one is left to match.
+  pub taken_kind : Taken (map_in bytes) (kind_number k) party
+  taken_kind = subst (λ (n : ℕ). Taken (map_in bytes) n party) number_is (parsed party bytes fs e).taken
+
+  kind_row : message_in party bytes ≡ (row (kind_number k)).message bytes
+  unfolding message_in
   kind_row =
-      let p = parsed party bytes fs e in
-      let kind : kind_in bytes ≡ k = ap (λ (f : Fields). f.kind) (sym p.same) ∙ same in
-      tested_passes party bytes (reading_passed party bytes fs e) Message (λ row. row.message bytes) ∙ ap (λ (n : ℕ). (row n).message bytes) kind
+      tested_passes party bytes (reading_passed party bytes fs e) Message (λ row. row.message bytes) ∙ ap (λ (n : ℕ). (row n).message bytes) number_is
 
 write_set : {map : ℕ} → Taken map 3 Replica → bit map 6 ≡ true
 write_set (write e) = cc
 
 -- The message, kind by kind.
-pub reads_1 : (bytes : List ℕ) (fs : Fields) → reading Replica bytes ≡ accepted fs → fs.kind ≡ 1 → message_in Replica bytes ≡ accepted (READ-STAMP (record { 0 = fs.sender }) fs.nonce)
+pub reads_read_stamp : (bytes : List ℕ) (fs : Fields) → reading Replica bytes ≡ accepted fs → fs.kind ≡ ReadStamp → message_in Replica bytes ≡ accepted (READ-STAMP (record { 0 = fs.sender }) fs.nonce)
 unfolding row kinds fields_in
-reads_1 bytes fs e k = let p = parsed Replica bytes fs e in rw (kind_row Replica bytes fs e 1 k, p.same)
+reads_read_stamp bytes fs e k = let p = parsed Replica bytes fs e in rw (kind_row Replica bytes fs e ReadStamp k, p.same)
 
-pub reads_2 : (bytes : List ℕ) (fs : Fields) → reading Replica bytes ≡ accepted fs → fs.kind ≡ 2 → message_in Replica bytes ≡ accepted (PREPARE (record { 0 = fs.sender }) (number fs.timestamp) (digest_in bytes) (proof_at 32 6 bytes) (proof_at 0 7 bytes))
+pub reads_prepare : (bytes : List ℕ) (fs : Fields) → reading Replica bytes ≡ accepted fs → fs.kind ≡ Prepare → message_in Replica bytes ≡ accepted (PREPARE (record { 0 = fs.sender }) (number fs.timestamp) (digest_in bytes) (proof_at 32 6 bytes) (proof_at 0 7 bytes))
 unfolding row kinds fields_in
-reads_2 bytes fs e k = let p = parsed Replica bytes fs e in rw (kind_row Replica bytes fs e 2 k, p.same, proof_in_lem bytes p.framed prepared_bit, proof_in_lem bytes p.framed written_bit, number_of_number (timestamp_in bytes))
+reads_prepare bytes fs e k = let p = parsed Replica bytes fs e in rw (kind_row Replica bytes fs e Prepare k, p.same, proof_in_lem bytes p.framed prepared_bit, proof_in_lem bytes p.framed written_bit, number_of_number (timestamp_in bytes))
 
-pub reads_3 : (bytes : List ℕ) (fs : Fields) → reading Replica bytes ≡ accepted fs → fs.kind ≡ 3 → message_in Replica bytes ≡ accepted (WRITE (record { 0 = fs.sender }) (card_in bytes) (proof_from 32 (field bytes 6)))
+pub reads_write : (bytes : List ℕ) (fs : Fields) → reading Replica bytes ≡ accepted fs → fs.kind ≡ Write → message_in Replica bytes ≡ accepted (WRITE (record { 0 = fs.sender }) (card_in bytes) (proof_from 32 (field bytes 6)))
 unfolding row kinds fields_in
-reads_3 bytes fs e k = let p = parsed Replica bytes fs e in rw (kind_row Replica bytes fs e 3 k, p.same, proof_reads bytes p.framed prepared_bit (write_set (taken_kind Replica bytes fs e 3 k)))
+reads_write bytes fs e k = let p = parsed Replica bytes fs e in rw (kind_row Replica bytes fs e Write k, p.same, proof_reads bytes p.framed prepared_bit (write_set (taken_kind Replica bytes fs e Write k)))
 
-pub reads_4 : (bytes : List ℕ) (fs : Fields) → reading Replica bytes ≡ accepted fs → fs.kind ≡ 4 → message_in Replica bytes ≡ accepted (READ (record { 0 = fs.sender }) fs.nonce)
+pub reads_read : (bytes : List ℕ) (fs : Fields) → reading Replica bytes ≡ accepted fs → fs.kind ≡ Read → message_in Replica bytes ≡ accepted (READ (record { 0 = fs.sender }) fs.nonce)
 unfolding row kinds fields_in
-reads_4 bytes fs e k = let p = parsed Replica bytes fs e in rw (kind_row Replica bytes fs e 4 k, p.same)
+reads_read bytes fs e k = let p = parsed Replica bytes fs e in rw (kind_row Replica bytes fs e Read k, p.same)
 
-pub reads_5 : (bytes : List ℕ) (fs : Fields) → reading Client bytes ≡ accepted fs → fs.kind ≡ 5 → message_in Client bytes ≡ accepted (STAMP (record { 0 = fs.sender }) fs.nonce (proof_at 32 6 bytes) fs.addressed)
+pub reads_stamp : (bytes : List ℕ) (fs : Fields) → reading Client bytes ≡ accepted fs → fs.kind ≡ Stamp → message_in Client bytes ≡ accepted (STAMP (record { 0 = fs.sender }) fs.nonce (proof_at 32 6 bytes) fs.addressed)
 unfolding row kinds fields_in
-reads_5 bytes fs e k = let p = parsed Client bytes fs e in rw (kind_row Client bytes fs e 5 k, p.same, proof_in_lem bytes p.framed prepared_bit)
+reads_stamp bytes fs e k = let p = parsed Client bytes fs e in rw (kind_row Client bytes fs e Stamp k, p.same, proof_in_lem bytes p.framed prepared_bit)
 
-pub reads_6 : (bytes : List ℕ) (fs : Fields) → reading Client bytes ≡ accepted fs → fs.kind ≡ 6 → message_in Client bytes ≡ accepted (PREPARED (record { 0 = fs.sender }) (number fs.timestamp) (digest_in bytes))
+pub reads_prepared : (bytes : List ℕ) (fs : Fields) → reading Client bytes ≡ accepted fs → fs.kind ≡ Prepared → message_in Client bytes ≡ accepted (PREPARED (record { 0 = fs.sender }) (number fs.timestamp) (digest_in bytes))
 unfolding row kinds fields_in
-reads_6 bytes fs e k = let p = parsed Client bytes fs e in rw (kind_row Client bytes fs e 6 k, p.same, number_of_number (timestamp_in bytes))
+reads_prepared bytes fs e k = let p = parsed Client bytes fs e in rw (kind_row Client bytes fs e Prepared k, p.same, number_of_number (timestamp_in bytes))
 
-pub reads_7 : (bytes : List ℕ) (fs : Fields) → reading Client bytes ≡ accepted fs → fs.kind ≡ 7 → message_in Client bytes ≡ accepted (WRITTEN (record { 0 = fs.sender }) (number fs.timestamp))
+pub reads_written : (bytes : List ℕ) (fs : Fields) → reading Client bytes ≡ accepted fs → fs.kind ≡ Written → message_in Client bytes ≡ accepted (WRITTEN (record { 0 = fs.sender }) (number fs.timestamp))
 unfolding row kinds fields_in
-reads_7 bytes fs e k = let p = parsed Client bytes fs e in rw (kind_row Client bytes fs e 7 k, p.same, number_of_number (timestamp_in bytes))
+reads_written bytes fs e k = let p = parsed Client bytes fs e in rw (kind_row Client bytes fs e Written k, p.same, number_of_number (timestamp_in bytes))
 
-pub reads_8 : (bytes : List ℕ) (fs : Fields) → reading Client bytes ≡ accepted fs → fs.kind ≡ 8 → message_in Client bytes ≡ accepted (CARD (record { 0 = fs.sender }) fs.nonce (card_in bytes) (proof_at 32 6 bytes) fs.addressed)
+pub reads_card : (bytes : List ℕ) (fs : Fields) → reading Client bytes ≡ accepted fs → fs.kind ≡ Card → message_in Client bytes ≡ accepted (CARD (record { 0 = fs.sender }) fs.nonce (card_in bytes) (proof_at 32 6 bytes) fs.addressed)
 unfolding row kinds fields_in
-reads_8 bytes fs e k = let p = parsed Client bytes fs e in rw (kind_row Client bytes fs e 8 k, p.same, proof_in_lem bytes p.framed prepared_bit)
+reads_card bytes fs e k = let p = parsed Client bytes fs e in rw (kind_row Client bytes fs e Card k, p.same, proof_in_lem bytes p.framed prepared_bit)
 
 -- "holders 1 to 4, desks 5 to 8"
-pub replica_kind : {map kind : ℕ} → Taken map kind Replica → (kind ≡ 1) ⊎ ((kind ≡ 2) ⊎ ((kind ≡ 3) ⊎ (kind ≡ 4)))
-replica_kind (read_stamp e) = inl refl
-replica_kind (prepare e) = inr (inl refl)
-replica_kind (write e) = inr (inr (inl refl))
-replica_kind (read e) = inr (inr (inr refl))
+pub replica_kind : {map : ℕ} (kind : Kind) → Taken map (kind_number kind) Replica → (kind ≡ ReadStamp) ⊎ ((kind ≡ Prepare) ⊎ ((kind ≡ Write) ⊎ (kind ≡ Read)))
+replica_kind ReadStamp t = inl refl
+replica_kind Prepare t = inr (inl refl)
+replica_kind Write t = inr (inr (inl refl))
+replica_kind Read t = inr (inr (inr refl))
+replica_kind Stamp t = elim t [ ]
+replica_kind Prepared t = elim t [ ]
+replica_kind Written t = elim t [ ]
+replica_kind Card t = elim t [ ]
 
-pub client_kind : {map kind : ℕ} → Taken map kind Client → (kind ≡ 5) ⊎ ((kind ≡ 6) ⊎ ((kind ≡ 7) ⊎ (kind ≡ 8)))
-client_kind (stamp e) = inl refl
-client_kind (prepared e) = inr (inl refl)
-client_kind (written e) = inr (inr (inl refl))
-client_kind (card e) = inr (inr (inr refl))
+pub client_kind : {map : ℕ} (kind : Kind) → Taken map (kind_number kind) Client → (kind ≡ Stamp) ⊎ ((kind ≡ Prepared) ⊎ ((kind ≡ Written) ⊎ (kind ≡ Card)))
+client_kind ReadStamp t = elim t [ ]
+client_kind Prepare t = elim t [ ]
+client_kind Write t = elim t [ ]
+client_kind Read t = elim t [ ]
+client_kind Stamp t = inl refl
+client_kind Prepared t = inr (inl refl)
+client_kind Written t = inr (inr (inl refl))
+client_kind Card t = inr (inr (inr refl))
 
 -- Outcomes that only the tests refuse, refused alike whatever follows.
 module _ {A B : Type 0} (n : ℕ) where
-  rows_alike : (party : Party) (map number : ℕ) (rows : List Kind) (a : A) (next : Kind → Outcome B)
+  rows_alike : (party : Party) (map number : ℕ) (rows : List Row) (a : A) (next : Row → Outcome B)
       → of_kind party map number rows (λ row. accepted a) ≡ refused n → of_kind party map number rows next ≡ refused n
   unfolding of_kind
   rows_alike party map number [] a next e = cc
@@ -206,7 +231,7 @@ module _ {A B : Type 0} (n : ℕ) where
       go ih true e = guard_alike n 5 (suits party map r) (accepted a) (next r) (λ z. apart (cc)) e
       go ih false e = ih e
 
-  tested_alike : (party : Party) (bytes : List ℕ) (a : A) (next : Kind → Outcome B) → tested party bytes (λ row. accepted a) ≡ refused n → tested party bytes next ≡ refused n
+  tested_alike : (party : Party) (bytes : List ℕ) (a : A) (next : Row → Outcome B) → tested party bytes (λ row. accepted a) ≡ refused n → tested party bytes next ≡ refused n
   unfolding framed
   tested_alike party bytes a next e =
       let x = of_kind party (map_in bytes) (kind_in bytes) kinds (λ row. accepted a) in

@@ -6,7 +6,7 @@ use Rattle.base.specs.BitMap.{bit, map_of}
 use Rattle.base.specs.Outcome.{Outcome, accepted}
 use Rattle.base.specs.declared.party.RegisterId.{RegisterId}
 use Rattle.base.proofs.BigEndian.{length_to_bytes, from_bytes_to_bytes}
-use Rattle.wire.specs.Decode.{Kind, kinds, of_kind, tested, message_in, for_register, decode, taker_of, kind_in, register_in, optional, proof_in}
+use Rattle.wire.specs.Decode.{Row, kinds, of_kind, tested, message_in, for_register, decode, taker_of, kind_in, register_in, optional, proof_in}
 use Rattle.wire.specs.Layout.{map_in, place, field, signature}
 use Rattle.wire.specs.Message.{Message, READ-STAMP, PREPARE, WRITE, READ, STAMP, PREPARED, WRITTEN, CARD, kind_of, proof_field, fields, joined, body, encode, IsSignature, ProofFits, IfThere, Fits, Legal, size}
 use Rattle.wire.specs.Proof.{Proof, read_proof}
@@ -178,7 +178,7 @@ module _ (x : RegisterId) (m : Message) (s : List ℕ) (legal : Legal x m) (sig 
       let signed = sig.0 in
       record { long = omega arith; short = omega arith; good = rw (map_encoded x m s legal.fits) (good_map_lem x m); ends = omega arith }
 
-  tested_encoded : {A : Type 0} (party : Party) (next : Kind → Outcome A) → tested party (encode x m s) next ≡ of_kind party (map_of (fields x m)) (kind_of m) kinds next
+  tested_encoded : {A : Type 0} (party : Party) (next : Row → Outcome A) → tested party (encode x m s) next ≡ of_kind party (map_of (fields x m)) (kind_of m) kinds next
   tested_encoded party next =
       framed_passes (encode x m s) (of_kind party (map_in (encode x m s)) (kind_in (encode x m s)) kinds next) encoded_framed
       ∙ ap (λ (k : ℕ). of_kind party (map_in (encode x m s)) k kinds next) (kind_encoded x m s legal.fits)
@@ -188,7 +188,7 @@ module _ (x : RegisterId) (m : Message) (s : List ℕ) (legal : Legal x m) (sig 
   message_encode : message_in (taker_of m) (encode x m s) ≡ accepted m
   unfolding message_in
   message_encode =
-      let next : Kind → Outcome Message = λ row. row.message (encode x m s) in
+      let next : Row → Outcome Message = λ row. row.message (encode x m s) in
       tested_encoded (taker_of m) next ∙ own_row x m next ∙ row_encoded x m s legal.fits
 
   pub decode_encode : decode (taker_of m) (encode x m s) ≡ accepted (x, m)

@@ -8,7 +8,7 @@ use Rattle.base.specs.declared.party.RegisterId.{RegisterId}
 use Rattle.base.proofs.Booleans.{and_true_both}
 use Rattle.base.proofs.Outcome.{guard_passes, guard_accepted}
 use Rattle.base.proofs.Apart.{apart}
-use Rattle.wire.specs.Decode.{Kind, kinds, of_kind, same_party, suits, map_with, without, good_map, taker_of}
+use Rattle.wire.specs.Decode.{Row, kinds, of_kind, same_party, suits, map_with, without, good_map, taker_of}
 use Rattle.wire.specs.Message.{Message, READ-STAMP, PREPARE, WRITE, READ, STAMP, PREPARED, WRITTEN, CARD, kind_of, fields}
 use Rattle.wire.specs.declared.message.Party.{Party}
 use Rattle.wire.specs.declared.message.Party.TheVariants.{Replica, Client}
@@ -17,14 +17,14 @@ no_true : {A : Type 0} → ◌≡◌ {A = Bool} false true → A
 no_true e = apart (cc)
 
 -- The row of a kind.
-abbrev no_row : Kind
+abbrev no_row : Row
 no_row = record { number = 0; taker = Replica; must = []; may = []; message = λ bytes. refused 5 }
 
-unfoldable pub row : ℕ → Kind
+unfoldable pub row : ℕ → Row
 row k = get_or kinds (k - 1) no_row
 
 -- The bits of a message are its row's, and its taker takes it.
-pub own_row : {A : Type 0} (x : RegisterId) (m : Message) (next : Kind → Outcome A) → of_kind (taker_of m) (map_of (fields x m)) (kind_of m) kinds next ≡ next (row (kind_of m))
+pub own_row : {A : Type 0} (x : RegisterId) (m : Message) (next : Row → Outcome A) → of_kind (taker_of m) (map_of (fields x m)) (kind_of m) kinds next ≡ next (row (kind_of m))
 unfolding of_kind kinds row fields guard
 own_row x (READ-STAMP c n) next = refl
 own_row x (PREPARE c t d none none) next = refl
@@ -120,11 +120,11 @@ same_party_lem Client Client e = refl
 
 -- Which row lets a kind and a map through.
 module _ (party : Party) (map number : ℕ) where
-  abbrev Among : List Kind → Type 0
+  abbrev Among : List Row → Type 0
   Among [] = ⊥
   Among (r ∷ rows) = ((number ≡ r.number) × (suits party map r ≡ true)) ⊎ Among rows
 
-  among : {A : Type 0} (rows : List Kind) (next : Kind → Outcome A) (a : A) → of_kind party map number rows next ≡ accepted a → Among rows
+  among : {A : Type 0} (rows : List Row) (next : Row → Outcome A) (a : A) → of_kind party map number rows next ≡ accepted a → Among rows
   unfolding of_kind
   among [] next a e = apart (cc)
   among (r ∷ rows) next a e = go (among rows next a) (eqb number r.number) refl e
@@ -137,10 +137,10 @@ module _ (party : Party) (map number : ℕ) where
   -- A row let through: the outcome is that row's.
   pub record HasRow : Type 1 where
     pub taken : Taken map number party
-    pub passes : (A : Type 0) (next : Kind → Outcome A) → of_kind party map number kinds next ≡ next (row number)
+    pub passes : (A : Type 0) (next : Row → Outcome A) → of_kind party map number kinds next ≡ next (row number)
 
   pass : (k : ℕ) → (number ≡ k) × (suits party map (row k) ≡ true)
-      → ((A : Type 0) (next : Kind → Outcome A) → of_kind party map k kinds next ≡ guard 5 (suits party map (row k)) (next (row k)))
+      → ((A : Type 0) (next : Row → Outcome A) → of_kind party map k kinds next ≡ guard 5 (suits party map (row k)) (next (row k)))
       → (without (row k).may map ≡ map_with (row k).must → Taken map k (row k).taker) → HasRow
   pass k h table take =
       let r = row k in
@@ -163,5 +163,5 @@ module _ (party : Party) (map number : ℕ) where
   passed (inr (inr (inr (inr (inr (inr (inr (inl h)))))))) = pass 8 h (λ A next. refl) (λ e. card (card_bits map e))
   passed (inr (inr (inr (inr (inr (inr (inr (inr h)))))))) = absurd h
 
-  pub accepted_passed : {A : Type 0} (next : Kind → Outcome A) (a : A) → of_kind party map number kinds next ≡ accepted a → HasRow
+  pub accepted_passed : {A : Type 0} (next : Row → Outcome A) (a : A) → of_kind party map number kinds next ≡ accepted a → HasRow
   accepted_passed next a e = passed (among kinds next a e)

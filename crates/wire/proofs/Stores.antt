@@ -1,13 +1,12 @@
 -- Bytes stored one after the other, and a whole message so written. Assumes nothing.
-use Rattle.std.proofs.Common.{◌≡◌, ℕ, suc, ◌+◌, ◌<◌, ◌≤◌, true, false, leb, List, [], ◌∷◌, ◌++◌, length, take, drop, set, sym, refl, ap, ◌∙◌, subst, append_assoc, append-nil, add-one, arith, length-append, length-drop, take-append-drop, length-take-le, take_all, drop-drop, take_at, le-leb}
+use Rattle.std.proofs.Common.{◌≡◌, ℕ, ◌+◌, ◌<◌, ◌≤◌, true, false, leb, List, ◌++◌, length, take, drop, sym, ap, ◌∙◌, subst, append_assoc, arith, length-append, length-drop, length-take-le, drop-drop, take_at, le-leb}
 use borrow.Author.Tests.{lt-leb}
-use lib.Seq.{drop-append-add, set_split, append_snoc}
-use Rattle.base.specs.Outcome.{accepted}
+use lib.Seq.{drop-append-add}
+use Rattle.base.specs.Outcome.{accepted, refused}
 use Rattle.base.proofs.Outcome.{guard_passes, guard_refuses}
 use Rattle.wire.specs.Message.{longest}
 use Rattle.wire.specs.Putting.{Put}
 use Rattle.wire.specs.Writing.{Wrote}
-use Rattle.wire.specs.declared.writer.Encoded.TheVariants.{Length, Refused}
 
 -- Two stores, the second where the first ends, are one.
 pub then : {old : List ℕ} {at : ℕ} {s : List ℕ} {m next : ℕ} {mid t : List ℕ} {k next' : ℕ} {new : List ℕ}
@@ -41,27 +40,8 @@ restated {old} {at} {s} {t} {m} {next} {new} k e wider a =
     let b : Put old at s k next new = record { behind = a.behind; short = omega (arith, a.short); room = a.room; holds = a.holds } in
     subst (λ (l : List ℕ). Put old at l k next new) e b
 
--- All of some bytes are as many as they are.
-pub all_of : {old : List ℕ} {at : ℕ} {s : List ℕ} {n next : ℕ} {new : List ℕ} → length s ≡ n → Put old at (take n s) n next new → Put old at s n next new
-all_of {s = s} {n} e a = restated n (take_all n s (omega arith)) (omega arith) a
-
--- One byte.
-pub one_byte : (old : List ℕ) (at b : ℕ) → at < length old → Put old at (b ∷ []) 1 (at + 1) (set old at b)
-one_byte old at b h =
-    record {
-      behind = refl;
-      short = omega arith;
-      room = omega arith;
-      holds = set_split old at b h ∙ sym (append_snoc (take at old) b (drop (suc at) old)) ∙ rw add-one;
-    }
-
-pub put_nothing : (old : List ℕ) (at m : ℕ) → at ≤ length old → Put old at [] m at old
-put_nothing old at m h =
-    let none : at + 0 ≡ at = omega arith in
-    record { behind = sym none; short = omega arith; room = h; holds = rw none (simp (append-nil, take-append-drop)) }
-
 -- A message stored from the front of an output that is long enough.
-pub wrote : {old s bytes : List ℕ} {most next : ℕ} {new : List ℕ} → s ≡ bytes → longest ≤ length old → Put old 0 s most next new → Wrote old bytes (Length next) new
+pub wrote : {old s bytes : List ℕ} {most next : ℕ} {new : List ℕ} → s ≡ bytes → longest ≤ length old → Put old 0 s most next new → Wrote old bytes (accepted next) new
 wrote {old} {s} {bytes} {most} {next} {new} e enough a =
     let b : Put old 0 bytes most next new = subst (λ (l : List ℕ). Put old 0 l most next new) e a in
     let all : next ≡ length bytes = omega (arith, b.behind) in
@@ -69,7 +49,7 @@ wrote {old} {s} {bytes} {most} {next} {new} e enough a =
     let roomy : leb longest (length old) ≡ true = le-leb longest (length old) enough in
     record { answered = rw all (sym (guard_passes 1 (leb longest (length old)) (accepted (length bytes)) roomy)); holds = b.holds ∙ rw (none, roomy) }
 
-pub turned_down : {old bytes : List ℕ} → length old < longest → Wrote old bytes (Refused 1) old
+pub turned_down : {old bytes : List ℕ} → length old < longest → Wrote old bytes (refused 1) old
 turned_down {old} {bytes} less =
     let short : leb longest (length old) ≡ false = lt-leb longest (length old) less in
     record { answered = sym (guard_refuses 1 (leb longest (length old)) (accepted (length bytes)) short); holds = rw short }

@@ -1,9 +1,10 @@
 -- One test over all of a list of verdicts. Assumes nothing.
-use Rattle.std.proofs.Common.{◌≡◌, ℕ, ◌+◌, ◌<◌, ◌≤◌, max, Bool, true, false, ◌&&◌, eqb, leb, List, [], ◌∷◌, ◌++◌, length, get_or, drop, sym, refl, ◌∙◌, add-one, arith, drop-cons, eq-eqb, ne_eqb, eqb-true, le-leb, leb-false, leb-true}
+use Rattle.std.proofs.Common.{◌≡◌, ℕ, ◌+◌, ◌<◌, ◌≤◌, max, Bool, true, false, ◌&&◌, eqb, leb, List, [], ◌∷◌, ◌++◌, length, get_or, take, drop, sym, refl, ap, ◌∙◌, add-one, arith, drop-cons, drop-drop, take-append-drop, eq-eqb, ne_eqb, eqb-true, le-leb, leb-false, leb-true}
 use mathlib.Core.Bool.{and_assoc}
 use borrow.Author.Tests.{eqb-false, lt-leb}
 use Rattle.base.specs.BigEndian.{from_bytes}
-use Rattle.wire.specs.Checks.{all}
+use Rattle.wire.specs.Checks.{all, genuine}
+use Rattle.wire.proofs.Windows.{front}
 
 -- What is left from an index on is the element there and what is left behind it.
 pub all_step : (test : ℕ → Bool) (xs : List ℕ) (i : ℕ) → i < length xs → all test (drop i xs) ≡ (test (get_or xs i 0) && all test (drop (i + 1) xs))
@@ -30,9 +31,9 @@ up_to_larger m x h rest = go (leb m h) (leb x h) refl refl
     go false q em ex = rw (lt-leb (max m x) h (omega (arith, leb-false m h em)))
 
 -- Four bytes are 1 if the number that they write is.
-pub four_ones : (a b c d : ℕ) → a < 256 → b < 256 → c < 256 → d < 256 → eqb (from_bytes (a ∷ b ∷ c ∷ d ∷ [])) 0x0101_0101 ≡ all (λ v. eqb v 1) (a ∷ b ∷ c ∷ d ∷ [])
+ones : (a b c d : ℕ) → a < 256 → b < 256 → c < 256 → d < 256 → eqb (from_bytes (a ∷ b ∷ c ∷ d ∷ [])) 0x0101_0101 ≡ all (λ v. eqb v 1) (a ∷ b ∷ c ∷ d ∷ [])
 unfolding all from_bytes
-four_ones a b c d ha hb hc hd = go (eqb a 1) (eqb b 1) (eqb c 1) (eqb d 1) refl refl refl refl
+ones a b c d ha hb hc hd = go (eqb a 1) (eqb b 1) (eqb c 1) (eqb d 1) refl refl refl refl
   where
     go : (p q r s : Bool) → eqb a 1 ≡ p → eqb b 1 ≡ q → eqb c 1 ≡ r → eqb d 1 ≡ s → eqb (from_bytes (a ∷ b ∷ c ∷ d ∷ [])) 0x0101_0101 ≡ (p && (q && (r && (s && true))))
     go true true true true ea eb ec ed = eq-eqb (from_bytes (a ∷ b ∷ c ∷ d ∷ [])) 0x0101_0101 (omega (arith, eqb-true a 1 ea, eqb-true b 1 eb, eqb-true c 1 ec, eqb-true d 1 ed))
@@ -41,23 +42,19 @@ four_ones a b c d ha hb hc hd = go (eqb a 1) (eqb b 1) (eqb c 1) (eqb d 1) refl 
     go true false r s ea eb ec ed = ne_eqb (from_bytes (a ∷ b ∷ c ∷ d ∷ [])) 0x0101_0101 (λ e. eqb-false b 1 eb (omega (arith, e)))
     go false q r s ea eb ec ed = ne_eqb (from_bytes (a ∷ b ∷ c ∷ d ∷ [])) 0x0101_0101 (λ e. eqb-false a 1 ea (omega (arith, e)))
 
-apart : (a b c d rest : Bool) → (a && (b && (c && (d && rest)))) ≡ ((a && (b && (c && (d && true)))) && rest)
-apart true true true true rest = refl
-apart true true true false rest = refl
-apart true true false d rest = refl
-apart true false c d rest = refl
-apart false b c d rest = refl
+-- Four verdicts from a place on as one number, and what is left behind them.
+module _ (s : List ℕ) (bytes : (i : ℕ) → get_or s i 0 < 256) (at : ℕ) (room : at + 4 ≤ length s) where
+  abbrev four : ℕ
+  four = from_bytes (take 4 (drop at s))
 
--- What is left from an index on is the four elements there and what is left behind them.
-pub all_four : (test : ℕ → Bool) (xs : List ℕ) (i : ℕ) → i + 4 ≤ length xs
-    → all test (drop i xs) ≡ (all test (get_or xs i 0 ∷ get_or xs (i + 1) 0 ∷ get_or xs (i + 2) 0 ∷ get_or xs (i + 3) 0 ∷ []) && all test (drop (i + 4) xs))
-unfolding all
-all_four test xs i h =
-    let e₂ : i + 1 + 1 ≡ i + 2 = omega arith in
-    let e₃ : i + 2 + 1 ≡ i + 3 = omega arith in
-    let e₄ : i + 3 + 1 ≡ i + 4 = omega arith in
-    let s₁ = all_step test xs i (omega arith) in
-    let s₂ = rw e₂ at (all_step test xs (i + 1) (omega arith)) in
-    let s₃ = rw e₃ at (all_step test xs (i + 2) (omega arith)) in
-    let s₄ = rw e₄ at (all_step test xs (i + 3) (omega arith)) in
-    s₁ ∙ rw (s₂, s₃, s₄) (apart (test (get_or xs i 0)) (test (get_or xs (i + 1) 0)) (test (get_or xs (i + 2) 0)) (test (get_or xs (i + 3) 0)) (all test (drop (i + 4) xs)))
+  genuine_front : genuine (drop at s) ≡ (eqb four 0x0101_0101 && genuine (drop (at + 4) s))
+  genuine_front =
+      ap genuine (sym (take-append-drop 4 (drop at s)))
+      ∙ all_append (λ v. eqb v 1) (take 4 (drop at s)) (drop 4 (drop at s))
+      ∙ rw (drop-drop 4 at s, front s at 3 room) (ap (λ (b : Bool). b && genuine (drop (at + 4) s)) (sym (ones (get_or s at 0) (get_or s (at + 1) 0) (get_or s (at + 2) 0) (get_or s (at + 3) 0) (bytes at) (bytes (at + 1)) (bytes (at + 2)) (bytes (at + 3)))))
+
+  pub four_genuine : four ≡ 0x0101_0101 → genuine (drop at s) ≡ genuine (drop (at + 4) s)
+  four_genuine e = genuine_front ∙ rw (eq-eqb four 0x0101_0101 e)
+
+  pub four_forged : (four ≡ 0x0101_0101 → ⊥) → genuine (drop at s) ≡ false
+  four_forged e = genuine_front ∙ rw (ne_eqb four 0x0101_0101 e)

@@ -2,7 +2,7 @@
 -- its refusal. The steps of replica and client begin with it.
 use Rattle.std.specs.Prelude.{ℕ, Bool, true, not, ◌||◌, List, ◌==◌}
 use Rattle.base.specs.ClientSet.{has}
-use Rattle.base.specs.Outcome.{Outcome, accepted, refused, guard, ◌>>=◌}
+use Rattle.base.specs.Outcome.{Outcome, accepted, guard, ◌>>=◌}
 use Rattle.base.specs.Party.{is_client, is_writer, is_replica, is_register}
 use Rattle.base.specs.declared.client_set.ClientSet.{ClientSet}
 use Rattle.base.specs.declared.party.ClientId.{ClientId}
@@ -13,8 +13,6 @@ use Rattle.wire.specs.Checks.{prepared_of, checked}
 use Rattle.wire.specs.Decode.{decode, fields_in}
 use Rattle.wire.specs.Message.{Message, kind_of, READ-STAMP, PREPARE, WRITE, READ, STAMP, PREPARED, WRITTEN, CARD}
 use Rattle.wire.specs.Parts.{prepared_signers}
-use Rattle.wire.specs.declared.acceptance.Accepting.{Accepting}
-use Rattle.wire.specs.declared.acceptance.Accepting.TheVariants.{Message as Found, Refused}
 use Rattle.wire.specs.declared.message.Fields.{Fields}
 use Rattle.wire.specs.declared.message.Party.{Party}
 use Rattle.wire.specs.declared.message.Party.TheVariants.{Replica, Client}
@@ -74,8 +72,3 @@ found_in bytes sent = (fields_in bytes, prepared_signers (prepared_of sent.1))
 
 unfoldable pub acceptance : Party → ℕ → ClientSet → List ℕ → List ℕ → Outcome (Fields × ReplicaSet)
 acceptance party f withdrawn bytes verdicts = admitted party f withdrawn bytes verdicts >>= λ sent. accepted (found_in bytes sent)
-
--- What an answer of the code stands for.
-abbrev pub accepting_outcome : Accepting → Outcome (Fields × ReplicaSet)
-accepting_outcome (Found fields signers) = accepted (fields, signers)
-accepting_outcome (Refused number) = refused number

@@ -1,22 +1,19 @@
 -- Acceptance as the code finds it: 2 to 8 with 23 behind them, then 9 to 11.
-use Rattle.std.specs.Prelude.{◌≡◌, ℕ, ◌+◌, ◌-◌, ◌/◌, cond, List, length, take, drop, ◌==◌}
-use Rattle.base.specs.BigEndian.{from_bytes}
-use Rattle.base.specs.Bytes.{between}
+use Rattle.std.specs.Prelude.{◌≡◌, ℕ, ◌+◌, cond, List, length, drop, ◌==◌}
 use Rattle.base.specs.Outcome.{Outcome, accepted, guard, ◌>>=◌}
 use Rattle.base.specs.Party.{is_register}
 use Rattle.base.specs.ReplicaSet.{empty}
+use Rattle.base.specs.Timestamp.{number}
 use Rattle.base.specs.declared.client_set.ClientSet.{ClientSet}
 use Rattle.base.specs.declared.replica_set.ReplicaSet.{ReplicaSet}
 use Rattle.wire.specs.Acceptance.{sender_of, in_its_range, may_send, is_served}
 use Rattle.wire.specs.Checks.{prepared_of, one_verdict_each, own_genuine, proven, proof_outcome}
 use Rattle.wire.specs.Decode.{message_in, register_in, fields_in, framed}
-use Rattle.wire.specs.Judging.{entries_in, proof_check_outcome}
+use Rattle.wire.specs.Judging.{entries_in}
 use Rattle.wire.specs.Message.{Message, kind_of}
-use Rattle.wire.specs.Parts.{prepared_signers}
-use Rattle.wire.specs.declared.checks.ProofCheck.{ProofCheck}
+use Rattle.wire.specs.Parts.{part_at, prepared_signers, timestamp_part, count_part, entries_part}
 use Rattle.wire.specs.declared.message.Fields.{Fields}
 use Rattle.wire.specs.declared.message.Party.{Party}
-use Rattle.wire.specs.declared.message.Span.{Span}
 
 -- 2 to 8, with 19, 20 and 23, and what follows for the message.
 abbrev pub opening : {A : Type 0} → Party → ℕ → ClientSet → List ℕ → List ℕ → (Message → Outcome A) → Outcome A
@@ -33,22 +30,18 @@ opening party f withdrawn bytes verdicts next =
 unfoldable pub opened : Party → ℕ → ClientSet → List ℕ → List ℕ → Outcome Fields
 opened party f withdrawn bytes verdicts = opening party f withdrawn bytes verdicts (λ message. accepted (fields_in bytes))
 
--- The entries behind the head of the proof at a place; none if there is no proof.
-abbrev pub entries_counted : Span → ℕ → ℕ
-entries_counted at head = (at.end - at.start - head) / 65
-
--- The signatures of a message: its own and those of its proofs' entries.
-abbrev pub count_in : Fields → ℕ
-count_in fields = 1 + entries_counted fields.prepared 38 + entries_counted fields.written 6
+-- The signatures of a message with these fields: its own and those of its proofs' entries.
+abbrev pub count_in : List ℕ → Fields → ℕ
+count_in bytes fields = 1 + count_part 32 (part_at bytes fields.prepared) + count_part 0 (part_at bytes fields.written)
 
 unfoldable pub signature_count : List ℕ → ℕ
-signature_count bytes = count_in (fields_in bytes)
+signature_count bytes = count_in bytes (fields_in bytes)
 
--- 9 to 11 of the proof from one place to another, with its entries' verdicts; good and signed by nobody if there is none.
-unfoldable pub proof_between : ℕ → List ℕ → ℕ → ℕ → ℕ → List ℕ → Outcome ReplicaSet
-proof_between f bytes at head end verdicts =
-    cond (at == end) (accepted empty)
-    (proof_outcome f (entries_in (drop head (between bytes at end))) verdicts (from_bytes (take 5 (between bytes at end))))
+-- 9 to 11 of a proof's bytes, with a digest of d bytes, and its entries' verdicts; good and signed by nobody if there is none.
+unfoldable pub proof_judged : ℕ → ℕ → List ℕ → List ℕ → Outcome ReplicaSet
+proof_judged d f proof verdicts =
+    cond (length proof == 0) (accepted empty)
+    (proof_outcome f (entries_in (entries_part d proof)) verdicts (number (timestamp_part proof)))
 
 -- What 9 to 11 rest on: the fields of bytes that passed 2 to 4, and one verdict per signature.
 pub record Ready (bytes verdicts : List ℕ) (fields : Fields) : Type 0 where
@@ -56,5 +49,5 @@ pub record Ready (bytes verdicts : List ℕ) (fields : Fields) : Type 0 where
   pub one_each : length verdicts ≡ signature_count bytes
 
 -- 9 to 11 of the message that the bytes are, whoever is handed it, and its prepared proof's signers.
-abbrev pub Judges : ℕ → List ℕ → List ℕ → ProofCheck → Type 0
-Judges f bytes verdicts check = (party : Party) (message : Message) → message_in party bytes ≡ accepted message → proof_check_outcome check ≡ proven f message (drop 1 verdicts) (accepted (prepared_signers (prepared_of message)))
+abbrev pub Judges : ℕ → List ℕ → List ℕ → Outcome ReplicaSet → Type 0
+Judges f bytes verdicts judged = (party : Party) (message : Message) → message_in party bytes ≡ accepted message → judged ≡ proven f message (drop 1 verdicts) (accepted (prepared_signers (prepared_of message)))

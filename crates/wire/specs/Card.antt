@@ -1,19 +1,15 @@
 -- Document 01, "The card".
-use Rattle.std.specs.Prelude.{ℕ, ◌/◌, ◌%◌, Bool, true, false, cond, ◌&&◌, List, [], ◌∷◌, ◌++◌, length, take, drop, replicate, ◌==◌, nat_le, nat_lt}
+use Rattle.std.specs.Prelude.{ℕ, ◌/◌, ◌%◌, Bool, true, false, cond, ◌&&◌, List, [], ◌∷◌, ◌++◌, length, take, drop, map, ◌==◌, nat_le, nat_lt}
 use Rattle.std.proofs.Math.Option.{Option, none, some}
+use Rattle.std.specs.declared.option.Option as Answer
+use Rattle.std.specs.declared.option.Option.TheVariants.{Some, None}
 use Rattle.base.specs.BigEndian.{from_bytes, to_bytes}
 use Rattle.base.specs.BitMap.{map_of}
 use Rattle.base.specs.Outcome.{Outcome, accepted, refused, guard}
 use Rattle.base.specs.Range.{within}
 use Rattle.base.specs.Same.{same}
 use Rattle.wire.specs.declared.card.Row.{Row}
-use Rattle.wire.specs.declared.card.FieldRead.{FieldRead}
-use Rattle.wire.specs.declared.card.FieldRead.TheVariants.{Value, Nothing}
 use Rattle.wire.specs.Sha256.{sha256}
-use Rattle.wire.specs.declared.card.CardCheck.{CardCheck}
-use Rattle.wire.specs.declared.card.CardCheck.TheVariants.{Good, Refused}
-use Rattle.wire.specs.declared.card.CardFields.{CardFields}
-use Rattle.wire.specs.declared.card.CardRead.{CardRead}
 
 -- A row of the table: how many bytes the field has, its least and its greatest value.
 abbrev pub row : ℕ → ℕ → ℕ → Row
@@ -102,41 +98,16 @@ is_card card = is_some (read_card card)
 abbrev pub check_card : List ℕ → Outcome (Unit {0})
 check_card card = guard 14 (is_card card) (accepted tt)
 
--- What answers of the code stand for.
-abbrev pub card_outcome : CardCheck → Outcome (Unit {0})
-card_outcome Good = accepted tt
-card_outcome (Refused number) = refused number
+-- What the code answers: a field, and a card's fields by bit, or the refusal.
+abbrev pub shown : Option ℕ → Answer.Option ℕ
+shown none = None
+shown (some value) = Some value
 
-abbrev pub field_of : FieldRead → Option ℕ
-field_of (Value value) = some value
-field_of Nothing = none
+abbrev pub read_answer : Option Fields → Outcome (List (Answer.Option ℕ))
+read_answer none = refused 14
+read_answer (some fields) = accepted (map shown fields)
 
--- Fields as the code holds them: the map, and a value for each bit, 0 where the field is missing.
-abbrev pub value_of : Option ℕ → ℕ
-value_of none = 0
-value_of (some value) = value
-
-abbrev pub values_of : Fields → List ℕ
-values_of [] = []
-values_of (field ∷ fields) = value_of field ∷ values_of fields
-
-abbrev pub fields_record : Fields → CardFields
-fields_record fields = record { map = map_of fields; values = values_of fields }
-
--- The other way: the fields whose bits are set.
-abbrev pub fields_from : ℕ → List ℕ → Fields
-fields_from map [] = []
-fields_from map (value ∷ values) = cond (map % 2 == 1) (some value) none ∷ fields_from (map / 2) values
-
-abbrev pub fields_of : CardFields → Fields
-fields_of fields = fields_from fields.map fields.values
-
--- The whole answer to a card; a refused one shows no field.
-abbrev pub read_answer : Option Fields → CardRead
-read_answer none = record { check = Refused 14; fields = record { map = 0; values = replicate 7 0 } }
-read_answer (some fields) = record { check = Good; fields = fields_record fields }
-
-abbrev pub card_read : List ℕ → CardRead
+abbrev pub card_read : List ℕ → Outcome (List (Answer.Option ℕ))
 card_read card = read_answer (read_card card)
 
 -- "The card digest is SHA-256 of its bytes." Of a card with a proof, 14: it "breaks its table", or "its digest differs from the proof's".

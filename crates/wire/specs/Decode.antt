@@ -9,14 +9,13 @@ use Rattle.base.specs.Timestamp.{of_number}
 use Rattle.base.specs.declared.party.ClientId.{ClientId}
 use Rattle.base.specs.declared.party.RegisterId.{RegisterId}
 use Rattle.base.specs.declared.party.ReplicaId.{ReplicaId}
+use Rattle.wire.specs.Kind.{kind_of_number, kind_there}
 use Rattle.wire.specs.Layout.{field_bits, map_in, place, field, signature_place}
 use Rattle.wire.specs.Message.{Message, READ-STAMP, PREPARE, WRITE, READ, STAMP, PREPARED, WRITTEN, CARD, longest}
 use Rattle.wire.specs.Proof.{Proof, read_proof}
 use Rattle.wire.specs.declared.message.Fields.{Fields}
 use Rattle.wire.specs.declared.message.Party.{Party}
 use Rattle.wire.specs.declared.message.Party.TheVariants.{Replica, Client}
-use Rattle.wire.specs.declared.message.Reading.{Reading}
-use Rattle.wire.specs.declared.message.Reading.TheVariants.{Message as Found, Refused}
 use Rattle.wire.specs.declared.message.Span.{Span}
 
 -- The fields of bytes that passed 2 to 4.
@@ -59,17 +58,17 @@ abbrev pub proof_in : (d b : ℕ) → List ℕ → Outcome (Option (Proof d))
 proof_in d b bytes = optional (bit (map_in bytes) b) (read_proof d (field bytes b))
 
 -- A row of the table of kinds: who takes it, the bits it has, the bits it may have, and the message. Each has bit 9.
-pub record Kind : Type 1 where
+pub record Row : Type 1 where
   pub number : ℕ
   pub taker : Party
   pub must : List ℕ
   pub may : List ℕ
   pub message : List ℕ → Outcome Message
 
-abbrev kind : ℕ → Party → List ℕ → List ℕ → (List ℕ → Outcome Message) → Kind
+abbrev kind : ℕ → Party → List ℕ → List ℕ → (List ℕ → Outcome Message) → Row
 kind number taker must may message = record { number = number; taker = taker; must = must; may = may; message = message }
 
-unfoldable pub kinds : List Kind
+unfoldable pub kinds : List Row
 kinds =
     -- READ-STAMP
     kind 1 Replica (0 ∷ 1 ∷ 2 ∷ 9 ∷ []) [] (λ m. accepted (READ-STAMP (client_in m) (nonce_in m)))
@@ -118,11 +117,11 @@ without [] map = map
 without (b ∷ bits) map = without bits (cond (bit map b) (map - 2 ^ b) map)
 
 -- Whether the party takes the kind, and the bits are the kind's: but for those it may have, just those it has.
-abbrev pub suits : Party → ℕ → Kind → Bool
+abbrev pub suits : Party → ℕ → Row → Bool
 suits party map row = same_party party row.taker && without row.may map == map_with row.must
 
 -- 5: "The kind is not one this party takes (holders 1 to 4, desks 5 to 8), or the bits are not the kind's."
-unfoldable pub of_kind : {A : Type 0} → Party → ℕ → ℕ → List Kind → (Kind → Outcome A) → Outcome A
+unfoldable pub of_kind : {A : Type 0} → Party → ℕ → ℕ → List Row → (Row → Outcome A) → Outcome A
 of_kind party map number [] next = refused 5
 of_kind party map number (row ∷ rows) next = cond (number == row.number) (guard 5 (suits party map row) (next row)) (of_kind party map number rows next)
 
@@ -139,7 +138,7 @@ framed bytes next =
     next))
 
 -- Tests 2 to 5, and what follows for the kind.
-abbrev pub tested : {A : Type 0} → Party → List ℕ → (Kind → Outcome A) → Outcome A
+abbrev pub tested : {A : Type 0} → Party → List ℕ → (Row → Outcome A) → Outcome A
 tested party bytes next = framed bytes (of_kind party (map_in bytes) (kind_in bytes) kinds next)
 
 unfoldable pub message_in : Party → List ℕ → Outcome Message
@@ -161,7 +160,7 @@ unfoldable pub fields_in : List ℕ → Fields
 fields_in bytes =
     record {
       map = map_in bytes;
-      kind = kind_in bytes;
+      kind = kind_there (kind_of_number (kind_in bytes));
       sender = from_bytes (field bytes 1);
       nonce = nonce_in bytes;
       timestamp = of_number (timestamp_in bytes);
@@ -176,8 +175,3 @@ fields_in bytes =
 
 unfoldable pub reading : Party → List ℕ → Outcome Fields
 reading party bytes = tested party bytes (λ row. accepted (fields_in bytes))
-
--- What an answer of the code stands for.
-abbrev pub reading_outcome : Reading → Outcome Fields
-reading_outcome (Found fields) = accepted fields
-reading_outcome (Refused number) = refused number

@@ -7,8 +7,6 @@ use Rattle.base.specs.Rising.{rising}
 use Rattle.base.specs.declared.replica_set.ReplicaSet.{ReplicaSet}
 use Rattle.wire.specs.Checks.{shaped, genuine, proof_outcome}
 use Rattle.wire.specs.Proof.{Entry, Proof, signers, signer_set, read_entries}
-use Rattle.wire.specs.declared.checks.ProofCheck.{ProofCheck}
-use Rattle.wire.specs.declared.checks.ProofCheck.TheVariants.{Good, Refused}
 
 -- The entries that fill some bytes; what is left over after the last whole one does not count.
 abbrev pub entries_in : List ℕ → List Entry
@@ -20,11 +18,6 @@ rising_signers n entries = guard 9 (rising 0 n (signers entries)) (accepted (sig
 
 abbrev pub shaped_signers : ℕ → List Entry → Outcome ReplicaSet
 shaped_signers f entries = guard 9 (shaped f entries) (accepted (signer_set entries))
-
--- What an answer of the code stands for.
-abbrev pub proof_check_outcome : ProofCheck → Outcome ReplicaSet
-proof_check_outcome (Good signers) = accepted signers
-proof_check_outcome (Refused number) = refused number
 
 -- "The refusal is its number alone": of two, the smaller one; where there is none, what the first accepts.
 abbrev pub smallest : {A : Type 0} → Outcome A → Outcome A → Outcome A

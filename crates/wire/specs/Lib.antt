@@ -7,6 +7,7 @@ pub mod Decode
 pub mod Found
 pub mod HandedProof
 pub mod Judging
+pub mod Kind
 pub mod Kinds
 pub mod Layout
 pub mod Message

@@ -49,6 +49,10 @@ signers_if_there (some proof) = signer_set proof.entries
 abbrev pub prepared_signers : Option PreparedProof → ReplicaSet
 prepared_signers = signers_if_there
 
+-- The number that so many bytes in front of others write; 0 where there are not so many.
+abbrev pub number_part : ℕ → List ℕ → ℕ
+number_part width bytes = cond (nat_lt (length bytes) width) 0 (from_bytes (take width bytes))
+
 -- The timestamp at the front of a proof, prepared or written; 0.0 where there is none.
 unfoldable pub timestamp_part : List ℕ → Timestamp
 timestamp_part proof = cond (nat_lt (length proof) 5) start (of_number (from_bytes (take 5 proof)))

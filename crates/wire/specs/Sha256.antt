@@ -1,7 +1,8 @@
 -- SHA-256 as FIPS 180-4 defines it; the section numbers are that document's. A message is a list of bytes, a word a number below 2 ^ 32.
 use Rattle.std.specs.Prelude.{ℕ, zero, suc, ◌+◌, ◌-◌, ◌*◌, ◌/◌, ◌%◌, ◌^◌, Bool, true, false, List, [], ◌∷◌, ◌++◌, length, take, drop, replicate, bit_and, bit_or, bit_xor, nat_le, slice_index, slice_index_or}
+use Rattle.std.specs.declared.option.Option.{Option}
+use Rattle.std.specs.declared.option.Option.TheVariants.{Some, None}
 use Rattle.base.specs.BigEndian.{from_bytes, to_bytes}
-use Rattle.wire.specs.declared.sha256.Digest.{Digest}
 use Rattle.wire.specs.declared.sha256.rounds.WorkingVariables.{WorkingVariables}
 
 -- 2.2.2 and 3.2: the operations on words. `⊞` is addition modulo 2 ^ 32.
@@ -162,13 +163,22 @@ hash_bytes H (suc n) = hash_bytes H n ++ to_bytes 4 (slice_index H n)
 unfoldable pub sha256 : List ℕ → List ℕ
 sha256 m = hash_bytes (hash_value (padded m) (length (padded m) / 64)) 8
 
--- Document 01: the digest of up to this many bytes; a longer message is too long, with 32 zero bytes in the digest's place.
+-- Document 01: the digest of up to this many bytes; a longer message is too long.
 abbrev pub longest_input : ℕ
 longest_input = 4096
 
-abbrev pub answer : Bool → List ℕ → Digest
-answer true m = record { fits = true; bytes = sha256 m }
-answer false m = record { fits = false; bytes = replicate 32 0 }
+abbrev pub answer : Bool → List ℕ → Option (List ℕ)
+answer true m = Some (sha256 m)
+answer false m = None
 
-unfoldable pub digest_of : List ℕ → Digest
+unfoldable pub digest_of : List ℕ → Option (List ℕ)
 digest_of m = answer (nat_le (length m) longest_input) m
+
+-- For Rust and C: whether there is a digest, and its bytes; 32 zero bytes in its place where the message is too long.
+abbrev pub fits : Option (List ℕ) → Bool
+fits (Some digest) = true
+fits None = false
+
+abbrev pub bytes_of : Option (List ℕ) → List ℕ
+bytes_of (Some digest) = digest
+bytes_of None = replicate 32 0

@@ -1,11 +1,13 @@
 -- Document 01, "Messages": the signatures (seals) of a message, or of a proof by itself, whose each is and which bytes it covers. A signing box
 -- asks for them one by one.
-use Rattle.std.specs.Prelude.{◌≡◌, ℕ, ◌-◌, ◌*◌, ◌≤◌, List, [], ◌∷◌, ◌++◌, length, take}
+use Rattle.std.specs.Prelude.{◌≡◌, ℕ, ◌-◌, ◌*◌, ◌≤◌, cond, List, [], ◌∷◌, ◌++◌, length, take, nat_lt, slice_index, Option as Found, Some, None, Result}
 use Rattle.std.proofs.Math.Option.{Option, none, some}
 use Rattle.std.proofs.Math.ListN.{get_elem?}
 use Rattle.base.specs.Outcome.{Outcome, accepted, refused, ◌>>=◌}
+use Rattle.base.specs.Refusal.{outcome}
 use Rattle.base.specs.declared.party.RegisterId.{RegisterId}
 use Rattle.base.specs.declared.party.ReplicaId.{ReplicaId}
+use Rattle.base.specs.declared.refusal.Refusal.{Refusal}
 use Rattle.wire.specs.Acceptance.{Sender, replica, client, sender_of}
 use Rattle.wire.specs.Checks.{prepared_of, written_of}
 use Rattle.wire.specs.Decode.{decode}
@@ -16,7 +18,6 @@ use Rattle.wire.specs.Proof.{Entry, PreparedProof, WrittenProof, read_proof}
 use Rattle.wire.specs.Writing.{in_front}
 use Rattle.wire.specs.declared.message.Party.{Party}
 use Rattle.wire.specs.declared.signatures.Signed.{Signed}
-use Rattle.wire.specs.declared.signatures.Signed.TheVariants.{By, Nothing, Refused}
 use Rattle.wire.specs.declared.signatures.Signer.{Signer}
 use Rattle.wire.specs.declared.signatures.Signer.TheVariants.{Replica, Client}
 
@@ -78,10 +79,12 @@ abbrev pub signer_of : Signer → Sender
 signer_of (Replica id) = replica id
 signer_of (Client id) = client id
 
-abbrev pub signed_outcome : Signed → Outcome (Option (Sender × ℕ))
-signed_outcome (By signer covered) = accepted (some (signer_of signer, covered))
-signed_outcome Nothing = accepted none
-signed_outcome (Refused number) = refused number
+abbrev pub signed : Found Signed → Option (Sender × ℕ)
+signed (Some found) = some (signer_of found.signer, found.covered)
+signed None = none
+
+abbrev pub signed_outcome : Result (Found Signed) Refusal → Outcome (Option (Sender × ℕ))
+signed_outcome answer = outcome answer >>= λ found. accepted (signed found)
 
 abbrev pub in_short : Option Signature → Option (Sender × ℕ)
 in_short none = none
@@ -94,9 +97,13 @@ covered_in (accepted none) old = old
 covered_in (refused number) old = old
 
 -- This signature was found, or none, or the refusal; the output was `old` and is now `new`.
-pub record ShowsSignature (found : Outcome (Option Signature)) (old : List ℕ) (answer : Signed) (new : List ℕ) : Type 0 where
+pub record ShowsSignature (found : Outcome (Option Signature)) (old : List ℕ) (answer : Result (Found Signed) Refusal) (new : List ℕ) : Type 0 where
   pub answered : signed_outcome answer ≡ found >>= λ signature. accepted (in_short signature)
   pub holds : new ≡ covered_in found old
+
+-- The signer of a proof's i-th entry, if it has so many.
+abbrev pub signer_at : ℕ → List ℕ → ℕ → Found ReplicaId
+signer_at d proof i = cond (nat_lt i (count_part d proof)) (Some (record { 0 = slice_index (entries_part d proof) (65 * i) })) None
 
 -- As many entries as the number of entries says stand behind it, in a proof with a digest of d bytes.
 abbrev pub EntriesStand : ℕ → List ℕ → Type 0

@@ -1,31 +1,12 @@
 // Cards: the value of the register.
 ghost use Rattle.std.specs.Prelude.{◌≡◌, ◌+◌, ◌<◌, ◌≤◌, length, drop, slice_index_or};
-ghost use Rattle.std.proofs.Math.Option.{none};
 ghost use Rattle.base.specs.BigEndian.{from_bytes};
-ghost use Rattle.wire.specs.Card.{row, table, standing, read_fields, good_card_map, check_card, card_outcome, field_of, read_answer, card_read, stands_under};
+ghost use Rattle.base.specs.Refusal.{outcome};
+ghost use Rattle.wire.specs.Card.{row, table, standing, read_fields, good_card_map, check_card, shown, read_answer, card_read, stands_under};
 
 use crate::digest_words::same_hash;
 use crate::sha256::hash_short;
-use base::refusal::BAD_CARD;
-
-#[derive(Drop)]
-pub enum CardCheck {
-    Good,
-    Refused(u8),
-}
-
-// A card's fields: bit i of the map says that field i is present, with its value at i; a missing one has value 0.
-#[derive(Drop)]
-pub struct CardFields {
-    pub map: u16,
-    pub values: [u32; 7],
-}
-
-#[derive(Drop)]
-pub struct CardRead {
-    pub check: CardCheck,
-    pub fields: CardFields,
-}
+use base::refusal::Refusal;
 
 // A row of the card's table: how many bytes the field has, its least and its greatest value.
 #[derive(Clone, Copy)]
@@ -35,17 +16,11 @@ struct Row {
     greatest: u32,
 }
 
-// What stands where a field is looked for.
-#[derive(Drop)]
-enum FieldRead {
-    Value(u32),
-    Nothing,
-}
-
 const BITS: usize = 7;
 
 const MAP_BYTES: usize = 2;
 
+#[tactic(auto, unfolding(crate::specs::Card::table))]
 fn row_of(bit: usize) -> Row
     requires { bit < 7 }
     ensures { (result ≡ slice_index_or table bit (row 0 0 0)) × (result.width ≤ 4) }
@@ -84,117 +59,86 @@ fn number(bytes: &[u8]) -> u32
     requires { length bytes.now ≤ 4 }
     ensures { result ≡ from_bytes bytes.now }
 {
-    let mut n: u32 = 0;
-    let mut i = 0;
-    while i < bytes.len() {
-        n = n * 256 + bytes[i] as u32;
-        i += 1;
+    let mut n = 0;
+    for byte in bytes {
+        n = n * 256 + u32::from(*byte);
     }
     n
 }
 
-fn read_field(card: &[u8], at: usize, row: Row) -> FieldRead
+// The field that stands at a place, if it is in its range.
+fn read_field(card: &[u8], at: usize, row: Row) -> Option<u32>
     requires { (at ≤ length card.now) × (row.width ≤ 4) }
-    ensures { field_of result ≡ standing row (drop at card.now) }
+    ensures { result ≡ shown (standing row (drop at card.now)) }
 {
-    let width = row.width;
-    if card.len() - at < width {
-        return FieldRead::Nothing;
+    if card.len() - at < row.width {
+        return None;
     }
-    let end = at + width;
-    let value = number(&card[at..end]);
-    if value < row.least {
-        return FieldRead::Nothing;
+    let value = number(&card[at..at + row.width]);
+    if value < row.least || row.greatest < value {
+        return None;
     }
-    if row.greatest < value {
-        return FieldRead::Nothing;
-    }
-    FieldRead::Value(value)
-}
-
-fn refused() -> CardRead
-    ensures { result ≡ read_answer none }
-{
-    CardRead {
-        check: CardCheck::Refused(BAD_CARD),
-        fields: CardFields {
-            map: 0,
-            values: [0; 7],
-        },
-    }
+    Some(value)
 }
 
 // The map says which fields follow: bits 7 to 15 are 0, and both diameters are present or none.
+#[tactic(auto, unfolding(crate::specs::Card::good_card_map))]
 fn good_map(map: u32) -> bool
     ensures { result ≡ good_card_map map }
 {
-    if map >= 128 {
-        return false;
-    }
-    map % 2 == map / 2 % 2
+    map < 128 && map % 2 == map / 2 % 2
 }
 
-// The fields behind a map that is good.
-fn read_fields(card: &[u8], map: u32) -> CardRead
+// The fields behind a map that is good: bit i of the map says that field i is there.
+fn read_fields(card: &[u8], map: u32) -> Result<[Option<u32>; 7], Refusal>
     requires { (2 ≤ length card.now) × (map < 128) }
-    ensures { result ≡ read_answer (read_fields table map (drop 2 card.now)) }
+    ensures { outcome result ≡ read_answer (read_fields table map (drop 2 card.now)) }
 {
-    let mut values = [0u32; 7];
+    let mut fields = [None; 7];
     let mut at = MAP_BYTES;
     let mut rest = map;
-    let mut bit = 0;
-    while bit < BITS {
+    for bit in 0..BITS {
         if rest % 2 == 1 {
             let row = row_of(bit);
-            let FieldRead::Value(value) = read_field(card, at, row) else {
-                return refused();
+            let Some(value) = read_field(card, at, row) else {
+                return Err(Refusal::BadCard);
             };
-            values[bit] = value;
+            fields[bit] = Some(value);
             at += row.width;
         }
         rest = rest / 2;
-        bit += 1;
     }
     if at < card.len() {
-        return refused();
+        return Err(Refusal::BadCard);
     }
-    CardRead {
-        check: CardCheck::Good,
-        fields: CardFields {
-            map: map as u16,
-            values,
-        },
-    }
+    Ok(fields)
 }
 
-// A card's fields, or refusal 14.
-pub fn read(card: &[u8]) -> CardRead
-    ensures { result ≡ card_read card.now }
+// A card's fields by their bits, or refusal 14.
+pub fn read(card: &[u8]) -> Result<[Option<u32>; 7], Refusal>
+    ensures { outcome result ≡ card_read card.now }
 {
     if card.len() < MAP_BYTES {
-        return refused();
+        return Err(Refusal::BadCard);
     }
     let map = number(&card[..MAP_BYTES]);
     if !good_map(map) {
-        return refused();
+        return Err(Refusal::BadCard);
     }
     read_fields(card, map)
 }
 
 // Whether a card keeps its table.
-pub fn check(card: &[u8]) -> CardCheck
-    ensures { card_outcome result ≡ check_card card.now }
+pub fn check(card: &[u8]) -> Result<(), Refusal>
+    ensures { outcome result ≡ check_card card.now }
 {
-    read(card).check
+    read(card)?;
+    Ok(())
 }
 
 // Whether a card keeps its table and has this digest: test 14 of a card with its proof's.
 pub fn stands_under(card: &[u8], digest: &[u8]) -> bool
     ensures { result ≡ stands_under card.now digest.now }
 {
-    let CardCheck::Good = check(card) else {
-        return false;
-    };
-    let found = hash_short(card);
-    same_hash(&found, digest)
+    check(card).is_ok() && same_hash(&hash_short(card), digest)
 }

@@ -3,7 +3,7 @@ ghost use Rattle.std.specs.Prelude.{◌≡◌, if◌then◌else◌};
 ghost use Rattle.wire.specs.CardPart.{PartAt, card_part, card_start, later_card, second_later, later_start};
 ghost use Rattle.wire.specs.Found.{Finds};
 
-use crate::frame::Framing;
+use base::slices::between;
 use base::timestamp::Timestamp;
 
 // Where a card starts and ends, and the timestamp of the prepared proof that came with it.
@@ -14,28 +14,19 @@ struct Card {
     timestamp: Timestamp,
 }
 
-#[derive(Drop)]
-enum Found {
-    Here(Card),
-    Nowhere,
-}
-
-fn find(bytes: &[u8]) -> Found
+// The card of a message; none where tests 2 to 4 refuse the message, and where it has none.
+fn find(bytes: &[u8]) -> Option<Card>
     ensures { Finds bytes.now result }
 {
-    let Framing::Whole(places) = crate::frame::frame(bytes) else {
-        return Found::Nowhere;
-    };
-    let card = places.card;
-    let prepared = places.prepared;
-    if card == prepared {
-        return Found::Nowhere;
+    let places = crate::frame::frame(bytes).ok()?;
+    if places.card == places.prepared {
+        return None;
     }
-    let timestamp = crate::numbers::timestamp_in(bytes, prepared, places.written);
-    Found::Here(Card {
-        start: card + 1,
-        end: prepared,
-        timestamp: timestamp,
+    let timestamp = crate::parts::timestamp(between(bytes, places.prepared, places.written));
+    Some(Card {
+        start: places.card + 1,
+        end: places.prepared,
+        timestamp,
     })
 }
 
@@ -44,12 +35,10 @@ pub fn card_part(bytes: &[u8]) -> &[u8]
     ensures result_value { result.now ≡ card_part bytes.now }
     ensures part_at { PartAt bytes.entry.ref_ptr (card_start bytes.now) result.ref_ptr }
 {
-    let Found::Here(card) = find(bytes) else {
+    let Some(card) = find(bytes) else {
         return &bytes[0..0];
     };
-    let start = card.start;
-    let end = card.end;
-    &bytes[start..end]
+    &bytes[card.start..card.end]
 }
 
 // Of two messages with a card, the card part of the one whose proof is later, the first on a tie.
@@ -57,18 +46,15 @@ pub fn later_card<'a>(first: &'a [u8], second: &'a [u8]) -> &'a [u8]
     ensures result_value { result.now ≡ later_card first.now second.now }
     ensures part_at { PartAt (if second_later first.now second.now then second.entry.ref_ptr else first.entry.ref_ptr) (later_start first.now second.now) result.ref_ptr }
 {
-    let Found::Here(one) = find(first) else {
+    let Some(one) = find(first) else {
         return &first[0..0];
     };
-    let Found::Here(two) = find(second) else {
+    let Some(two) = find(second) else {
         return &first[0..0];
     };
+    // By number: the wrong program on a tie (must-fail) is `<=` here.
     if one.timestamp.number() < two.timestamp.number() {
-        let start = two.start;
-        let end = two.end;
-        return &second[start..end];
+        return &second[two.start..two.end];
     }
-    let start = one.start;
-    let end = one.end;
-    &first[start..end]
+    &first[one.start..one.end]
 }

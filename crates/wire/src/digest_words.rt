@@ -8,6 +8,7 @@ use crate::layout::DIGEST;
 use base::big_endian::from_four;
 
 // Whether a word has these bytes.
+#[tactic(auto, using(crate::proofs::Words::word_same))]
 fn same_word(word: u32, a: u8, b: u8, c: u8, d: u8) -> bool
     ensures { result ≡ same (to_bytes 4 word) (a ∷ b ∷ c ∷ d ∷ []) }
 {
@@ -21,8 +22,7 @@ pub(super) fn same_hash(hash: &[u32; 8], bytes: &[u8]) -> bool
     if bytes.len() != DIGEST {
         return false;
     }
-    let mut i: usize = 0;
-    while i < 8 {
+    for i in 0..8 {
         let at = 4 * i;
         if !same_word(
             hash[i],
@@ -33,7 +33,6 @@ pub(super) fn same_hash(hash: &[u32; 8], bytes: &[u8]) -> bool
         ) {
             return false;
         }
-        i += 1;
     }
     true
 }

@@ -26,7 +26,7 @@ pub const MOST_ENTRIES: u8 = 11;
 
 pub const LONGEST_CARD: u8 = 17;
 
-// Room for a card, for the entries of a proof, and for a signature of each replica, in the parties' records.
+// `as`, since usize::from is no constant. Room for a card, for the entries of a proof, and for a signature of each replica, in the parties' records.
 pub const CARD_ROOM: usize = LONGEST_CARD as usize;
 
 pub const ENTRIES_ROOM: usize = ENTRY * MOST_ENTRIES as usize;

@@ -2,7 +2,6 @@
 #![tactic(auto)]
 
 pub mod acceptance;
-pub mod arrays;
 pub mod card;
 pub mod card_part;
 pub mod checks;

@@ -1,20 +1,22 @@
-// The numbers at the front of a field, given where it starts and where the next one does; 0 where it is not there.
-ghost use Rattle.std.specs.Prelude.{◌≡◌, ◌+◌, ◌≤◌, length, take, drop};
+// The number in front of a field's bytes; 0 where there are too few of them, as in a field that is not there.
+ghost use Rattle.std.specs.Prelude.{◌≡◌, ◌+◌, ◌≤◌, length, take, drop, slice_index};
 ghost use Rattle.base.specs.BigEndian.{from_bytes};
-ghost use Rattle.base.specs.Bytes.{between};
-ghost use Rattle.base.specs.Timestamp.{of_number};
-ghost use Rattle.wire.specs.Places.{Room};
+ghost use Rattle.wire.specs.Parts.{number_part};
 
-use base::timestamp::Timestamp;
-
-pub(super) fn byte_in(bytes: &[u8], at: usize, end: usize) -> u8
-    requires { Room bytes.now 1 at end }
-    ensures { result ≡ from_bytes (take 1 (between bytes.now at end)) }
+pub(super) fn first_byte(field: &[u8]) -> u8
+    ensures { result ≡ slice_index field.now 0 }
 {
-    if at == end {
+    field.first().copied().unwrap_or(0)
+}
+
+#[tactic(auto, using(crate::proofs::Windows::eight_in_front))]
+pub(super) fn eight_bytes(field: &[u8]) -> u64
+    ensures { result ≡ number_part 8 field.now }
+{
+    let [a, b, c, d, e, f, g, h, ..] = *field else {
         return 0;
-    }
-    bytes[at]
+    };
+    u64::from_be_bytes([a, b, c, d, e, f, g, h])
 }
 
 pub fn four_at(bytes: &[u8], at: usize) -> u32
@@ -22,30 +24,4 @@ pub fn four_at(bytes: &[u8], at: usize) -> u32
     ensures { result ≡ from_bytes (take 4 (drop at bytes.now)) }
 {
     base::big_endian::from_four(bytes[at], bytes[at + 1], bytes[at + 2], bytes[at + 3])
-}
-
-pub(super) fn eight_in(bytes: &[u8], at: usize, end: usize) -> u64
-    requires { Room bytes.now 8 at end }
-    ensures { result ≡ from_bytes (take 8 (between bytes.now at end)) }
-{
-    if at == end {
-        return 0;
-    }
-    four_at(bytes, at) as u64 * 0x1_0000_0000 + four_at(bytes, at + 4) as u64
-}
-
-pub(super) fn timestamp_in(bytes: &[u8], at: usize, end: usize) -> Timestamp
-    requires { Room bytes.now 5 at end }
-    ensures { result ≡ of_number (from_bytes (take 5 (between bytes.now at end))) }
-{
-    if at == end {
-        return Timestamp::start();
-    }
-    Timestamp::from_bytes(
-        bytes[at],
-        bytes[at + 1],
-        bytes[at + 2],
-        bytes[at + 3],
-        bytes[at + 4],
-    )
 }

@@ -17,10 +17,7 @@ const CLIENT_AT: usize = 2;
 pub fn client_named(order: &[u8]) -> ClientId
     ensures { result ≡ client_named order.now }
 {
-    if order.len() <= CLIENT_AT {
-        return ClientId(0);
-    }
-    ClientId(order[CLIENT_AT])
+    ClientId(order.get(CLIENT_AT).copied().unwrap_or(0))
 }
 
 pub fn order_covered(order: &[u8]) -> &[u8]
@@ -36,16 +33,9 @@ pub fn order_signature(order: &[u8]) -> &[u8]
 }
 
 // Test 21.
+#[tactic(auto, unfolding(crate::specs::Order::is_order))]
 pub fn is_order(order: &[u8]) -> bool
     ensures { result ≡ is_order order.now }
 {
-    if order.len() != ORDER {
-        return false;
-    }
-    let map = [0, 3];
-    if !same(front(order, 2), &map) {
-        return false;
-    }
-    let client = client_named(order);
-    is_client(client)
+    order.len() == ORDER && same(front(order, 2), &[0, 3]) && is_client(client_named(order))
 }

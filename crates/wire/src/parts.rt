@@ -1,9 +1,9 @@
 // The parts of a message that was read, and of its proofs: parts of the caller's slice, empty where there is none. And the
 // register of bytes that may be no message.
-ghost use Rattle.std.specs.Prelude.{◌≡◌};
+ghost use Rattle.std.specs.Prelude.{◌≡◌, ◌+◌, drop};
 ghost use Rattle.wire.specs.Parts.{last_register, part_at, card_at, timestamp_part, digest_part, count_part, entries_part};
 
-use crate::layout::{DIGEST, PREPARED_HEAD, REGISTER_AND_SIGNATURE, TIMESTAMP, WRITTEN_HEAD};
+use crate::layout::{DIGEST, REGISTER_AND_SIGNATURE, TIMESTAMP};
 use crate::message::Span;
 use base::party::RegisterId;
 use base::slices::{behind, between};
@@ -11,13 +11,13 @@ use base::timestamp::Timestamp;
 
 // The register that a message is for, by its last byte before the signature; 0 where there are too few bytes. Whether the bytes are
 // a message for a register, tests 2 to 6 and 20 say.
+#[tactic(auto, unfolding(crate::specs::Parts::last_register))]
 pub fn last_register(bytes: &[u8]) -> RegisterId
     ensures { result ≡ last_register bytes.now }
 {
-    if bytes.len() < REGISTER_AND_SIGNATURE {
+    let Some(at) = bytes.len().checked_sub(REGISTER_AND_SIGNATURE) else {
         return RegisterId(0);
-    }
-    let at = bytes.len() - REGISTER_AND_SIGNATURE;
+    };
     RegisterId(bytes[at])
 }
 
@@ -36,54 +36,43 @@ pub fn card(bytes: &[u8], at: Span) -> &[u8]
 }
 
 // The timestamp of a proof, prepared or written; 0.0 where there is none.
+#[tactic(auto, unfolding(crate::specs::Parts::timestamp_part))]
 pub fn timestamp(proof: &[u8]) -> Timestamp
     ensures { result ≡ timestamp_part proof.now }
 {
-    if proof.len() < TIMESTAMP {
+    let [a, b, c, d, client, ..] = *proof else {
         return Timestamp::start();
-    }
-    crate::numbers::timestamp_in(proof, 0, TIMESTAMP)
+    };
+    Timestamp::from_bytes(a, b, c, d, client)
 }
 
 // The digest of a prepared proof.
+#[tactic(auto, unfolding(crate::specs::Parts::digest_part))]
 pub fn digest(proof: &[u8]) -> &[u8]
     ensures { result.now ≡ digest_part 32 proof.now }
 {
-    let end = TIMESTAMP + DIGEST;
-    if proof.len() < end {
-        return &proof[0..0];
-    }
-    &proof[TIMESTAMP..end]
+    proof.get(TIMESTAMP..TIMESTAMP + DIGEST).unwrap_or(&[])
 }
 
-// How many entries a prepared proof has, and how many a written one.
-pub fn entry_count(proof: &[u8]) -> u8
-    ensures { result ≡ count_part 32 proof.now }
+// What stands behind the timestamp and the digest, of D bytes, of a proof: a prepared one has a digest of DIGEST bytes, a written one of 0.
+fn behind_digest<const D: usize>(proof: &[u8]) -> &[u8]
+    ensures { result.now ≡ drop (5 + D) proof.now }
 {
-    if proof.len() < PREPARED_HEAD {
-        return 0;
-    }
-    proof[PREPARED_HEAD - 1]
+    behind(behind(proof, TIMESTAMP), D)
 }
 
-pub fn written_entry_count(proof: &[u8]) -> u8
-    ensures { result ≡ count_part 0 proof.now }
+// How many entries a proof has.
+#[tactic(auto, unfolding(crate::specs::Parts::count_part))]
+pub fn entry_count<const D: usize>(proof: &[u8]) -> u8
+    ensures { result ≡ count_part D proof.now }
 {
-    if proof.len() < WRITTEN_HEAD {
-        return 0;
-    }
-    proof[WRITTEN_HEAD - 1]
+    crate::numbers::first_byte(behind_digest::<D>(proof))
 }
 
-// The bytes of a prepared proof's entries, and of a written one's.
-pub fn entries(proof: &[u8]) -> &[u8]
-    ensures { result.now ≡ entries_part 32 proof.now }
+// The bytes of a proof's entries.
+#[tactic(auto, unfolding(crate::specs::Parts::entries_part))]
+pub fn entries<const D: usize>(proof: &[u8]) -> &[u8]
+    ensures { result.now ≡ entries_part D proof.now }
 {
-    behind(proof, PREPARED_HEAD)
-}
-
-pub fn written_entries(proof: &[u8]) -> &[u8]
-    ensures { result.now ≡ entries_part 0 proof.now }
-{
-    behind(proof, WRITTEN_HEAD)
+    behind(behind_digest::<D>(proof), 1)
 }

@@ -1,14 +1,19 @@
 // The message reader: tests 2 to 5 on bytes of any number and value.
-ghost use Rattle.std.specs.Prelude.{◌≡◌, ◌<◌, [], ◌∷◌};
+ghost use Rattle.std.specs.Prelude.{◌≡◌, ◌<◌, [], ◌∷◌, slice_index};
 ghost use Rattle.base.specs.Outcome.{accepted};
-ghost use Rattle.wire.specs.Decode.{kinds, without, framed, fields_in, reading, reading_outcome};
+ghost use Rattle.base.specs.Refusal.{outcome};
+ghost use Rattle.wire.specs.Decode.{kinds, without, framed, fields_in, reading};
+ghost use Rattle.wire.specs.Kind.{kind_number, kind_of_number};
 ghost use Rattle.wire.specs.Kinds.{suiting};
 ghost use Rattle.wire.specs.Places.{places_in};
 
-use crate::frame::{Framing, Places};
-use crate::message::{Fields, Party, Reading, Span};
+use crate::frame::Places;
+use crate::message::{Fields, Kind, Party, Span};
+use crate::numbers::{eight_bytes, first_byte};
+use crate::parts;
 use base::party::{ClientId, RegisterId};
-use base::refusal::KIND;
+use base::refusal::Refusal;
+use base::slices::between;
 
 // A map without a bit.
 fn without(map: u16, bit: u16) -> u16
@@ -22,55 +27,38 @@ fn without(map: u16, bit: u16) -> u16
     map
 }
 
-// The kinds that replicas take, by the bits that they have.
-fn suits_replica(kind: u8, map: u16) -> bool
-    ensures { result ≡ suiting Party.Replica map kind kinds }
+// Test 5: the kinds that replicas and clients take, by the bits that they have.
+#[tactic(auto, unfolding(crate::specs::Kinds::suiting, crate::specs::Decode::kinds))]
+fn suits(party: Party, kind: Kind, map: u16) -> bool
+    ensures { result ≡ suiting party map (kind_number kind) kinds }
 {
-    match kind {
-        1 | 4 => map == 0x207,
-        2 => without(without(map, 6), 7) == 0x21b,
-        3 => map == 0x263,
+    match (party, kind) {
+        (Party::Replica, Kind::ReadStamp | Kind::Read) => map == 0x207,
+        (Party::Replica, Kind::Prepare) => without(without(map, 6), 7) == 0x21b,
+        (Party::Replica, Kind::Write) => map == 0x263,
+        (Party::Client, Kind::Stamp) => without(map, 6) == 0x307,
+        (Party::Client, Kind::Prepared) => map == 0x21b,
+        (Party::Client, Kind::Written) => map == 0x20b,
+        (Party::Client, Kind::Card) => without(map, 6) == 0x327,
         _ => false,
     }
 }
 
-// The kinds that clients take.
-fn suits_client(kind: u8, map: u16) -> bool
-    ensures { result ≡ suiting Party.Client map kind kinds }
-{
-    match kind {
-        5 => without(map, 6) == 0x307,
-        6 => map == 0x21b,
-        7 => map == 0x20b,
-        8 => without(map, 6) == 0x327,
-        _ => false,
-    }
-}
-
-// Test 5.
-fn suits(party: Party, kind: u8, map: u16) -> bool
-    ensures { result ≡ suiting party map kind kinds }
-{
-    match party {
-        Party::Replica => suits_replica(kind, map),
-        Party::Client => suits_client(kind, map),
-    }
-}
-
-fn fields(bytes: &[u8], places: Places) -> Fields
-    requires { framed bytes.now (accepted (places_in bytes.now)) ≡ accepted places }
+// The fields of bytes that passed tests 2 to 4 and name this kind.
+fn fields(bytes: &[u8], places: Places, kind: Kind) -> Fields
+    requires { (framed bytes.now (accepted (places_in bytes.now)) ≡ accepted places) × (kind_of_number (slice_index bytes.now 2) ≡ Some kind) }
     ensures { result ≡ fields_in bytes.now }
 {
-    let nonce = crate::numbers::eight_in(bytes, places.nonce, places.timestamp);
-    let timestamp = crate::numbers::timestamp_in(bytes, places.timestamp, places.digest);
-    let addressed = ClientId(crate::numbers::byte_in(bytes, places.addressed, places.register));
-    let register = RegisterId(crate::numbers::byte_in(bytes, places.register, places.signature));
+    let nonce = eight_bytes(between(bytes, places.nonce, places.timestamp));
+    let timestamp = parts::timestamp(between(bytes, places.timestamp, places.digest));
+    let addressed = first_byte(between(bytes, places.addressed, places.register));
+    let register = first_byte(between(bytes, places.register, places.signature));
     Fields {
         map: places.map,
-        kind: bytes[2],
+        kind,
         sender: bytes[3],
-        nonce: nonce,
-        timestamp: timestamp,
+        nonce,
+        timestamp,
         digest: Span {
             start: places.digest,
             end: places.card,
@@ -87,8 +75,8 @@ fn fields(bytes: &[u8], places: Places) -> Fields
             start: places.written,
             end: places.addressed,
         },
-        addressed: addressed,
-        register: register,
+        addressed: ClientId(addressed),
+        register: RegisterId(register),
         signature: Span {
             start: places.signature,
             end: bytes.len(),
@@ -96,17 +84,17 @@ fn fields(bytes: &[u8], places: Places) -> Fields
     }
 }
 
-// What a message is to the party that is handed it: its fields, or the number of its refusal.
-pub fn read(party: Party, bytes: &[u8]) -> Reading
-    ensures { reading_outcome result ≡ reading party bytes.now }
+// What a message is to the party that is handed it: its fields, or the refusal.
+#[tactic(auto, using(crate::proofs::KindTests::suited, crate::proofs::KindTests::not_suited, crate::proofs::KindTests::not_named, crate::proofs::KindTests::not_framed, crate::proofs::Passing::passed_on))]
+pub fn read(party: Party, bytes: &[u8]) -> Result<Fields, Refusal>
+    ensures { outcome result ≡ reading party bytes.now }
 {
-    match crate::frame::frame(bytes) {
-        Framing::Whole(places) => {
-            if !suits(party, bytes[2], places.map) {
-                return Reading::Refused(KIND);
-            }
-            Reading::Message(fields(bytes, places))
-        }
-        Framing::Refused(number) => Reading::Refused(number),
+    let places = crate::frame::frame(bytes)?;
+    let Some(kind) = Kind::of(bytes[2]) else {
+        return Err(Refusal::Kind);
+    };
+    if !suits(party, kind, places.map) {
+        return Err(Refusal::Kind);
     }
+    Ok(fields(bytes, places, kind))
 }

@@ -7,20 +7,16 @@ mod functions;
 mod padding;
 mod rounds;
 
-ghost use Rattle.std.specs.Prelude.{◌≡◌, ◌/◌, ◌%◌, ◌^◌, ◌<◌, ◌≤◌, length};
-ghost use Rattle.wire.specs.Sha256.{longest_input, padded, block, block_count, words, compress, hash_value, hash_bytes, digest_of};
+ghost use Rattle.std.specs.Prelude.{◌≡◌, ◌/◌, ◌<◌, ◌≤◌, length};
+ghost use Rattle.wire.specs.Sha256.{longest_input, padded, block, block_count, words, compress, hash_value, hash_bytes, digest_of, fits, bytes_of};
 
 use crate::layout::DIGEST;
-
-// Where `fits` is false the message is too long [document 01: "too long"], and the bytes are zero.
-#[derive(Drop)]
-pub struct Digest {
-    pub fits: bool,
-    pub bytes: [u8; DIGEST],
-}
+use base::big_endian::to_four;
 
 const LONGEST_INPUT: usize = 4096;
 
+// What this and the functions of `padding` and `rounds` require of message, i, blocks and w: a struct of these would be taken apart in
+// each of them.
 fn hash_block(hash: &[u32; 8], message: &[u8], i: usize, blocks: usize) -> [u32; 8]
     requires { (length message.now ≤ longest_input) × (i < blocks) × (blocks ≡ block_count (length message.now)) }
     ensures { result ≡ compress hash.now (words (block (padded message.now) i) 16) }
@@ -30,13 +26,12 @@ fn hash_block(hash: &[u32; 8], message: &[u8], i: usize, blocks: usize) -> [u32;
     rounds::compress(hash, &mut w)
 }
 
-// Of a message that is one block with its padding.
+// Of a message that is one block with its padding: 45 instructions less than through the loop (docs/SPEED.md).
 pub(super) fn hash_short(message: &[u8]) -> [u32; 8]
     requires { length message.now ≤ 55 }
     ensures { result ≡ hash_value (padded message.now) (length (padded message.now) / 64) }
 {
-    let start = INITIAL_HASH;
-    hash_block(&start, message, 0, 1)
+    hash_block(&INITIAL_HASH, message, 0, 1)
 }
 
 fn hash_message(message: &[u8]) -> [u32; 8]
@@ -46,64 +41,41 @@ fn hash_message(message: &[u8]) -> [u32; 8]
     // 0x80 and the length take nine bytes, and the last block may be partly filled.
     let blocks = (message.len() + 8) / 64 + 1;
     let mut hash = INITIAL_HASH;
-    let mut i: usize = 0;
-    while i < blocks {
+    for i in 0..blocks {
         hash = hash_block(&hash, message, i, blocks);
-        i += 1;
     }
     hash
-}
-
-// The byte of x whose lowest bit is bit k.
-fn byte(x: u32, k: u32) -> u8
-    requires { k < 32 }
-    ensures { result ≡ x / 2 ^ k % 256 }
-{
-    ((x >> k) & 0xff) as u8
 }
 
 fn hash_bytes(hash: &[u32; 8]) -> [u8; DIGEST]
     ensures { result ≡ hash_bytes hash.now 8 }
 {
     let mut bytes = [0u8; DIGEST];
-    let mut i: usize = 0;
-    while i < 8 {
-        let word = hash[i];
-        let at = 4 * i;
-        bytes[at] = byte(word, 24);
-        bytes[at + 1] = byte(word, 16);
-        bytes[at + 2] = byte(word, 8);
-        bytes[at + 3] = byte(word, 0);
-        i += 1;
+    for i in 0..8 {
+        bytes[4 * i..4 * i + 4].copy_from_slice(&to_four(hash[i]));
     }
     bytes
 }
 
-pub fn sha256(message: &[u8]) -> Digest
+// None where the message is too long [document 01: "too long"].
+#[tactic(auto, unfolding(crate::specs::Sha256::digest_of, crate::specs::Sha256::sha256))]
+pub fn sha256(message: &[u8]) -> Option<[u8; DIGEST]>
     ensures { result ≡ digest_of message.now }
 {
     if message.len() > LONGEST_INPUT {
-        return Digest {
-            fits: false,
-            bytes: [0u8; DIGEST],
-        };
+        return None;
     }
-    let hash = hash_message(message);
-    Digest {
-        fits: true,
-        bytes: hash_bytes(&hash),
-    }
+    Some(hash_bytes(&hash_message(message)))
 }
 
-// The same for Rust and C, with the digest written to `out`; false if the message is too long. The static library `wire_c` exports
-// it.
+// The same for Rust and C, with the digest written to `out`; false, and zeros, if the message is too long. The static library
+// `wire_c` exports it.
 pub fn wire_sha256(message: &[u8], out: &mut [u8; DIGEST]) -> bool
-    ensures { (result ≡ (digest_of message.now).fits) × (out.new ≡ (digest_of message.now).bytes) }
+    ensures { (result ≡ fits (digest_of message.now)) × (out.new ≡ bytes_of (digest_of message.now)) }
 {
     let digest = sha256(message);
-    let bytes = digest.bytes;
-    *out = bytes;
-    digest.fits
+    *out = digest.unwrap_or([0; DIGEST]);
+    digest.is_some()
 }
 
 // Section 5.3.3.

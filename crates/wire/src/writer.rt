@@ -3,28 +3,39 @@ mod fields;
 mod proof;
 
 ghost use Rattle.std.specs.Prelude.{◌≤◌, length};
+ghost use Rattle.base.specs.Refusal.{outcome};
 ghost use Rattle.base.specs.Timestamp.{number};
+ghost use Rattle.wire.specs.Kind.{kind_number};
 ghost use Rattle.wire.specs.Message.{READ-STAMP, PREPARE, WRITE, READ, STAMP, PREPARED, WRITTEN, CARD, body};
 ghost use Rattle.wire.specs.Putting.{Put, question};
-ghost use Rattle.wire.specs.Writing.{Wrote, unsigned, missing, unless, kept_prepared, kept_written, kept_card};
+ghost use Rattle.wire.specs.Writing.{Wrote, unsigned, missing, unless, kept_proof, kept_card};
 
 use crate::layout::{CARD_ROOM, DIGEST, ENTRIES_ROOM, LONGEST_MESSAGE};
+use crate::message::Kind;
 use base::party::{ClientId, RegisterId, ReplicaId};
-use base::refusal::OUTPUT_TOO_SHORT;
+use base::refusal::Refusal;
 use base::timestamp::Timestamp;
 use fields::{
     put_addressed, put_card, put_end, put_head, put_nonce, put_register, put_signature,
     put_timestamp, put_timestamp_and_digest,
 };
-use proof::{
-    bit_unless_missing, put_prepared, put_prepared_unless_missing, put_written_unless_missing,
-};
+use proof::{bit_unless_missing, put_proof, put_proof_unless_missing};
 
-// The length of what was written, or the refusal.
-#[derive(Drop)]
-pub enum Encoded {
-    Length(usize),
-    Refused(u8),
+// A proof as a party keeps it, with a digest of D bytes: a prepared proof with 32, a written one with none. It is missing where its
+// timestamp is 0.0. Here and in `KeptCard` a length stands beside its array, as in the parties' records: no heap, fixed memory.
+#[derive(Clone, Copy)]
+pub struct KeptProof<'a, const D: usize> {
+    pub timestamp: Timestamp,
+    pub digest: &'a [u8; D],
+    pub entry_count: u8,
+    pub entries: &'a [u8; ENTRIES_ROOM],
+}
+
+// A card as a party keeps it.
+#[derive(Clone, Copy)]
+pub struct KeptCard<'a> {
+    pub length: u8,
+    pub card: &'a [u8; CARD_ROOM],
 }
 
 // Bit maps by the fields' bits. Each has the register's, 9.
@@ -44,145 +55,138 @@ const PREPARED_PROOF: u16 = 0b00_0100_0000;
 
 const WRITTEN_PROOF: u16 = 0b00_1000_0000;
 
-// READ-STAMP and READ: a kind, a client and a nonce.
+// READ-STAMP and READ: a kind, a client and a nonce. Test 1 stands here and in each writer below, whose proof reads the room off it.
+#[tactic(auto, using(crate::proofs::Stores::turned_down))]
 fn write_question(
     out: &mut [u8],
     register: RegisterId,
-    kind: u8,
+    kind: Kind,
     client: ClientId,
     nonce: u64,
-) -> Encoded
-    ensures { Wrote out.old (question register kind client nonce) result out.new }
+) -> Result<usize, Refusal>
+    ensures { Wrote out.old (question register (kind_number kind) client nonce) (outcome result) out.new }
 {
     if out.len() < LONGEST_MESSAGE {
-        return Encoded::Refused(OUTPUT_TOO_SHORT);
+        return Err(Refusal::OutputTooShort);
     }
     let a = put_head(out, WITH_NONCE, kind, client.0);
     let b = put_nonce(out, a, nonce);
-    Encoded::Length(put_end(out, b, register))
+    Ok(put_end(out, b, register))
 }
 
+#[tactic(auto, using(crate::proofs::WrittenParts::read_stamp_bytes))]
 pub fn write_read_stamp(
     out: &mut [u8],
     register: RegisterId,
     client: ClientId,
     nonce: u64,
-) -> Encoded
-    ensures { Wrote out.old (unsigned register (READ-STAMP client nonce)) result out.new }
+) -> Result<usize, Refusal>
+    ensures { Wrote out.old (unsigned register (READ-STAMP client nonce)) (outcome result) out.new }
 {
-    write_question(out, register, 1, client, nonce)
+    write_question(out, register, Kind::ReadStamp, client, nonce)
 }
 
-pub fn write_read(out: &mut [u8], register: RegisterId, client: ClientId, nonce: u64) -> Encoded
-    ensures { Wrote out.old (unsigned register (READ client nonce)) result out.new }
+#[tactic(auto, using(crate::proofs::WrittenParts::read_bytes))]
+pub fn write_read(
+    out: &mut [u8],
+    register: RegisterId,
+    client: ClientId,
+    nonce: u64,
+) -> Result<usize, Refusal>
+    ensures { Wrote out.old (unsigned register (READ client nonce)) (outcome result) out.new }
 {
-    write_question(out, register, 4, client, nonce)
+    write_question(out, register, Kind::Read, client, nonce)
 }
 
+#[tactic(auto, using(crate::proofs::Stores::turned_down))]
 pub fn write_prepare<'a>(
     out: &mut [u8],
     register: RegisterId,
     client: ClientId,
     timestamp: Timestamp,
     digest: &'a [u8; DIGEST],
-    proof_timestamp: Timestamp,
-    proof_digest: &'a [u8; DIGEST],
-    proof_count: u8,
-    proof_entries: &'a [u8; ENTRIES_ROOM],
-    last_timestamp: Timestamp,
-    last_count: u8,
-    last_entries: &'a [u8; ENTRIES_ROOM],
-) -> Encoded
+    proof: KeptProof<'a, DIGEST>,
+    last: KeptProof<'a, 0>,
+) -> Result<usize, Refusal>
     ensures { Wrote out.old
         (unsigned register (PREPARE client (number timestamp) digest.now
-        (unless (missing proof_timestamp) (kept_prepared proof_timestamp proof_digest.now proof_count proof_entries.now))
-        (unless (missing last_timestamp) (kept_written last_timestamp last_count last_entries.now))))
-        result out.new }
+        (unless (missing proof.entry.timestamp) (kept_proof proof.entry))
+        (unless (missing last.entry.timestamp) (kept_proof last.entry))))
+        (outcome result) out.new }
 {
     if out.len() < LONGEST_MESSAGE {
-        return Encoded::Refused(OUTPUT_TOO_SHORT);
+        return Err(Refusal::OutputTooShort);
     }
     let map = WITH_DIGEST
-        + bit_unless_missing(PREPARED_PROOF, proof_timestamp)
-        + bit_unless_missing(WRITTEN_PROOF, last_timestamp);
-    let a = put_head(out, map, 2, client.0);
+        + bit_unless_missing(PREPARED_PROOF, proof.timestamp)
+        + bit_unless_missing(WRITTEN_PROOF, last.timestamp);
+    let a = put_head(out, map, Kind::Prepare, client.0);
     let b = put_timestamp_and_digest(out, a, timestamp, digest);
-    let c = put_prepared_unless_missing(
-        out,
-        b,
-        proof_timestamp,
-        proof_digest,
-        proof_count,
-        proof_entries,
-    );
-    let d = put_written_unless_missing(out, c, last_timestamp, last_count, last_entries);
-    Encoded::Length(put_end(out, d, register))
+    let c = put_proof_unless_missing(out, b, proof);
+    let d = put_proof_unless_missing(out, c, last);
+    Ok(put_end(out, d, register))
 }
 
+#[tactic(auto, using(crate::proofs::Stores::turned_down))]
 pub fn write_write<'a>(
     out: &mut [u8],
     register: RegisterId,
     client: ClientId,
-    card: &'a [u8; CARD_ROOM],
-    card_length: u8,
-    timestamp: Timestamp,
-    digest: &'a [u8; DIGEST],
-    entry_count: u8,
-    entries: &'a [u8; ENTRIES_ROOM],
-) -> Encoded
+    card: KeptCard<'a>,
+    proof: KeptProof<'a, DIGEST>,
+) -> Result<usize, Refusal>
     ensures { Wrote out.old
-        (unsigned register (WRITE client (kept_card card_length card.now)
-        (kept_prepared timestamp digest.now entry_count entries.now)))
-        result out.new }
+        (unsigned register (WRITE client (kept_card card.entry.length card.entry.card.now)
+        (kept_proof proof.entry)))
+        (outcome result) out.new }
 {
     if out.len() < LONGEST_MESSAGE {
-        return Encoded::Refused(OUTPUT_TOO_SHORT);
+        return Err(Refusal::OutputTooShort);
     }
-    let a = put_head(out, WITH_CARD_AND_PROOF, 3, client.0);
-    let b = put_card(out, a, card, card_length);
-    let c = put_prepared(out, b, timestamp, digest, entry_count, entries);
-    Encoded::Length(put_end(out, c, register))
+    let a = put_head(out, WITH_CARD_AND_PROOF, Kind::Write, client.0);
+    let b = put_card(out, a, card.card, card.length);
+    let c = put_proof(out, b, proof);
+    Ok(put_end(out, c, register))
 }
 
+#[tactic(auto, using(crate::proofs::Stores::turned_down))]
 pub fn write_stamp<'a>(
     out: &mut [u8],
     register: RegisterId,
     replica: ReplicaId,
     nonce: u64,
-    timestamp: Timestamp,
-    digest: &'a [u8; DIGEST],
-    entry_count: u8,
-    entries: &'a [u8; ENTRIES_ROOM],
+    proof: KeptProof<'a, DIGEST>,
     client: ClientId,
-) -> Encoded
+) -> Result<usize, Refusal>
     ensures { Wrote out.old
         (unsigned register (STAMP replica nonce
-        (unless (missing timestamp) (kept_prepared timestamp digest.now entry_count entries.now))
+        (unless (missing proof.entry.timestamp) (kept_proof proof.entry))
         client))
-        result out.new }
+        (outcome result) out.new }
 {
     if out.len() < LONGEST_MESSAGE {
-        return Encoded::Refused(OUTPUT_TOO_SHORT);
+        return Err(Refusal::OutputTooShort);
     }
-    let map = ADDRESSED + bit_unless_missing(PREPARED_PROOF, timestamp);
-    let a = put_head(out, map, 5, replica.0);
+    let map = ADDRESSED + bit_unless_missing(PREPARED_PROOF, proof.timestamp);
+    let a = put_head(out, map, Kind::Stamp, replica.0);
     let b = put_nonce(out, a, nonce);
-    let c = put_prepared_unless_missing(out, b, timestamp, digest, entry_count, entries);
-    Encoded::Length(put_addressed(out, c, client.0, register))
+    let c = put_proof_unless_missing(out, b, proof);
+    Ok(put_addressed(out, c, client.0, register))
 }
 
 // A PREPARED or WRITTEN without its signature: the bytes that the signature covers, in a proof's entry too.
+// Two functions of three lines: one for both would take the map and the kind besides, and say the body by a longer definition.
 pub(super) fn put_prepared_body(
     out: &mut [u8],
     register: RegisterId,
     replica: ReplicaId,
     timestamp: Timestamp,
-    digest: &[u8; 32],
+    digest: &[u8; DIGEST],
 ) -> usize
     requires { 42 ≤ length out.old }
     ensures { Put out.old 0 (body register (PREPARED replica (number timestamp) digest.now)) 42 result out.new }
 {
-    let a = put_head(out, WITH_DIGEST, 6, replica.0);
+    let a = put_head(out, WITH_DIGEST, Kind::Prepared, replica.0);
     let b = put_timestamp_and_digest(out, a, timestamp, digest);
     put_register(out, b, register)
 }
@@ -196,68 +200,67 @@ pub(super) fn put_written_body(
     requires { 10 ≤ length out.old }
     ensures { Put out.old 0 (body register (WRITTEN replica (number timestamp))) 10 result out.new }
 {
-    let a = put_head(out, WITH_TIMESTAMP, 7, replica.0);
+    let a = put_head(out, WITH_TIMESTAMP, Kind::Written, replica.0);
     let b = put_timestamp(out, a, timestamp);
     put_register(out, b, register)
 }
 
+#[tactic(auto, using(crate::proofs::Stores::turned_down))]
 pub fn write_prepared(
     out: &mut [u8],
     register: RegisterId,
     replica: ReplicaId,
     timestamp: Timestamp,
     digest: &[u8; DIGEST],
-) -> Encoded
-    ensures { Wrote out.old (unsigned register (PREPARED replica (number timestamp) digest.now)) result out.new }
+) -> Result<usize, Refusal>
+    ensures { Wrote out.old (unsigned register (PREPARED replica (number timestamp) digest.now)) (outcome result) out.new }
 {
     if out.len() < LONGEST_MESSAGE {
-        return Encoded::Refused(OUTPUT_TOO_SHORT);
+        return Err(Refusal::OutputTooShort);
     }
     let behind = put_prepared_body(out, register, replica, timestamp, digest);
-    Encoded::Length(put_signature(out, behind))
+    Ok(put_signature(out, behind))
 }
 
+#[tactic(auto, using(crate::proofs::Stores::turned_down))]
 pub fn write_written(
     out: &mut [u8],
     register: RegisterId,
     replica: ReplicaId,
     timestamp: Timestamp,
-) -> Encoded
-    ensures { Wrote out.old (unsigned register (WRITTEN replica (number timestamp))) result out.new }
+) -> Result<usize, Refusal>
+    ensures { Wrote out.old (unsigned register (WRITTEN replica (number timestamp))) (outcome result) out.new }
 {
     if out.len() < LONGEST_MESSAGE {
-        return Encoded::Refused(OUTPUT_TOO_SHORT);
+        return Err(Refusal::OutputTooShort);
     }
     let behind = put_written_body(out, register, replica, timestamp);
-    Encoded::Length(put_signature(out, behind))
+    Ok(put_signature(out, behind))
 }
 
+#[tactic(auto, using(crate::proofs::Stores::turned_down))]
 pub fn write_card<'a>(
     out: &mut [u8],
     register: RegisterId,
     replica: ReplicaId,
     nonce: u64,
-    card: &'a [u8; CARD_ROOM],
-    card_length: u8,
-    timestamp: Timestamp,
-    digest: &'a [u8; DIGEST],
-    entry_count: u8,
-    entries: &'a [u8; ENTRIES_ROOM],
+    card: KeptCard<'a>,
+    proof: KeptProof<'a, DIGEST>,
     client: ClientId,
-) -> Encoded
+) -> Result<usize, Refusal>
     ensures { Wrote out.old
-        (unsigned register (CARD replica nonce (kept_card card_length card.now)
-        (unless (missing timestamp) (kept_prepared timestamp digest.now entry_count entries.now))
+        (unsigned register (CARD replica nonce (kept_card card.entry.length card.entry.card.now)
+        (unless (missing proof.entry.timestamp) (kept_proof proof.entry))
         client))
-        result out.new }
+        (outcome result) out.new }
 {
     if out.len() < LONGEST_MESSAGE {
-        return Encoded::Refused(OUTPUT_TOO_SHORT);
+        return Err(Refusal::OutputTooShort);
     }
-    let map = ADDRESSED_WITH_CARD + bit_unless_missing(PREPARED_PROOF, timestamp);
-    let a = put_head(out, map, 8, replica.0);
+    let map = ADDRESSED_WITH_CARD + bit_unless_missing(PREPARED_PROOF, proof.timestamp);
+    let a = put_head(out, map, Kind::Card, replica.0);
     let b = put_nonce(out, a, nonce);
-    let c = put_card(out, b, card, card_length);
-    let d = put_prepared_unless_missing(out, c, timestamp, digest, entry_count, entries);
-    Encoded::Length(put_addressed(out, d, client.0, register))
+    let c = put_card(out, b, card.card, card.length);
+    let d = put_proof_unless_missing(out, c, proof);
+    Ok(put_addressed(out, d, client.0, register))
 }

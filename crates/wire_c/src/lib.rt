@@ -2,14 +2,14 @@
 #![tactic(auto)]
 
 ghost use Rattle.std.specs.Prelude.{◌≡◌};
-ghost use Rattle.wire.specs.Sha256.{digest_of};
+ghost use Rattle.wire.specs.Sha256.{digest_of, fits, bytes_of};
 
 use wire::layout::DIGEST;
 use wire::sha256;
 
 #[unsafe(no_mangle)]
 pub extern "C" fn wire_sha256(message: &[u8], out: &mut [u8; DIGEST]) -> bool
-    ensures { (result ≡ (digest_of message.now).fits) × (out.new ≡ (digest_of message.now).bytes) }
+    ensures { (result ≡ fits (digest_of message.now)) × (out.new ≡ bytes_of (digest_of message.now)) }
 {
     sha256::wire_sha256(message, out)
 }

@@ -4,4 +4,4 @@ use Rattle.register_replica.proofs.fresh_register.Goals as goal
 
 pub returns : goal.returns
 unfolding fresh_register
-returns c = rw (c.start.ensures, c.fresh_held.ensures)
+returns c = rw (c.start.ensures, c.start-2.ensures, c.empty.ensures)

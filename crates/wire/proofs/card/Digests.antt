@@ -1,31 +1,29 @@
 -- What a card's check says of it, and that a good card is short. Assumes nothing.
 use Rattle.std.proofs.Common.{◌≡◌, ℕ, ◌≤◌, Bool, true, false, List, length, refl, ap}
 use mathlib.Core.Option.{Option, none, some}
-use Rattle.base.specs.Outcome.{accepted}
+use Rattle.std.specs.Result.{is_ok}
+use Rattle.std.specs.declared.result.Result.{Result}
+use Rattle.std.specs.declared.result.Result.TheVariants.{Ok, Err}
+use Rattle.base.specs.Outcome.{accepted, guard}
+use Rattle.base.specs.Refusal.{outcome}
+use Rattle.base.specs.declared.refusal.Refusal.{Refusal}
 use Rattle.base.specs.Same.{same}
 use Rattle.base.proofs.Booleans.{and_true_both}
-use Rattle.base.proofs.Outcome.{guard_passes, guard_refuses}
 use Rattle.base.proofs.Apart.{apart}
-use Rattle.wire.specs.Card.{Fields, read_card, is_some, is_card, check_card, card_outcome, stands_under}
+use Rattle.wire.specs.Card.{Fields, read_card, is_some, is_card, check_card, stands_under}
 use Rattle.wire.specs.Sha256.{sha256}
-use Rattle.wire.specs.declared.card.CardCheck.{CardCheck}
-use Rattle.wire.specs.declared.card.CardCheck.TheVariants.{Good, Refused}
 use Rattle.wire.proofs.card.RoundTrip.{at_most_17}
 
-module _ (card : List ℕ) (check : CardCheck) (e : card_outcome check ≡ check_card card) where
-  pub checked_good : check ≡ Good → is_card card ≡ true
-  checked_good g = go (is_card card) refl
-    where
-      go : (b : Bool) → is_card card ≡ b → b ≡ true
-      go true h = refl
-      go false h = let p = guard_refuses {A = Unit {0}} 14 (is_card card) (accepted tt) h in apart (cc (ap card_outcome g))
-
-  pub checked_refused : (number : ℕ) → check ≡ Refused number → is_card card ≡ false
-  checked_refused number g = go (is_card card) refl
-    where
-      go : (b : Bool) → is_card card ≡ b → b ≡ false
-      go true h = let p = guard_passes {A = Unit {0}} 14 (is_card card) (accepted tt) h in apart (cc (ap card_outcome g))
-      go false h = refl
+-- The check's answer is Ok for a card that keeps its table.
+pub checked_is : (card : List ℕ) (check : Result (Unit {0}) Refusal) → outcome check ≡ check_card card → is_ok check ≡ is_card card
+unfolding guard
+checked_is card check e = go check (is_card card) e
+  where
+    go : (check : Result (Unit {0}) Refusal) (b : Bool) → outcome check ≡ guard {A = Unit {0}} 14 b (accepted tt) → is_ok check ≡ b
+    go (Ok value) true k = refl
+    go (Ok value) false k = apart (cc)
+    go (Err refusal) true k = apart (cc)
+    go (Err refusal) false k = refl
 
 pub card_short : (card : List ℕ) → is_card card ≡ true → length card ≤ 17
 card_short card h = go (read_card card) refl

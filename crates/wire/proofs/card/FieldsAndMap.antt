@@ -1,15 +1,16 @@
 -- What fields that were read say of the bytes and the map. Assumes nothing.
 use Rattle.std.proofs.Common.{◌≡◌, ℕ, ◌/◌, ◌%◌, ◌^◌, ◌<◌, ◌≤◌, Bool, true, false, cond, ◌&&◌, eqb, ltb, leb, List, [], ◌∷◌, length, take, drop, sym, refl, ◌∙◌, pow-suc, arith, ltb-true, eq-eqb, ne_eqb, eqb-true, le-leb, leb-true}
 use mathlib.Core.Option.{Option, none, some}
+use Rattle.std.specs.declared.option.Option as Answer
 use borrow.Author.Tests.{eqb-false, lt-leb}
 use Rattle.base.specs.BigEndian.{from_bytes}
-use Rattle.base.specs.Outcome.{accepted, guard}
+use Rattle.base.specs.Outcome.{accepted, refused, guard}
 use Rattle.base.specs.Range.{within}
 use Rattle.base.proofs.Booleans.{and_true_both}
 use Rattle.base.specs.BitMap.{map_of}
 use Rattle.base.proofs.Apart.{apart}
 use Rattle.wire.specs.declared.card.Row.{Row}
-use Rattle.wire.specs.Card.{table, Fields, prepend, prepend_present, standing, read_fields, good_card_map, read_card, is_some, card_outcome, read_answer}
+use Rattle.wire.specs.Card.{table, Fields, prepend, prepend_present, standing, read_fields, good_card_map, read_card, is_some, read_answer}
 
 module _ (row : Row) (bytes : List ℕ) where
   pub too_short : length bytes < row.width → standing row bytes ≡ none
@@ -115,8 +116,13 @@ module _ (card : List ℕ) where
     unfolding read_card
     with_good_map good = rw (le-leb 2 (length card) h, ← is_map, good)
 
--- The check in an answer is the outcome of the card's test.
-pub outcome_read : (fields : Option Fields) → card_outcome (read_answer fields).check ≡ guard 14 (is_some fields) (accepted tt)
+-- The check's outcome is that of the card's test.
+pub checked_read : (o : Option Fields) (fields : List (Answer.Option ℕ)) → accepted fields ≡ read_answer o → guard {A = Unit {0}} 14 (is_some o) (accepted tt) ≡ accepted tt
 unfolding guard
-outcome_read none = refl
-outcome_read (some fields) = refl
+checked_read none fields e = apart (cc)
+checked_read (some fields') fields e = refl
+
+pub refused_read : (o : Option Fields) (n : ℕ) → refused n ≡ read_answer o → guard {A = Unit {0}} 14 (is_some o) (accepted tt) ≡ refused n
+unfolding guard
+refused_read none n e = let same : n ≡ 14 = cc in rw same
+refused_read (some fields) n e = apart (cc)

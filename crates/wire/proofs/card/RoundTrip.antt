@@ -1,7 +1,8 @@
 -- Cards written then read, and read then written; how long a card is. Assumes nothing.
-use Rattle.std.proofs.Common.{◌≡◌, ℕ, ◌+◌, ◌*◌, ◌/◌, ◌%◌, ◌^◌, ◌<◌, ◌≤◌, Bool, true, false, cond, ◌&&◌, leb, List, [], ◌∷◌, ◌++◌, length, take, drop, replicate, sym, refl, ◌∙◌, arith, length-append, length-drop, take-append-drop, length-take-le, take_at, drop_at, eq-eqb, ne_eqb, leb-true}
+use Rattle.std.proofs.Common.{◌≡◌, ℕ, ◌+◌, ◌*◌, ◌/◌, ◌^◌, ◌<◌, ◌≤◌, Bool, true, false, cond, ◌&&◌, leb, List, [], ◌∷◌, ◌++◌, length, map, take, drop, replicate, sym, refl, ap, ◌∙◌, arith, length-append, length-drop, take-append-drop, length-take-le, take_at, drop_at, leb-true}
 use mathlib.Core.Option.{none, some}
 use Rattle.base.specs.BigEndian.{from_bytes, to_bytes, Bytes}
+use Rattle.base.specs.Outcome.{accepted}
 use Rattle.base.specs.Range.{within}
 use Rattle.base.proofs.BigEndian.{length_to_bytes, from_bytes_to_bytes, to_bytes_from_bytes, bytes_take, bytes_drop}
 use Rattle.base.proofs.Booleans.{and_true_both}
@@ -9,7 +10,7 @@ use Rattle.base.proofs.Range.{bounds}
 use Rattle.base.specs.BitMap.{map_of}
 use Rattle.base.proofs.Apart.{apart}
 use Rattle.wire.specs.declared.card.Row.{Row}
-use Rattle.wire.specs.Card.{table, Fields, standing, read_fields, good_card_map, read_card, write_fields, write_card, in_range, legal_fields, fields_record, fields_of, card_read}
+use Rattle.wire.specs.Card.{table, Fields, standing, read_fields, good_card_map, read_card, write_fields, write_card, in_range, legal_fields, shown, read_answer, card_read}
 use Rattle.wire.proofs.card.FieldsAndMap.{ReadAs, ended, missing, present, read_as, mapped, stood, stands, field_missing, field_present, good_small, with_good_map}
 
 -- Each row's values fit its bytes.
@@ -147,15 +148,15 @@ pub starting : read_card (0 ∷ 0 ∷ []) ≡ some (replicate 7 none)
 unfolding read_card read_fields table good_card_map from_bytes
 starting = refl
 
--- The record of a card's fields tells them.
-pub fields_of_fields_record : (fields : Fields) → fields_of (fields_record fields) ≡ fields
-fields_of_fields_record [] = refl
-fields_of_fields_record (none ∷ fields) =
-    let half : 2 * map_of fields / 2 ≡ map_of fields = omega arith in
-    rw (ne_eqb (2 * map_of fields % 2) 1 (λ odd. omega arith), half, fields_of_fields_record fields)
-fields_of_fields_record (some value ∷ fields) =
-    let half : (2 * map_of fields + 1) / 2 ≡ map_of fields = omega arith in
-    rw (eq-eqb ((2 * map_of fields + 1) % 2) 1 (omega arith), half, fields_of_fields_record fields)
+-- What the code answers tells the fields.
+pub shown_once : (fields fields' : Fields) → map shown fields ≡ map shown fields' → fields ≡ fields'
+shown_once [] [] e = refl
+shown_once [] (field' ∷ fields') e = apart (cc)
+shown_once (field ∷ fields) [] e = apart (cc)
+shown_once (none ∷ fields) (none ∷ fields') e = ap (λ (later : Fields). none ∷ later) (shown_once fields fields' (cc))
+shown_once (none ∷ fields) (some value' ∷ fields') e = apart (cc)
+shown_once (some value ∷ fields) (none ∷ fields') e = apart (cc)
+shown_once (some value ∷ fields) (some value' ∷ fields') e = let later = shown_once fields fields' (cc) in cc
 
-pub card_fields : (card : List ℕ) (fields : Fields) → read_card card ≡ some fields → fields_of (card_read card).fields ≡ fields
-card_fields card fields e = rw e (fields_of_fields_record fields)
+pub card_fields : (card : List ℕ) (fields : Fields) → read_card card ≡ some fields → card_read card ≡ accepted (map shown fields)
+card_fields card fields e = ap read_answer e

@@ -3,14 +3,14 @@ ghost use Rattle.std.specs.Prelude.{◌≡◌, ◌+◌, ◌-◌, ◌*◌, ◌/�
 ghost use Rattle.base.specs.BigEndian.{from_bytes};
 ghost use Rattle.wire.specs.Sha256.{longest_input, padded, block, block_count, words};
 
+use crate::numbers::four_at;
 use base::big_endian::from_four;
-use base::numbers::{difference, smaller};
 
 // How many words of the block that starts at `start` are the message's alone.
 fn full_words(length: usize, start: usize) -> usize
     ensures { result ≡ min 16 ((length - start) / 4) }
 {
-    smaller(16, difference(length, start) / 4)
+    (length.saturating_sub(start) / 4).min(16)
 }
 
 // The word that starts at `at` of the padded message, of `total` bytes, if the message does not fill it.
@@ -42,16 +42,8 @@ fn load_message(message: &[u8], i: usize, full: usize, w: &mut [u32; 64])
     requires { (4 * full ≤ length message.now - 64 * i) × (full ≤ 16) × (length w.old ≡ 64) }
     ensures { (length w.new ≡ 64) × (take full w.new ≡ words (block (padded message.now) i) full) × (drop full w.new ≡ drop full w.old) }
 {
-    let mut j: usize = 0;
-    while j < full {
-        let at = 64 * i + 4 * j;
-        w[j] = from_four(
-            message[at],
-            message[at + 1],
-            message[at + 2],
-            message[at + 3],
-        );
-        j += 1;
+    for j in 0..full {
+        w[j] = four_at(message, 64 * i + 4 * j);
     }
 }
 

@@ -3,7 +3,7 @@ ghost use Rattle.std.specs.Prelude.{◌≡◌, ◌+◌, ◌<◌, length, take, s
 ghost use Rattle.wire.specs.declared.sha256.rounds.WorkingVariables.{WorkingVariables};
 ghost use Rattle.wire.specs.Sha256.{K as round_constants, next_word, schedule, working_variables, T₁, T₂, round, rounds, next_hash, compress};
 
-use crate::sha256::functions::{add, big_sigma0, big_sigma1, ch, maj, small_sigma0, small_sigma1};
+use crate::sha256::functions::{big_sigma0, big_sigma1, ch, maj, small_sigma0, small_sigma1};
 
 // By value, so that the compiler keeps them in registers.
 #[derive(Drop)]
@@ -18,29 +18,32 @@ pub(super) struct WorkingVariables {
     pub h: u32,
 }
 
+#[tactic(auto, unfolding(crate::specs::Sha256::next_word))]
 fn next_word(w: &[u32; 64], t: usize) -> u32
     requires { t < 48 }
     ensures { result ≡ next_word w.now t }
 {
-    add(
-        add(
-            add(small_sigma1(w[t + 14]), w[t + 9]),
-            small_sigma0(w[t + 1]),
-        ),
-        w[t],
-    )
+    small_sigma1(w[t + 14])
+        .wrapping_add(w[t + 9])
+        .wrapping_add(small_sigma0(w[t + 1]))
+        .wrapping_add(w[t])
 }
 
+#[tactic(auto, using(crate::proofs::sha256::rounds::Schedule::t1_sum))]
 fn t1(e: u32, f: u32, g: u32, h: u32, k: u32, w: u32) -> u32
     ensures { result ≡ T₁ e f g h k w }
 {
-    add(add(add(add(h, big_sigma1(e)), ch(e, f, g)), k), w)
+    h.wrapping_add(big_sigma1(e))
+        .wrapping_add(ch(e, f, g))
+        .wrapping_add(k)
+        .wrapping_add(w)
 }
 
+#[tactic(auto, using(crate::proofs::sha256::rounds::Schedule::t2_sum))]
 fn t2(a: u32, b: u32, c: u32) -> u32
     ensures { result ≡ T₂ a b c }
 {
-    add(big_sigma0(a), maj(a, b, c))
+    big_sigma0(a).wrapping_add(maj(a, b, c))
 }
 
 fn round(v: WorkingVariables, k: u32, w: u32) -> WorkingVariables
@@ -49,11 +52,11 @@ fn round(v: WorkingVariables, k: u32, w: u32) -> WorkingVariables
     let x = t1(v.e, v.f, v.g, v.h, k, w);
     let y = t2(v.a, v.b, v.c);
     WorkingVariables {
-        a: add(x, y),
+        a: x.wrapping_add(y),
         b: v.a,
         c: v.b,
         d: v.c,
-        e: add(v.d, x),
+        e: v.d.wrapping_add(x),
         f: v.e,
         g: v.f,
         h: v.g,
@@ -83,14 +86,14 @@ fn round_at(v: WorkingVariables, k: &[u32; 64], w: &[u32; 64], t: usize) -> Work
     round(v, k[t], w[t])
 }
 
-// The first 48 rounds, which complete the schedule. Eight rounds a turn leave fewer moves between registers.
+// The first 48 rounds, which complete the schedule. Eight rounds a turn, written out: fewer moves between registers (docs/SPEED.md).
 fn first_rounds(start: WorkingVariables, k: &[u32; 64], w: &mut [u32; 64]) -> WorkingVariables
     requires { (k.now ≡ round_constants) × (length w.old ≡ 64) }
     ensures { (w.new ≡ schedule (take 16 w.old) 48) × (result ≡ rounds w.new start 48) }
 {
     let mut v = start;
-    let mut t: usize = 0;
-    while t < 48 {
+    for turn in 0..6 {
+        let t = 8 * turn;
         v = round_and_word(v, k, w, t);
         v = round_and_word(v, k, w, t + 1);
         v = round_and_word(v, k, w, t + 2);
@@ -99,24 +102,22 @@ fn first_rounds(start: WorkingVariables, k: &[u32; 64], w: &mut [u32; 64]) -> Wo
         v = round_and_word(v, k, w, t + 5);
         v = round_and_word(v, k, w, t + 6);
         v = round_and_word(v, k, w, t + 7);
-        t += 8;
     }
     v
 }
 
-// The last 16 rounds: from the variables after 48 rounds, whatever they started as, to those after 64.
+// The last 16 rounds: from the variables after 48 rounds, whatever they started as, to those after 64. Four a turn, for speed too.
 fn last_rounds(middle: WorkingVariables, k: &[u32; 64], w: &[u32; 64]) -> WorkingVariables
     requires { k.now ≡ round_constants }
     ensures { (start : WorkingVariables) → middle ≡ rounds w.now start 48 → result ≡ rounds w.now start 64 }
 {
     let mut v = middle;
-    let mut t: usize = 48;
-    while t < 64 {
+    for turn in 0..4 {
+        let t = 48 + 4 * turn;
         v = round_at(v, k, w, t);
         v = round_at(v, k, w, t + 1);
         v = round_at(v, k, w, t + 2);
         v = round_at(v, k, w, t + 3);
-        t += 4;
     }
     v
 }
@@ -136,23 +137,25 @@ fn working_variables(hash: &[u32; 8]) -> WorkingVariables
     }
 }
 
+#[tactic(auto, unfolding(crate::specs::Sha256::next_hash))]
 fn next_hash(hash: &[u32; 8], v: WorkingVariables) -> [u32; 8]
     ensures { result ≡ next_hash hash.now v }
 {
     [
-        add(v.a, hash[0]),
-        add(v.b, hash[1]),
-        add(v.c, hash[2]),
-        add(v.d, hash[3]),
-        add(v.e, hash[4]),
-        add(v.f, hash[5]),
-        add(v.g, hash[6]),
-        add(v.h, hash[7]),
+        v.a.wrapping_add(hash[0]),
+        v.b.wrapping_add(hash[1]),
+        v.c.wrapping_add(hash[2]),
+        v.d.wrapping_add(hash[3]),
+        v.e.wrapping_add(hash[4]),
+        v.f.wrapping_add(hash[5]),
+        v.g.wrapping_add(hash[6]),
+        v.h.wrapping_add(hash[7]),
     ]
 }
 
 // The next hash value, by the block whose 16 words stand at the front of w; the rest of w is room for the schedule.
-// The constants are taken once: each use of a const array writes it out anew.
+// The constants are taken once and lent: each use of a const array writes it out anew, and with a static a digest takes 5 % more time.
+#[tactic(auto, unfolding(crate::specs::Sha256::compress, crate::specs::Sha256::K))]
 pub(super) fn compress(hash: &[u32; 8], w: &mut [u32; 64]) -> [u32; 8]
     requires { length w.old ≡ 64 }
     ensures { result ≡ compress hash.now (take 16 w.old) }

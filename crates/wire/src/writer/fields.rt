@@ -1,27 +1,25 @@
 // The fields of a message: each function stores one from a place on and answers the place behind it.
-ghost use Rattle.std.specs.Prelude.{◌+◌, ◌<◌, ◌≤◌, [], ◌∷◌, ◌++◌, length, take};
+ghost use Rattle.std.specs.Prelude.{◌+◌, ◌<◌, ◌≤◌, [], ◌∷◌, ◌++◌, length};
 ghost use Rattle.base.specs.BigEndian.{to_bytes};
 ghost use Rattle.base.specs.Timestamp.{number};
+ghost use Rattle.wire.specs.Kind.{kind_number};
 ghost use Rattle.wire.specs.Putting.{Put, sized_card};
 ghost use Rattle.wire.specs.Writing.{blank_signature, kept_card};
 
-use crate::layout::{CARD_ROOM, DIGEST, LONGEST_CARD, SIGNATURE, TIMESTAMP};
-use base::big_endian::to_eight;
-use base::numbers::smaller_byte;
+use crate::layout::{CARD_ROOM, LONGEST_CARD, SIGNATURE};
+use crate::message::Kind;
+use base::big_endian::{to_eight, to_two};
 use base::party::RegisterId;
 use base::timestamp::Timestamp;
 
-// The first `count` of some bytes.
-pub(super) fn put_bytes(out: &mut [u8], at: usize, bytes: &[u8], count: usize) -> usize
-    requires { (count ≤ length bytes.now) × (at + count ≤ length out.old) }
-    ensures { Put out.old at (take count bytes.now) count result out.new }
+// All of some bytes.
+pub(super) fn put_bytes(out: &mut [u8], at: usize, bytes: &[u8]) -> usize
+    requires { at + length bytes.now ≤ length out.old }
+    ensures { Put out.old at bytes.now (length bytes.now) result out.new }
 {
-    let mut i = 0;
-    while i < count {
-        out[at + i] = bytes[i];
-        i += 1;
-    }
-    at + i
+    let end = at + bytes.len();
+    out[at..end].copy_from_slice(bytes);
+    end
 }
 
 pub(super) fn put_byte(out: &mut [u8], at: usize, byte: u8) -> usize
@@ -33,61 +31,61 @@ pub(super) fn put_byte(out: &mut [u8], at: usize, byte: u8) -> usize
 }
 
 // The bit map, the kind and the sender.
-pub(super) fn put_head(out: &mut [u8], map: u16, kind: u8, sender: u8) -> usize
+#[tactic(auto, unfolding(base::specs::BigEndian::to_bytes))]
+pub(super) fn put_head(out: &mut [u8], map: u16, kind: Kind, sender: u8) -> usize
     requires { 4 ≤ length out.old }
-    ensures { Put out.old 0 (to_bytes 2 map ++ (to_bytes 1 kind ++ to_bytes 1 sender)) 4 result out.new }
+    ensures { Put out.old 0 (to_bytes 2 map ++ (to_bytes 1 (kind_number kind) ++ to_bytes 1 sender)) 4 result out.new }
 {
-    let head = [(map / 256 % 256) as u8, (map % 256) as u8, kind, sender];
-    put_bytes(out, 0, &head, 4)
+    let [high, low] = to_two(map);
+    put_bytes(out, 0, &[high, low, kind.number(), sender])
 }
 
 pub(super) fn put_nonce(out: &mut [u8], at: usize, nonce: u64) -> usize
     requires { at + 8 ≤ length out.old }
     ensures { Put out.old at (to_bytes 8 nonce) 8 result out.new }
 {
-    let bytes = to_eight(nonce);
-    put_bytes(out, at, &bytes, 8)
+    put_bytes(out, at, &to_eight(nonce))
 }
 
 pub(super) fn put_timestamp(out: &mut [u8], at: usize, timestamp: Timestamp) -> usize
     requires { at + 5 ≤ length out.old }
     ensures { Put out.old at (to_bytes 5 (number timestamp)) 5 result out.new }
 {
-    let bytes = timestamp.to_bytes();
-    put_bytes(out, at, &bytes, TIMESTAMP)
+    put_bytes(out, at, &timestamp.to_bytes())
 }
 
-// By value: what is the function's own cannot overlap the output, so the compiler copies it whole and not byte by byte.
-fn put_digest(out: &mut [u8], at: usize, digest: [u8; DIGEST]) -> usize
-    requires { at + 32 ≤ length out.old }
-    ensures { Put out.old at digest 32 result out.new }
+// A digest of D bytes. By value: what is the function's own cannot overlap the output, so the compiler copies it whole.
+fn put_digest<const D: usize>(out: &mut [u8], at: usize, digest: [u8; D]) -> usize
+    requires { at + D ≤ length out.old }
+    ensures { Put out.old at digest.entry D result out.new }
 {
-    put_bytes(out, at, &digest, DIGEST)
+    put_bytes(out, at, &digest)
 }
 
-pub(super) fn put_timestamp_and_digest(
+pub(super) fn put_timestamp_and_digest<const D: usize>(
     out: &mut [u8],
     at: usize,
     timestamp: Timestamp,
-    digest: &[u8; DIGEST],
+    digest: &[u8; D],
 ) -> usize
-    requires { at + 37 ≤ length out.old }
-    ensures { Put out.old at (to_bytes 5 (number timestamp) ++ digest.now) 37 result out.new }
+    requires { at + (5 + D) ≤ length out.old }
+    ensures { Put out.old at (to_bytes 5 (number timestamp) ++ digest.now) (5 + D) result out.new }
 {
     let behind = put_timestamp(out, at, timestamp);
     put_digest(out, behind, *digest)
 }
 
 // The sender's own signature: zeros, for the signing box to fill.
+#[tactic(auto, unfolding(crate::specs::Writing::blank_signature))]
 pub(super) fn put_signature(out: &mut [u8], at: usize) -> usize
     requires { at + 64 ≤ length out.old }
     ensures { Put out.old at blank_signature 64 result out.new }
 {
-    let signature = [0u8; SIGNATURE];
-    put_bytes(out, at, &signature, SIGNATURE)
+    put_bytes(out, at, &[0; SIGNATURE])
 }
 
 // The register that the message is for.
+#[tactic(auto, unfolding(base::specs::BigEndian::to_bytes))]
 pub(super) fn put_register(out: &mut [u8], at: usize, register: RegisterId) -> usize
     requires { at < length out.old }
     ensures { Put out.old at (to_bytes 1 register.0) 1 result out.new }
@@ -113,12 +111,12 @@ pub(super) fn put_addressed(out: &mut [u8], at: usize, client: u8, register: Reg
     put_end(out, behind, register)
 }
 
-// A card behind its length.
+// A card behind its length. No KeptCard: that an array behind a struct's field has 17 bytes is not found.
 pub(super) fn put_card(out: &mut [u8], at: usize, card: &[u8; CARD_ROOM], card_length: u8) -> usize
     requires { at + 18 ≤ length out.old }
     ensures { Put out.old at (sized_card (kept_card card_length card.now)) 18 result out.new }
 {
-    let count = smaller_byte(card_length, LONGEST_CARD);
+    let count = card_length.min(LONGEST_CARD);
     let behind = put_byte(out, at, count);
-    put_bytes(out, behind, card, count as usize)
+    put_bytes(out, behind, &card[..usize::from(count)])
 }

@@ -1,30 +1,20 @@
--- `audit::comparing::common` meets its contract.
-use Prim.Native.Nat.{◌-◌}
-use native.Mathlib.Omega.{arith}
+-- `audit::comparing::common` meets its contract: the chain of iterators from its end.
+use mathlib.Core.Path.{◌∙◌}
 use borrow.Author.Rules.{rules}
-use lib.ListN.{length}
-use Rattle.audit.proofs.Common.{Common, first_ends, second_ends, differs_here, same_here}
+use Rattle.std.proofs.Common.{tests}
+use Rattle.std.specs.List.{zip}
+use Rattle.std.proofs.lemmas.Iterator.{YieldsList-from_slice, YieldsList-from_zip}
+use Rattle.std.proofs.lemmas.Iterator.Consumers.{YieldsList-at, count_from_yields_List}
+use Rattle.std.proofs.lemmas.Iterator.Search.{YieldsList-from_take_while}
+use Rattle.std.proofs.lemmas.List.Folds.{length-prefix_len}
+use Rattle.audit.proofs.Common.{one_byte, in_pairs}
 use Rattle.audit.proofs.comparing.common.Goals as goal
-
-pub loop-i-init : goal.loop-i-init
-loop-i-init c = omega arith
-
-pub returns-then-b-i : goal.returns-then-b-i
-returns-then-b-i c =
-    let l = c.loop-i in
-    second_ends _ _ l.i l.invariant c.if-b-i.true
-
-pub returns-then-a-i : goal.returns-then-a-i
-returns-then-a-i c =
-    let l = c.loop-i in
-    differs_here _ _ l.i l.invariant c.loop-i-test.true (omega (arith, c.if-b-i.false)) c.if-a-i.true
-
-pub loop-i-preserved : goal.loop-i-preserved
-loop-i-preserved c =
-    let l = c.loop-i in
-    same_here _ _ l.i l.invariant c.loop-i-test.true (omega (arith, c.if-b-i.false)) c.if-a-i.false
 
 pub returns : goal.returns
 returns c =
-    let l = c.loop-i in
-    first_ends _ _ l.i l.invariant c.loop-i-test.false
+    count_from_yields_List c.take_while.result _ c.count.ensures.ran
+    (YieldsList-from_take_while _ one_byte
+    (YieldsList-at c.take_while.ensures.source (YieldsList-from_zip (YieldsList-from_slice c.args.a.now cc) (YieldsList-from_slice c.args.b.now cc)))
+    c.take_while.ensures.closure c.take_while.ensures.done (λ x b q k. search (rules, tests)))
+    ∙ length-prefix_len one_byte (zip c.args.a.now c.args.b.now)
+    ∙ in_pairs c.args.a.now c.args.b.now

@@ -12,6 +12,6 @@ pub returns : goal.returns
 returns c =
     let proof = c.args.proof.now in
     let timestamp : c.timestamp.result ≡ of_number (proof_from 0 proof).timestamp = c.timestamp.ensures ∙ whole_timestamp proof c.requires in
-    let count : c.written_entry_count.result ≡ length (proof_from 0 proof).entries = c.written_entry_count.ensures ∙ whole_count proof c.requires in
-    let entries : c.entries_array.result ≡ filled entries_room (entries_bytes (proof_from 0 proof).entries) = c.entries_array.ensures ∙ ap (filled entries_room) (c.written_entries.ensures ∙ whole_entries proof c.requires) in
+    let count : c.entry_count.result ≡ length (proof_from 0 proof).entries = c.entry_count.ensures ∙ whole_count proof c.requires in
+    let entries : c.array.result ≡ filled entries_room (entries_bytes (proof_from 0 proof).entries) = c.array.ensures ∙ ap (filled entries_room) (c.entries.ensures ∙ whole_entries proof c.requires) in
     c.with_written_for.ensures ∙ rw (timestamp, count, entries)

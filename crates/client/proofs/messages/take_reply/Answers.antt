@@ -1,11 +1,9 @@
 -- `client::messages::take_reply` meets its contract.
 use Rattle.client.proofs.Parting.{last_kind}
-use native.Mathlib.Omega.{arith}
 use Rattle.client.proofs.messages.take_reply.Goals as goal
 
-pub take_card-requires : goal.take_card-requires
-take_card-requires c =
-    (c.requires.0, c.requires.1, c.requires.2, last_kind c.args.client c.args.message.now c.args.fields c.requires.1 (omega arith) (omega arith) (omega arith))
+pub on_card-requires : goal.on_card-requires
+on_card-requires c = let r = c.args.reply in (c.requires, last_kind r.passed c.in_default.not-Stamp c.in_default.not-Prepared c.in_default.not-Written)
 
-pub returns-in-7 : goal.returns-in-7
-returns-in-7 c = c.take_written.ensures c.args.out.now
+pub returns-in-Written : goal.returns-in-Written
+returns-in-Written c = c.on_written.ensures c.args.out.now

@@ -2,4 +2,4 @@
 use Rattle.client.proofs.record.beginning.Goals as goal
 
 pub returns : goal.returns
-returns c = rw (c.card_array.ensures, c.empty.ensures)
+returns c = rw (c.array.ensures, c.empty.ensures)

@@ -1,13 +1,8 @@
--- `client::signatures::gather` meets its contract: the entries of the replicas up to id are kept.
-use mathlib.Core.Path.{◌≡◌}
-use Prim.Native.Nat.{◌-◌, ◌≤◌}
-use lib.ListN.{length, take}
+-- `client::signatures::gather` meets its contract: the entries of the first i replicas are kept.
+use Rattle.std.proofs.Common.{take}
 use Rattle.protocol.specs.Client.{gathered}
 use Rattle.client.specs.Arrays.{Keeps}
 use Rattle.client.proofs.signatures.gather.Given as goal
 
-abbrev pub invariant-loop-id : goal.invariant-loop-id
-invariant-loop-id l = Keeps (take 11 (gathered l.id l.counted l.signatures)) l.count l.signers l.entries × (l.id ≤ l.n) × (length l.entries ≡ 715)
-
-abbrev pub decreases-loop-id : goal.decreases-loop-id
-decreases-loop-id l = l.n - l.id
+abbrev pub invariant-loop-i : goal.invariant-loop-i
+invariant-loop-i l = Keeps (take 11 (gathered l.i l.counted l.signatures)) l.built

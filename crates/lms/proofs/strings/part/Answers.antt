@@ -7,4 +7,4 @@ use Rattle.lms.proofs.strings.part.Goals as goal
 pub returns : goal.returns
 returns c =
     let a = c.args in
-    c.digest_array.ensures ∙ rw c.behind.ensures (part_filled 32 a.at a.bytes.now (omega arith))
+    c.array.ensures ∙ rw c.behind.ensures (part_filled 32 a.at a.bytes.now (omega arith))

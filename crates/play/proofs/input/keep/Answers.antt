@@ -16,24 +16,24 @@ ended : (script : List ℕ) (next : Kept) (piece : List ℕ) (i : ℕ) → i ≡
 unfolding after kept_of
 ended script next piece i e = record { place_is = rw (e, drop-length piece); puts = rw (e, drop-length piece) (nothing script next.length) }
 
-pub loop-i-init : goal.loop-i-init
-loop-i-init c = (omega arith, refl, refl, λ f new p. p)
+pub loop-byte-init : goal.loop-byte-init
+loop-byte-init c = (omega arith, refl, refl, λ f new p. p)
 
-pub loop-i-preserved : goal.loop-i-preserved
-loop-i-preserved c =
-    let l = c.loop-i in
+pub loop-byte-preserved : goal.loop-byte-preserved
+loop-byte-preserved c =
+    let l = c.loop-byte in
     let a = c.args in
     let kept = c.keep_byte-next.ensures in
     let next = c.keep_byte-next.result.place in (
       omega arith,
       omega arith,
-      after_more l.next.place next a.piece.now l.i (omega arith) kept.place_is ∙ l.invariant.2,
-      λ f new later. l.invariant.3 f new (same_bytes (kept_more l.next.place next a.piece.now l.i (omega arith) kept.place_is) (then kept.puts later)),
+      after_more l.next.place next a.piece.now l.byte-index (omega arith) kept.place_is ∙ l.invariant.2,
+      λ f new later. l.invariant.3 f new (same_bytes (kept_more l.next.place next a.piece.now l.byte-index (omega arith) kept.place_is) (then kept.puts later)),
     )
 
 pub returns : goal.returns
 returns c =
-    let l = c.loop-i in
+    let l = c.loop-byte in
     let a = c.args in
-    let e = ended l.script l.next a.piece.now l.i (omega arith) in
+    let e = ended l.script l.next a.piece.now l.byte-index (omega arith) in
     record { place_is = e.place_is ∙ l.invariant.2; puts = l.invariant.3 l.next.length l.script e.puts }

@@ -1,18 +1,15 @@
 -- `play::input::keep` meets its contract. Whoever keeps what is left has kept all.
 use mathlib.Core.Path.{◌≡◌}
 use mathlib.Core.List.{List}
-use Prim.Native.Nat.{ℕ, ◌-◌, ◌≤◌}
+use Prim.Native.Nat.{ℕ, ◌≤◌}
 use lib.ListN.{length, drop}
 use Rattle.text.specs.Put.{Puts}
 use Rattle.play.specs.Input.{after, kept_of}
 use Rattle.play.proofs.input.keep.Given as goal
 
-abbrev pub invariant-loop-i : goal.invariant-loop-i
-invariant-loop-i l =
-    (l.i ≤ length l.piece)
+abbrev pub invariant-loop-byte : goal.invariant-loop-byte
+invariant-loop-byte l =
+    (l.byte-index ≤ length l.piece)
     × (length l.script ≡ length l.initial.script)
-    × (after l.next.place (drop l.i l.piece) ≡ after l.initial.next.place l.piece)
-    × ((f : ℕ) (new : List ℕ) → Puts l.script l.next.length (kept_of l.next.place (drop l.i l.piece)) f new → Puts l.initial.script l.initial.next.length (kept_of l.initial.next.place l.piece) f new)
-
-abbrev pub decreases-loop-i : goal.decreases-loop-i
-decreases-loop-i l = length l.piece - l.i
+    × (after l.next.place (drop l.byte-index l.piece) ≡ after l.initial.next.place l.piece)
+    × ((f : ℕ) (new : List ℕ) → Puts l.script l.next.length (kept_of l.next.place (drop l.byte-index l.piece)) f new → Puts l.initial.script l.initial.next.length (kept_of l.initial.next.place l.piece) f new)

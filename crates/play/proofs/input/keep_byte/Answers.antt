@@ -5,9 +5,9 @@ use Rattle.text.proofs.Putting.{nothing}
 use Rattle.play.specs.Input.{step, kept_byte, after, kept_of}
 use Rattle.play.proofs.input.keep_byte.Goals as goal
 
-pub returns-then-place-ge-LINES : goal.returns-then-place-ge-LINES
+pub returns-then-lines-ge-LINES : goal.returns-then-lines-ge-LINES
 unfolding after step kept_of kept_byte
-returns-then-place-ge-LINES c =
+returns-then-lines-ge-LINES c =
     let kept = c.args.kept in
     let full = le-leb 100 kept.place.lines (omega arith) in
     record { place_is = rw full; puts = rw full (nothing _ _) }
@@ -20,9 +20,9 @@ returns-then-byte-eq-NEWLINE c =
     let ends = eq-eqb a.byte 10 c.if-byte-eq-NEWLINE.true in
     record { place_is = rw (not_full, ends); puts = rw (not_full, ends) c.put.ensures }
 
-pub returns-then-place-ge-COLUMNS : goal.returns-then-place-ge-COLUMNS
+pub returns-then-column-ge-COLUMNS : goal.returns-then-column-ge-COLUMNS
 unfolding after step kept_of kept_byte
-returns-then-place-ge-COLUMNS c =
+returns-then-column-ge-COLUMNS c =
     let a = c.args in
     let not_full = lt-leb 100 a.kept.place.lines (omega arith) in
     let goes_on = ne_eqb a.byte 10 c.if-byte-eq-NEWLINE.false in

@@ -10,4 +10,4 @@ use Rattle.play.proofs.output.put_signers.Goals as goal
 pub returns : goal.returns
 unfolding behind_card
 returns c =
-    same_bytes (ap (λ (bytes : List ℕ). (32 ∷ []) ++ hex bytes) c.to_bytes-bytes.ensures) (then c.put-space.ensures c.put_hex.ensures)
+    same_bytes (ap (λ (bytes : List ℕ). (32 ∷ []) ++ hex bytes) c.to_bytes.ensures) (then c.put-space.ensures c.put_hex.ensures)

@@ -15,4 +15,4 @@ unfolding printed header
 returns c =
     let a = c.args in
     let texts = take 100 (lines a.script.now) in
-    then c.put-at.ensures (same_bytes (ap₂ (λ (world : World) (store : List ℕ). printed_lines world store 1 texts) c.fresh.ensures c.store-sent.ensures) c.play_lines.ensures)
+    then c.put-end.ensures (same_bytes (ap₂ (λ (world : World) (store : List ℕ). printed_lines world store 1 texts) c.fresh.ensures c.store-sent.ensures) c.play_lines.ensures)

@@ -3,6 +3,7 @@ use mathlib.Core.Path.{ap₂}
 use mathlib.Core.List.{List}
 use Prim.Native.Nat.{ℕ}
 use Rattle.text.proofs.Putting.{same_bytes}
+use Rattle.base.specs.Outcome.{Outcome}
 use Rattle.play.specs.Output.{line}
 use Rattle.play.specs.declared.output.Said.{Said}
 use Rattle.play.proofs.session.play_line.Goals as goal
@@ -14,5 +15,5 @@ returns c =
     record {
       world_is = e.world_is;
       store_is = e.store_is;
-      puts = same_bytes (ap₂ (λ (w : Said) (card : List ℕ). line a.number w card) e.says.what_is e.says.card_is) c.put_line-end.ensures;
+      puts = same_bytes (ap₂ (λ (w : Outcome Said) (card : List ℕ). line a.number w card) e.says.what_is e.says.card_is) c.put_line-end.ensures;
     }

@@ -7,4 +7,6 @@ use Rattle.register_replica.proofs.read_stamp.read_stamp.Goals as goal
 pub returns : goal.returns
 returns c =
     let a = c.args in
-    sends_keeping a.register a.replica a.out.now _ _ _ a.replica _ _ _ refl (omega (arith, c.requires)) c.write_stamp-encoded.ensures c.answer_of.ensures refl c.keep.ensures
+    let k = c.kept_proof-proof.ensures in
+    let wrote = rw (k.timestamp, k.digest, k.entry_count, k.entries) at c.write_stamp-answer.ensures in
+    sends_keeping a.register a.replica a.out.now _ _ _ a.replica _ _ refl (omega (arith, c.requires)) wrote refl c.keep.ensures

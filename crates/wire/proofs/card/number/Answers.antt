@@ -9,30 +9,23 @@ use Rattle.wire.proofs.card.number.Goals as goal
 few_bytes : (i : ℕ) → i ≤ 3 → 256 ^ i ≤ 256 ^ 3
 few_bytes i h = pow-le-pow_right {n = 256} (omega arith) h
 
-pub loop-i-init : goal.loop-i-init
+pub loop-byte-init : goal.loop-byte-init
 unfolding from_bytes
-loop-i-init c = omega arith
+loop-byte-init c = omega arith
 
 pub overflow_mul-n : goal.overflow_mul-n
-overflow_mul-n c = omega (arith, few_bytes c.loop-i.i (omega arith))
-
-pub overflow_cast-n : goal.overflow_cast-n
-overflow_cast-n c = omega (arith, c.type_inv.bytes c.loop-i.i)
+overflow_mul-n c = omega (arith, few_bytes c.loop-byte.byte-index (omega arith))
 
 pub overflow_add-n : goal.overflow_add-n
-overflow_add-n c = let i = c.loop-i.i in omega (arith, c.type_inv.bytes i, few_bytes i (omega arith))
+overflow_add-n c = let i = c.loop-byte.byte-index in omega (arith, c.from.ensures, few_bytes i (omega arith), c.type_inv.bytes i)
 
-pub loop-i-preserved : goal.loop-i-preserved
-loop-i-preserved c =
-    let i = c.loop-i.i in
+pub loop-byte-preserved : goal.loop-byte-preserved
+loop-byte-preserved c =
+    let i = c.loop-byte.byte-index in
     let bytes = c.args.bytes.now in
-    let byte = c.type_inv.bytes i in
     let inside : i < length bytes = omega arith in
     let more = pow-suc 256 i in
-    (omega arith, rw (add-one, take-suc bytes i 0, from_bytes_snoc) (cc), rw add-one (omega arith))
+    (rw (add-one, take-suc bytes i 0, from_bytes_snoc) (cc), rw add-one (omega (arith, c.type_inv.bytes i)))
 
 pub returns : goal.returns
-returns c =
-    let bytes = c.args.bytes.now in
-    let i = c.loop-i.i in
-    c.loop-i.invariant.1 ∙ ap from_bytes (take_all i bytes (omega arith))
+returns c = c.loop-byte.invariant.0 ∙ ap from_bytes (take_all c.loop-byte.byte-index c.args.bytes.now (omega arith))

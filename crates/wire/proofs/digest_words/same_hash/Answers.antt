@@ -15,24 +15,24 @@ returns-then-bytes-ne-DIGEST c =
 
 pub loop-i-init : goal.loop-i-init
 unfolding hash_bytes
-loop-i-init c = (omega arith, refl)
+loop-i-init c = refl
 
 pub returns-then-not-same_word : goal.returns-then-not-same_word
 returns-then-not-same_word c =
     let l = c.loop-i in
     let x = c.args in
-    sym (word_differs x.hash.now x.bytes.now l.i (omega arith) (omega arith) l.invariant.1 (sym c.same_word.ensures ∙ c.if-not-same_word.true))
+    sym (word_differs x.hash.now x.bytes.now l.i (omega arith) (omega arith) l.invariant (sym c.same_word.ensures ∙ c.if-not-same_word.true))
 
 pub loop-i-preserved : goal.loop-i-preserved
 loop-i-preserved c =
     let l = c.loop-i in
     let x = c.args in
-    (omega arith, word_more x.hash.now x.bytes.now l.i (omega arith) l.invariant.1 (sym c.same_word.ensures ∙ c.if-not-same_word.false))
+    word_more x.hash.now x.bytes.now l.i (omega arith) l.invariant (sym c.same_word.ensures ∙ c.if-not-same_word.false)
 
 pub returns : goal.returns
 returns c =
     let l = c.loop-i in
     let x = c.args in
     let end : l.i ≡ 8 = omega arith in
-    let equal : x.bytes.now ≡ hash_bytes x.hash.now 8 = sym (take_all 32 x.bytes.now (omega arith)) ∙ (rw end at l.invariant.1) in
+    let equal : x.bytes.now ≡ hash_bytes x.hash.now 8 = sym (take_all 32 x.bytes.now (omega arith)) ∙ (rw end at l.invariant) in
     sym (ap (same (hash_bytes x.hash.now 8)) equal ∙ same_itself (hash_bytes x.hash.now 8))

@@ -2,7 +2,7 @@
 use Rattle.std.proofs.Common.{◌≡◌, ℕ, ◌+◌, ◌-◌, ◌*◌, ◌/◌, ◌%◌, ◌^◌, ◌<◌, sym, refl, ap, ◌∙◌, mod-lt, div-lt_iff_lt-mul, div-le_self, arith, pow_pos, pow-add}
 use native.Mathlib.Nat.{div-add-mod, div-div-eq-div-mul, mul-add-div, mul-add-mod_self_left, mul-div-mul_right}
 use lib.Bits.{bit_or, bit_xor, or_lt, or_shifted_r, xor_block, xor_shr, xor_mod, xor_lt}
-use Rattle.wire.specs.Sha256.{ROTR, SHR, Σ₁, σ₀, σ₁}
+use Rattle.wire.specs.Sha256.{ROTR, SHR, Σ₀, Σ₁, σ₀, σ₁}
 use Rattle.wire.proofs.sha256.functions.Bits.{xor_assoc}
 
 -- ---- Remainders of products
@@ -84,3 +84,7 @@ small_sigma0_form x h = ap (λ (r : ℕ). bit_xor r (SHR 3 x)) (of_xor 7 25 refl
 pub small_sigma1_form : (x : ℕ) → x < 2 ^ 32 → bit_xor (ROTR 17 (bit_xor x (ROTR 2 x))) (SHR 10 x) ≡ σ₁ x
 unfolding σ₁
 small_sigma1_form x h = ap (λ (r : ℕ). bit_xor r (SHR 10 x)) (of_xor 17 15 refl x (ROTR 2 x) h (rotated_small 2 x h) ∙ ap (bit_xor (ROTR 17 x)) (twice 17 2 13 refl x h))
+
+pub big_sigma0_form : (x : ℕ) → bit_xor (bit_xor (ROTR 2 x) (ROTR 13 x)) (ROTR 22 x) ≡ Σ₀ x
+unfolding Σ₀
+big_sigma0_form x = refl

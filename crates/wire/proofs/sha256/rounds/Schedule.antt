@@ -1,7 +1,7 @@
 -- What a round with the schedule's next word beside it does, on plain lists. Assumes nothing.
-use Rattle.std.proofs.Common.{◌≡◌, ℕ, zero, suc, ◌+◌, ◌<◌, ◌≤◌, List, length, get_or, take, set, sym, refl, ap, ◌∙◌, add-one, arith, take_all, get_or-set_other, get_or-take}
+use Rattle.std.proofs.Common.{◌≡◌, ℕ, zero, suc, ◌+◌, ◌<◌, ◌≤◌, List, length, get_or, take, set, sym, refl, ap, ◌∙◌, add-one, arith, get_or-set_other, get_or-take}
 use Rattle.wire.specs.declared.sha256.rounds.WorkingVariables.{WorkingVariables}
-use Rattle.wire.specs.Sha256.{K, next_word, schedule, round, rounds}
+use Rattle.wire.specs.Sha256.{◌⊞◌, Ch, Maj, Σ₀, Σ₁, K, T₁, T₂, next_word, schedule, round, rounds}
 use Rattle.wire.proofs.sha256.Stores.{store_next}
 
 -- The next word reads only words before it.
@@ -50,13 +50,17 @@ turn {m} {start} {w} {w'} {v} {v'} {t} n e h i x y s =
       variables = rw (e, y, add-one t, same, before, ← i.variables) x;
     }
 
--- After 48 of them the schedule is whole.
-pub turned_all : {m : List ℕ} {start : WorkingVariables} {w : List ℕ} {v : WorkingVariables} (t : ℕ) → t ≡ 48 → Turned m start w v t
-    → (w ≡ schedule m 48) × (v ≡ rounds w start 48)
-turned_all {m} {start} {w} t e i = (sym (take_all (t + 16) w (omega (arith, i.size))) ∙ i.scheduled ∙ ap (schedule m) e, rw e at i.variables)
-
 -- One more round, with the schedule whole.
 pub round_next : (w : List ℕ) (start : WorkingVariables) (t n : ℕ) {v v' : WorkingVariables} → n ≡ t + 1 → v ≡ rounds w start t → v' ≡ round (get_or K t 0) (get_or w t 0) v
     → v' ≡ rounds w start n
 unfolding rounds
 round_next w start t n e i x = rw (e, add-one t, ← i) x
+
+-- The sums of a round, as its steps add them.
+pub t1_sum : (e f g h k w : ℕ) → h ⊞ Σ₁ e ⊞ Ch e f g ⊞ k ⊞ w ≡ T₁ e f g h k w
+unfolding T₁
+t1_sum e f g h k w = refl
+
+pub t2_sum : (a b c : ℕ) → Σ₀ a ⊞ Maj a b c ≡ T₂ a b c
+unfolding T₂
+t2_sum a b c = refl

@@ -1,17 +1,13 @@
 -- `wire::writer::write_stamp` meets its contract.
 use Rattle.std.proofs.Common.{◌+◌, arith}
-use Rattle.wire.specs.Writing.{missing, kept_prepared}
-use Rattle.wire.proofs.Stores.{then, wrote, turned_down}
+use Rattle.wire.specs.Writing.{missing, kept_proof}
+use Rattle.wire.proofs.Stores.{then, wrote}
 use Rattle.wire.proofs.WrittenParts.{stamp_parts}
 use Rattle.wire.proofs.writer.write_stamp.Goals as goal
-
-pub returns-then-out-lt-LONGEST_MESSAGE : goal.returns-then-out-lt-LONGEST_MESSAGE
-returns-then-out-lt-LONGEST_MESSAGE c = turned_down (omega arith)
 
 pub returns : goal.returns
 returns c =
     let a = c.args in
     let map = 775 + c.bit_unless_missing-map.result in
-    let proof = kept_prepared a.timestamp a.digest.now a.entry_count a.entries.now in
-    wrote (stamp_parts a.register a.replica map a.nonce (missing a.timestamp) proof a.client (rw c.bit_unless_missing-map.ensures.0)) (omega arith)
-    (then (then (then c.put_head-a.ensures c.put_nonce-b.ensures) c.put_prepared_unless_missing-c.ensures) c.put_addressed.ensures)
+    wrote (stamp_parts a.register a.replica map a.nonce (missing a.proof.timestamp) (kept_proof a.proof) a.client (rw c.bit_unless_missing-map.ensures.0)) (omega arith)
+    (then (then (then c.put_head-a.ensures c.put_nonce-b.ensures) c.put_proof_unless_missing-c.ensures) c.put_addressed.ensures)

@@ -2,12 +2,9 @@
 use Rattle.std.proofs.Common.{arith}
 use Rattle.base.specs.Timestamp.{number}
 use Rattle.wire.specs.Message.{WRITTEN}
-use Rattle.wire.proofs.Stores.{then, wrote, turned_down}
+use Rattle.wire.proofs.Stores.{then, wrote}
 use Rattle.wire.proofs.WrittenParts.{body_unsigned}
 use Rattle.wire.proofs.writer.write_written.Goals as goal
-
-pub returns-then-out-lt-LONGEST_MESSAGE : goal.returns-then-out-lt-LONGEST_MESSAGE
-returns-then-out-lt-LONGEST_MESSAGE c = turned_down (omega arith)
 
 pub returns : goal.returns
 returns c =

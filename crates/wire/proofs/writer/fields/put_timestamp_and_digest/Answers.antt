@@ -3,5 +3,4 @@ use Rattle.wire.proofs.Stores.{then}
 use Rattle.wire.proofs.writer.fields.put_timestamp_and_digest.Goals as goal
 
 pub returns : goal.returns
-returns c =
-    then c.put_timestamp-behind.ensures c.put_digest.ensures
+returns g c = then c.put_timestamp-behind.ensures c.put_digest.ensures

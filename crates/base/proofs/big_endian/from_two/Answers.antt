@@ -1,8 +1,0 @@
--- `base::big_endian::from_two` meets its contract.
-use native.Mathlib.Omega.{arith}
-use Rattle.base.specs.BigEndian.{from_bytes}
-use Rattle.base.proofs.big_endian.from_two.Goals as goal
-
-pub returns : goal.returns
-unfolding from_bytes
-returns c = omega arith

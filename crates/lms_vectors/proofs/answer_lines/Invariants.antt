@@ -1,6 +1,0 @@
--- Each turn leaves a line behind.
-use Rattle.std.proofs.Common.{◌-◌, length}
-use Rattle.lms_vectors.proofs.answer_lines.Given as goal
-
-abbrev pub decreases-loop-from : goal.decreases-loop-from
-decreases-loop-from g l = length l.input - l.from

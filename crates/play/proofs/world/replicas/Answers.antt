@@ -1,7 +1,0 @@
--- `play::world::replicas` meets its contract.
-use Rattle.play.specs.Worlds.{fresh_world}
-use Rattle.play.proofs.world.replicas.Goals as goal
-
-pub returns : goal.returns
-unfolding fresh_world
-returns c = rw (c.replica.ensures, c.replica-2.ensures, c.replica-3.ensures, c.replica-4.ensures)

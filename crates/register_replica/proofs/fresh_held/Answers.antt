@@ -1,7 +1,0 @@
--- `register_replica::fresh_held` meets its contract.
-use Rattle.protocol.specs.RegisterReplica.{fresh_register}
-use Rattle.register_replica.proofs.fresh_held.Goals as goal
-
-pub returns : goal.returns
-unfolding fresh_register
-returns c = rw (c.start.ensures, c.empty.ensures)
