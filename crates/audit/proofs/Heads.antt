@@ -11,7 +11,7 @@ use Rattle.base.specs.Outcome.{Outcome, accepted, refused, ◌>>=◌}
 use Rattle.base.specs.declared.party.ReplicaId.{ReplicaId}
 use Rattle.base.proofs.Outcome.{guard_passes, guard_refuses}
 use Rattle.protocol.specs.Bank.{fresh_bank, bank_setup}
-use Rattle.protocol.proofs.SetUp.{set_up_key}
+use Rattle.protocol.proofs.SetUp.{made_fresh, set_up_key}
 use Rattle.bank.specs.Making.{new_bank}
 use Rattle.audit.specs.Judging.{begun}
 use Rattle.audit.specs.Log.{judged_from, head_length, fault_bound_in, replica_id_in, key_in, set_up_in, fresh_in, head_outcome, judged_if_set_up, judged}
@@ -32,7 +32,9 @@ module _ (log : List ℕ) where
   -- and what a longer one says.
   pub begins_long : head_length ≤ length log → new_bank (fault_bound_in log) (replica_id_in log) (key_in log) ≡ begun log
   unfolding begun
-  begins_long h = ap (λ (o : Outcome (Unit {0})). o >>= λ ready. accepted (fresh_in log)) (sym (long_set_up h))
+  begins_long h =
+      made_fresh (fault_bound_in log) (replica_id_in log) (key_in log)
+      ∙ ap (λ (o : Outcome (Unit {0})). o >>= λ ready. accepted (fresh_in log)) (sym (long_set_up h))
 
 -- A log is its head and what is behind it.
 pub head_split : (log : List ℕ) → head_length ≤ length log → log ≡ head_bytes (fault_bound_in log) (replica_id_in log) (key_in log) ++ drop head_length log

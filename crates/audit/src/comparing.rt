@@ -2,7 +2,7 @@
 ghost use Rattle.std.specs.Prelude.{◌≡◌};
 ghost use Rattle.base.specs.Refusal.{outcome};
 ghost use Rattle.protocol.specs.Events.{answered_by};
-ghost use Rattle.audit.specs.Comparing.{common};
+ghost use Rattle.audit.specs.Comparing.{common, numbered};
 ghost use Rattle.audit.specs.Log.{agrees, before_signature, same_but_signature};
 ghost use Rattle.audit.specs.Reading.{recorded_by};
 
@@ -26,19 +26,26 @@ fn same_but_signature(sent: &[u8], reply: &[u8]) -> bool
     sent.len() == reply.len() && same(before_signature(sent), before_signature(reply))
 }
 
-// The replica's answer, its reply in front of `out`; and the log's, in the bytes of the entry. Refusals are compared by number: a log's
-// is a byte, and may be none of `Refusal`.
+// A replica's answer with its refusal's number.
+pub(super) fn by_number(answer: Result<usize, Refusal>) -> Result<usize, u8>
+    ensures { numbered result ≡ outcome answer }
+{
+    answer.map_err(|refusal| refusal.number())
+}
+
+// The replica's answer, its reply in front of `out`; and the log's, in the bytes of the entry. Refusals are compared by number, of
+// any value: a log's is a byte, and may be none of `Refusal`.
 pub fn agrees(
-    answer: Result<usize, Refusal>,
+    answer: Result<usize, u8>,
     out: &[u8],
     bytes: &[u8],
     recorded: Result<Span, u8>,
 ) -> bool
-    ensures { result ≡ agrees (answered_by (outcome answer) out.now) (recorded_by bytes.now recorded) }
+    ensures { result ≡ agrees (answered_by (numbered answer) out.now) (recorded_by bytes.now recorded) }
 {
     match (answer, recorded) {
         (Ok(length), Ok(reply)) => same_but_signature(front(out, length), part(bytes, reply)),
-        (Err(refusal), Err(number)) => refusal.number() == number,
+        (Err(refusal), Err(number)) => refusal == number,
         _ => false,
     }
 }

@@ -5,7 +5,7 @@ ghost use Rattle.audit.specs.Judging.{checked_entry, ending_for, JudgesPart, beg
 ghost use Rattle.audit.specs.Reading.{entry_by};
 
 use crate::calling::call_at;
-use crate::comparing::agrees;
+use crate::comparing::{agrees, by_number};
 use crate::reading::{EntryPlaces, read_entry};
 use base::party::ReplicaId;
 use base::refusal::Refusal;
@@ -37,7 +37,7 @@ fn check_entry(bank: Bank, bytes: &[u8], places: EntryPlaces) -> Option<Bank>
     ensures { result ≡ checked_entry bank (entry_by bytes.now places) }
 {
     let called = call_at(bank, bytes, places.call);
-    if agrees(called.answer, &called.out, bytes, places.answer) {
+    if agrees(by_number(called.answer), &called.out, bytes, places.answer) {
         Some(called.bank)
     } else {
         None

@@ -1,7 +1,8 @@
 -- Document 01, "Parties and stamps": timestamps (stamps).
-use Rattle.std.specs.Prelude.{◌≡◌, Bool, ◌&&◌, ◌||◌, cond, ℕ, ◌+◌, ◌*◌, ◌/◌, ◌%◌, leb, ltb, eqb}
+use Rattle.std.specs.Prelude.{◌≡◌, Bool, ◌&&◌, ◌||◌, cond, List, [], ◌∷◌, ◌++◌, ℕ, ◌+◌, ◌*◌, ◌/◌, ◌%◌, leb, ltb, eqb}
 use Rattle.std.specs.declared.option.Option.{Option}
 use Rattle.std.specs.declared.option.Option.TheVariants.{Some, None}
+use Rattle.std.specs.Fmt.{decimal}
 use Rattle.base.specs.Party.{is_writer}
 use Rattle.base.specs.declared.party.ClientId.{ClientId}
 use Rattle.base.specs.declared.timestamp.Timestamp.{Timestamp}
@@ -29,6 +30,10 @@ pub record Before (s t : Timestamp) (answer : Bool) : Type 0 where
 -- Whether two timestamps are one.
 abbrev pub is_same : Timestamp → Timestamp → Bool
 is_same s t = eqb (number s) (number t)
+
+-- Its text, as "1.2": the count, a dot, the client.
+abbrev pub shown : Timestamp → List ℕ
+shown t = decimal t.count ++ (46 ∷ []) ++ decimal t.client.0
 
 -- "0.0 is the starting stamp."
 abbrev pub start : Timestamp

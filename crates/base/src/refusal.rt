@@ -1,5 +1,6 @@
 // The refusals: document 01's numbers ("Turned down, in checking order") and document 02's. What each tests, the definitions say.
-ghost use Rattle.std.specs.Prelude.{◌≡◌};
+ghost use Rattle.std.specs.Prelude.{◌≡◌, Some};
+ghost use Rattle.std.specs.Fmt.{decimal};
 ghost use Rattle.base.specs.Refusal.{number_of};
 
 use std::fmt;
@@ -40,7 +41,10 @@ impl Refusal {
     }
 }
 
+// Written as its number.
 impl Display for Refusal {
+    ghost output = { λ refusal. Some (decimal (number_of refusal)) };
+
     fn fmt<W: fmt::Write>(&self, f: &mut fmt::Formatter<W>) -> fmt::Result {
         write!(f, "{}", self.number())
     }

@@ -1,7 +1,7 @@
 // Timestamps: who wrote, and after how many earlier writes.
-ghost use Rattle.std.specs.Prelude.{◌≡◌, ◌∷◌, []};
+ghost use Rattle.std.specs.Prelude.{◌≡◌, ◌∷◌, [], Some};
 ghost use Rattle.base.specs.BigEndian.{from_bytes, to_bytes};
-ghost use Rattle.base.specs.Timestamp.{number, of_number, Before, is_same, start, successor, is_issued};
+ghost use Rattle.base.specs.Timestamp.{number, of_number, Before, is_same, start, successor, is_issued, shown};
 
 use crate::big_endian::from_four;
 use crate::party::{ClientId, is_writer};
@@ -80,7 +80,10 @@ impl Timestamp {
     }
 }
 
+// Written count.client, as `text::timestamp::put_timestamp` puts it.
 impl Display for Timestamp {
+    ghost output = { λ t. Some (shown t) };
+
     fn fmt<W: fmt::Write>(&self, f: &mut fmt::Formatter<W>) -> fmt::Result {
         write!(f, "{}.{}", self.count, self.client.0)
     }

@@ -4,6 +4,7 @@
 use base::slices::front;
 use std::io;
 use text::hex::read_word;
+use text::line::NEWLINE;
 
 fn print_card(rt: &impl Print, card: &[u8]) -> io::Result<()> {
     match wire::card::read(card) {
@@ -31,8 +32,8 @@ fn answer(rt: &impl Print, line: &[u8]) -> io::Result<()> {
 
 // Each program has this loop: shared, it would take a closure that prints.
 fn answer_lines(rt: &impl Print, input: &[u8]) -> io::Result<()> {
-    for line in input.split_inclusive(|byte| *byte == b'\n') {
-        answer(rt, line.strip_suffix(b"\n").unwrap_or(line))?;
+    for line in input.split_inclusive(|byte| *byte == NEWLINE) {
+        answer(rt, line.strip_suffix(&[NEWLINE]).unwrap_or(line))?;
     }
     Ok(())
 }

@@ -8,6 +8,7 @@
 use base::slices::front;
 use std::io;
 use text::hex::read_word;
+use text::line::{NEWLINE, SPACE};
 
 // The bytes that a word writes, in an array with room for them.
 fn bytes_of<'a>(word: &[u8], room: &'a mut [u8]) -> Option<&'a [u8]> {
@@ -21,13 +22,14 @@ fn bytes_of<'a>(word: &[u8], room: &'a mut [u8]) -> Option<&'a [u8]> {
 
 // Whether a line's signature is genuine, where the line has one. Each array has room for more bytes than are genuine.
 fn is_genuine(line: &[u8]) -> Option<bool> {
-    let mut words = line.splitn(3, |byte| *byte == b' ');
-    let mut key = [0u8; 128];
-    let mut message = [0u8; 8192];
-    let mut signature = [0u8; 2048];
-    let key = bytes_of(words.next()?, &mut key)?;
-    let message = bytes_of(words.next()?, &mut message)?;
-    let signature = bytes_of(words.next()?, &mut signature)?;
+    let mut words = line.splitn(3, |byte| *byte == SPACE);
+    let (key, message, signature) = (words.next()?, words.next()?, words.next()?);
+    let mut room = [0u8; 128];
+    let key = bytes_of(key, &mut room)?;
+    let mut room = [0u8; 8192];
+    let message = bytes_of(message, &mut room)?;
+    let mut room = [0u8; 2048];
+    let signature = bytes_of(signature, &mut room)?;
     Some(lms::signature::verify(key, message, signature))
 }
 
@@ -35,14 +37,15 @@ fn answer(rt: &impl Print, line: &[u8]) -> io::Result<()> {
     match is_genuine(line) {
         Some(true) => println!(rt; "genuine"),
         Some(false) => println!(rt; "not"),
-        None => println!(rt; "unread"),
+        // Not by println!, which would take longer than the rest of such a line.
+        None => console::print(rt, b"unread\n"),
     }
 }
 
 // Each program has this loop: shared, it would take a closure that prints.
 fn answer_lines(rt: &impl Print, input: &[u8]) -> io::Result<()> {
-    for line in input.split_inclusive(|byte| *byte == b'\n') {
-        answer(rt, line.strip_suffix(b"\n").unwrap_or(line))?;
+    for line in input.split_inclusive(|byte| *byte == NEWLINE) {
+        answer(rt, line.strip_suffix(&[NEWLINE]).unwrap_or(line))?;
     }
     Ok(())
 }

@@ -15,6 +15,7 @@ use base::slices::front;
 use console::print_hex;
 use std::io;
 use text::hex::{hex_byte, hex_value, read_hex, read_word};
+use text::line::{NEWLINE, SPACE};
 use wire::card_part::{card_part, later_card};
 use wire::layout::DIGEST as DIGEST_LENGTH;
 use wire::message::{Fields, Kind, Party};
@@ -153,7 +154,7 @@ fn print_signatures<F: Fn(usize, &mut [u8]) -> Result<Option<Signed>, Refusal>>(
 
 // The two words of a line.
 fn pair(line: &[u8]) -> Option<(&[u8], &[u8])> {
-    let mut words = line.splitn(2, |byte| *byte == b' ');
+    let mut words = line.splitn(2, |byte| *byte == SPACE);
     Some((words.next()?, words.next()?))
 }
 
@@ -217,9 +218,9 @@ fn judge_proof(rt: &impl Print, f: u8, words: &[u8]) -> Option<io::Result<()>> {
 }
 
 fn print_later(rt: &impl Print, first: &[u8], second: &[u8]) -> io::Result<()> {
-    print!(rt; "later card ")?;
+    console::print(rt, b"later card ")?;
     print_hex(rt, later_card(first, second))?;
-    println!(rt)
+    console::print(rt, b"\n")
 }
 
 fn later(rt: &impl Print, words: &[u8]) -> Option<io::Result<()>> {
@@ -248,10 +249,11 @@ fn answer(rt: &impl Print, line: &[u8]) -> Option<io::Result<()>> {
 
 // Each program has this loop: shared, it would take a closure that prints.
 fn answer_lines(rt: &impl Print, input: &[u8]) -> io::Result<()> {
-    for line in input.split_inclusive(|byte| *byte == b'\n') {
-        match answer(rt, line.strip_suffix(b"\n").unwrap_or(line)) {
+    for line in input.split_inclusive(|byte| *byte == NEWLINE) {
+        match answer(rt, line.strip_suffix(&[NEWLINE]).unwrap_or(line)) {
             Some(printed) => printed?,
-            None => println!(rt; "unread")?,
+            // Not by println!, which would take longer than the rest of such a line.
+            None => console::print(rt, b"unread\n")?,
         }
     }
     Ok(())

@@ -20,20 +20,20 @@ use Rattle.play.specs.Session.{printed_lines}
 use Rattle.play.specs.declared.world.World.{World}
 
 -- Digits behind a number lead to no smaller one.
-past : (n : ℕ) (digits : List ℕ) → 256 ≤ n → below 256 (with_digits n digits) ≡ None
+past : (n : ℕ) (digits : List ℕ) → 1_000 ≤ n → below 1_000 (with_digits n digits) ≡ None
 unfolding with_digits
-past n [] h = rw (le-ltb n 256 h)
+past n [] h = rw (le-ltb n 1_000 h)
 past n (digit ∷ digits) h = go (within 48 57 digit && ltb (n * 10 + (digit - 48)) (2 ^ 64)) (past (n * 10 + (digit - 48)) digits (omega arith))
   where
-    go : (b : Bool) → below 256 (with_digits (n * 10 + (digit - 48)) digits) ≡ None → below 256 (cond b (with_digits (n * 10 + (digit - 48)) digits) None) ≡ None
+    go : (b : Bool) → below 1_000 (with_digits (n * 10 + (digit - 48)) digits) ≡ None → below 1_000 (cond b (with_digits (n * 10 + (digit - 48)) digits) None) ≡ None
     go true e = e
     go false e = refl
 
-later : (n digit : ℕ) (digits : List ℕ) → ((m : ℕ) → n * 10 + (digit - 48) ≡ m → below 256 (with_digits m digits) ≡ None) → below 256 (with_digits n (digit ∷ digits)) ≡ None
+later : (n digit : ℕ) (digits : List ℕ) → ((m : ℕ) → n * 10 + (digit - 48) ≡ m → below 1_000 (with_digits m digits) ≡ None) → below 1_000 (with_digits n (digit ∷ digits)) ≡ None
 unfolding with_digits
 later n digit digits h = go (within 48 57 digit && ltb (n * 10 + (digit - 48)) (2 ^ 64))
   where
-    go : (b : Bool) → below 256 (cond b (with_digits (n * 10 + (digit - 48)) digits) None) ≡ None
+    go : (b : Bool) → below 1_000 (cond b (with_digits (n * 10 + (digit - 48)) digits) None) ≡ None
     go true = h _ refl
     go false = refl
 
@@ -46,13 +46,13 @@ long_number (a ∷ b ∷ []) h = absurd (omega arith)
 long_number (a ∷ b ∷ c ∷ []) h = absurd (omega arith)
 long_number (a ∷ b ∷ c ∷ d ∷ digits) h = go (eqb a 48) refl
   where
-    first : (a ≡ 48 → ⊥) → (t : Bool) → within 48 57 a ≡ t → below 256 (with_digits 0 (a ∷ b ∷ c ∷ d ∷ digits)) ≡ None
+    first : (a ≡ 48 → ⊥) → (t : Bool) → within 48 57 a ≡ t → below 1_000 (with_digits 0 (a ∷ b ∷ c ∷ d ∷ digits)) ≡ None
     first other true e =
         let digit = bounds 48 57 a e in
         later 0 a (b ∷ c ∷ d ∷ digits) (λ k e₁. later k b (c ∷ d ∷ digits) (λ m e₂. later m c (d ∷ digits) (λ n e₃. later n d digits (λ o e₄. past o digits (omega arith)))))
     first other false e = rw e
 
-    go : (t : Bool) → eqb a 48 ≡ t → cond t None (below 256 (with_digits 0 (a ∷ b ∷ c ∷ d ∷ digits))) ≡ None
+    go : (t : Bool) → eqb a 48 ≡ t → cond t None (below 1_000 (with_digits 0 (a ∷ b ∷ c ∷ d ∷ digits))) ≡ None
     go true e = refl
     go false e = first (eqb-false a 48 e) (within 48 57 a) refl
 

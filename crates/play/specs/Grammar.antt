@@ -14,9 +14,9 @@ is_hex_digit byte = within 48 57 byte || within 65 70 byte
 unfoldable pub is_hex_card : List ℕ → Bool
 is_hex_card digits = within 2 34 (length digits) && (eqb (length digits % 2) 0 && list_all is_hex_digit digits)
 
--- "M has no leading zero": the number that the digits write. At most 100 messages are sent, so that none has a number above 255.
+-- "M has no leading zero": the number that the digits write. At most 100 messages are sent, so that none has a number above 999.
 unfoldable pub message_number : List ℕ → Option ℕ
-message_number digits = cond (eqb (get_or digits 0 0) 48) None (below 256 (numeral digits))
+message_number digits = cond (eqb (get_or digits 0 0) 48) None (below 1_000 (numeral digits))
 
 -- "`w D HEX` begins a write", "`h H M` delivers message M to holder H, `d D M` to desk D"
 unfoldable pub asked : ℕ → ℕ → List ℕ → Option Command

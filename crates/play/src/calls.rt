@@ -25,7 +25,7 @@ const REGISTER: RegisterId = RegisterId(1);
 pub enum Call {
     Write,
     Read,
-    Deliver(u8),
+    Deliver(usize),
 }
 
 fn begin_write(client: Client, digits: &[u8], out: &mut [u8]) -> Stepped
@@ -60,23 +60,23 @@ fn hand_replica(
 pub(super) fn replica_does(
     replica: RegisterReplica,
     log: &Log,
-    m: u8,
+    m: usize,
     store: &mut [u8],
 ) -> register_replica::Stepped
     ensures { ReplicaLeaves (replica_does replica log.now store.old m) (sent_before log.now store.old) result store.new }
 {
     let mut message = [0u8; LONGEST_MESSAGE];
     let n = log.copy_message(m, store, &mut message);
-    let at = start(log.count, store.len());
+    let at = start(usize::from(log.count), store.len());
     hand_replica(replica, front(&message, n), &mut store[at..])
 }
 
-fn deliver(client: Client, log: &Log, m: u8, store: &mut [u8]) -> Stepped
+fn deliver(client: Client, log: &Log, m: usize, store: &mut [u8]) -> Stepped
     ensures { ClientLeaves (client_does client log.now store.old [] (Call.Deliver m)) (sent_before log.now store.old) result store.new }
 {
     let mut message = [0u8; LONGEST_MESSAGE];
     let n = log.copy_message(m, store, &mut message);
-    let at = start(log.count, store.len());
+    let at = start(usize::from(log.count), store.len());
     hand_client(client, front(&message, n), &mut store[at..])
 }
 
@@ -89,7 +89,7 @@ pub(super) fn client_does(
 ) -> Stepped
     ensures { ClientLeaves (client_does client log.now store.old line.now call) (sent_before log.now store.old) result store.new }
 {
-    let at = start(log.count, store.len());
+    let at = start(usize::from(log.count), store.len());
     match call {
         Call::Write => begin_write(client, behind(line, 4), &mut store[at..]),
         Call::Read => client::begin_read(client, REGISTER, &mut store[at..]),

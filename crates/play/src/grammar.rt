@@ -1,22 +1,26 @@
 // The player's grammar: what a line asks for.
 ghost use Rattle.std.specs.Prelude.{◌≡◌};
 ghost use Rattle.std.specs.List.{list_all};
+ghost use Rattle.text.specs.Decimal.{numeral, below};
 ghost use Rattle.play.specs.Grammar.{is_hex_digit, is_hex_card, message_number, asked, command};
 
 use base::party::{ClientId, ReplicaId, within};
-use text::decimal::decimal_byte;
+use text::decimal::read_decimal;
 
-// What a line asks for. At most 100 messages are sent, so a byte has a message's number.
+// What a line asks for.
 #[derive(Clone, Copy, Debug, PartialEq, Eq)]
 pub enum Command {
     Write(ClientId),
     Read(ClientId),
-    ToReplica(ReplicaId, u8),
-    ToClient(ClientId, u8),
+    ToReplica(ReplicaId, usize),
+    ToClient(ClientId, usize),
 }
 
 // The longest card has 17 bytes.
 const MOST_DIGITS: usize = 34;
+
+// At most 100 messages are sent, so that none has a number above 999.
+const NUMBER_LIMIT: u64 = 1_000;
 
 #[tactic(auto, unfolding(crate::specs::Grammar::is_hex_digit))]
 fn is_hex_digit(byte: u8) -> bool
@@ -40,14 +44,23 @@ fn is_card(digits: &[u8]) -> bool
     (2..=MOST_DIGITS).contains(&n) && n % 2 == 0 && all_hex(digits)
 }
 
+// `as`: a number below 1,000 fits.
+fn below_limit(digits: &[u8]) -> Option<usize>
+    ensures { result ≡ below 1_000 (numeral digits.now) }
+{
+    read_decimal(digits)
+        .filter(|n| *n < NUMBER_LIMIT)
+        .map(|n| n as usize)
+}
+
 // A message's number has no leading zero.
 #[tactic(auto, using(std::proofs::lemmas::Bool::Decides::nat_tests), unfolding(crate::specs::Grammar::message_number))]
-fn message_number(digits: &[u8]) -> Option<u8>
+fn message_number(digits: &[u8]) -> Option<usize>
     ensures { result ≡ message_number digits.now }
 {
     match digits {
         [b'0', ..] => None,
-        _ => decimal_byte(digits),
+        _ => below_limit(digits),
     }
 }
 

@@ -51,23 +51,19 @@ impl Log {
 
     // Copies message m out of the store; answers how many bytes that were.
     #[tactic(auto, unfolding(crate::specs::Log::message))]
-    pub fn copy_message(&self, m: u8, store: &[u8], to: &mut [u8]) -> usize
+    pub fn copy_message(&self, m: usize, store: &[u8], to: &mut [u8]) -> usize
         ensures { Puts to.old 0 (message self.now store.now (m - 1)) result to.new }
     {
         let before = m.saturating_sub(1);
         let at = start(before, store.len());
-        put(
-            to,
-            0,
-            front(behind(store, at), self.length_of(usize::from(before))),
-        )
+        put(to, 0, front(behind(store, at), self.length_of(before)))
     }
 }
 
 // Where the message behind so many others starts in a store of that size.
 #[tactic(auto, unfolding(crate::specs::Log::start))]
-pub fn start(before: u8, size: usize) -> usize
+pub fn start(before: usize, size: usize) -> usize
     ensures { (result ≡ start before size) × (result ≤ size) }
 {
-    (LONGEST_MESSAGE * usize::from(before)).min(size)
+    LONGEST_MESSAGE.saturating_mul(before).min(size)
 }

@@ -1,5 +1,6 @@
 // One line of input: the call that it asks for, what that leaves, and what is said of it.
 ghost use Rattle.std.specs.Prelude.{◌≡◌};
+ghost use Rattle.base.specs.Range.{within};
 ghost use Rattle.base.specs.Refusal.{outcome};
 ghost use Rattle.protocol.specs.Client.{answer_outcome};
 ghost use Rattle.protocol.specs.Events.{as_client_answer};
@@ -11,7 +12,7 @@ use crate::grammar::{Command, parse};
 use crate::log::Log;
 use crate::output::{Said, Saying, without_card};
 use crate::world::{World, seat};
-use base::party::{ClientId, ReplicaId, within};
+use base::party::{ClientId, ReplicaId};
 use base::refusal::Refusal;
 use protocol::client::ClientAnswer;
 
@@ -19,7 +20,7 @@ use protocol::client::ClientAnswer;
 #[derive(Clone, Copy)]
 pub enum Addressee {
     Client(ClientId, Call),
-    Replica(ReplicaId, u8),
+    Replica(ReplicaId, usize),
 }
 
 #[derive(Drop)]
@@ -62,6 +63,13 @@ fn reply(answer: Result<usize, Refusal>) -> ClientAnswer
     }
 }
 
+#[tactic(auto, using(std::proofs::lemmas::Bool::Decides::nat_tests), unfolding(base::specs::Range::within))]
+fn is_sent(m: usize, count: u8) -> bool
+    ensures { result ≡ within 1 count m }
+{
+    (1..=usize::from(count)).contains(&m)
+}
+
 // Whom a line is addressed to, and for what; one of another form, or with an unsent message, goes to nobody.
 #[tactic(auto, unfolding(crate::specs::Player::addressee))]
 fn addressed(line: &[u8], count: u8) -> Option<Addressee>
@@ -70,8 +78,8 @@ fn addressed(line: &[u8], count: u8) -> Option<Addressee>
     match parse(line)? {
         Command::Write(id) => Some(Addressee::Client(id, Call::Write)),
         Command::Read(id) => Some(Addressee::Client(id, Call::Read)),
-        Command::ToReplica(id, m) if within(1, count, m) => Some(Addressee::Replica(id, m)),
-        Command::ToClient(id, m) if within(1, count, m) => Some(Addressee::Client(
+        Command::ToReplica(id, m) if is_sent(m, count) => Some(Addressee::Replica(id, m)),
+        Command::ToClient(id, m) if is_sent(m, count) => Some(Addressee::Client(
             id,
             Call::Deliver(m),
         )),
@@ -103,7 +111,7 @@ fn client_turn(mut world: World, id: ClientId, call: Call, line: &[u8], store: &
 }
 
 // A replica's call, and what that leaves.
-fn replica_turn(mut world: World, id: ReplicaId, m: u8, store: &mut [u8]) -> Turned
+fn replica_turn(mut world: World, id: ReplicaId, m: usize, store: &mut [u8]) -> Turned
     ensures { Plays (replica_turn world store.old id m) result store.new }
 {
     let i = seat(id.0);

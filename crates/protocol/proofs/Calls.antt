@@ -123,7 +123,8 @@ taking_says : (before : Client) (old : List ℕ) (step : Outcome Client) → Cli
 taking_says before old (accepted next) = record { leaves = refl; gives = λ register is. refl }
 taking_says before old (refused number) = record { leaves = refl; gives = λ register is. refl }
 
-made_same : (setup : Outcome (Unit {0})) (fresh : Client) → (setup >>= λ ready. accepted (client_if_set_up setup fresh)) ≡ (setup >>= λ ready. accepted fresh)
+-- The record that a set-up makes, where it is not refused, is a fresh one: of a client (`making`) and of a viewing client.
+pub made_same : (setup : Outcome (Unit {0})) (fresh : Client) → (setup >>= λ ready. accepted (client_if_set_up setup fresh)) ≡ (setup >>= λ ready. accepted fresh)
 made_same (accepted ready) fresh = refl
 made_same (refused number) fresh = refl
 

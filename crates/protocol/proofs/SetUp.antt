@@ -13,7 +13,8 @@ use Rattle.base.proofs.Apart.{apart}
 use Rattle.base.proofs.Range.{bounds}
 use Rattle.lms.specs.Lms.{is_public_key}
 use Rattle.lms.proofs.Tested.{public_key_long}
-use Rattle.protocol.specs.Bank.{bank_setup}
+use Rattle.protocol.specs.Bank.{fresh_bank, bank_if_set_up, bank_setup, made_bank}
+use Rattle.protocol.specs.declared.replica.Bank.{Bank}
 
 -- The three tests, each with 16.
 abbrev all_pass : Bool → Bool → Bool → Outcome (Unit {0})
@@ -44,6 +45,15 @@ module _ (f : ℕ) (id : ReplicaId) (key : List ℕ) where
       go true true false = inr refl
       go true false c = inr refl
       go false b c = inr refl
+
+  -- The bank that is made where it is not refused is a fresh one.
+  pub made_fresh : (bank_setup f id key >>= λ ready. accepted (made_bank f id key)) ≡ (bank_setup f id key >>= λ ready. accepted (fresh_bank f id key))
+  unfolding made_bank
+  made_fresh = go (bank_setup f id key) (fresh_bank f id key)
+    where
+      go : (setup : Outcome (Unit {0})) (fresh : Bank) → (setup >>= λ ready. accepted (bank_if_set_up setup fresh)) ≡ (setup >>= λ ready. accepted fresh)
+      go (accepted ready) fresh = refl
+      go (refused number) fresh = refl
 
   module _ (good : bank_setup f id key ≡ accepted tt) where
     pub set_up_id : id.0 < 256

@@ -6,7 +6,7 @@ use base::party::ClientId;
 #[derive(Clone, Copy)]
 pub struct Writer {
     pub id: ClientId,
-    ghost writes: { (1 ≤ id.0) × (id.0 ≤ 64) },
+    pub ghost writes: { (1 ≤ id.0) × (id.0 ≤ 64) },
 }
 
 impl Writer {

@@ -34,8 +34,18 @@ use protocol::replica::Bank;
 use std::io;
 use std::io::Read;
 use tasks::{CLIENT_PLACES, REPLICA_PLACES, VIEWER_PLACES, Whom, of_line};
+use text::line::NEWLINE;
 
 const SCRIPT: usize = 1_048_576;
+
+// An empty place is not written: a place is as large as a record.
+fn set_aside<P: Copy>(records: &mut [Option<P>]) {
+    for record in records {
+        if record.is_some() {
+            *record = None;
+        }
+    }
+}
 
 // The records are made here: another function's result would stand on the stack a second time, and they fill half of it.
 fn play_lines(rt: &impl Print, script: &[u8]) -> io::Result<()> {
@@ -43,13 +53,13 @@ fn play_lines(rt: &impl Print, script: &[u8]) -> io::Result<()> {
     let mut clients: [Option<Client>; CLIENT_PLACES] = [None; CLIENT_PLACES];
     let mut viewers: [Option<Viewer>; VIEWER_PLACES] = [None; VIEWER_PLACES];
     let mut log = Log::empty();
-    for line in script.split_inclusive(|byte| *byte == b'\n') {
-        let line = line.strip_suffix(b"\n").unwrap_or(line);
+    for line in script.split_inclusive(|byte| *byte == NEWLINE) {
+        let line = line.strip_suffix(&[NEWLINE]).unwrap_or(line);
         match line {
             b"new" => {
-                replicas.fill(None);
-                clients.fill(None);
-                viewers.fill(None);
+                set_aside(&mut replicas);
+                set_aside(&mut clients);
+                set_aside(&mut viewers);
                 log.clear();
                 print!(rt; "{}\n", Word::New)?;
             }

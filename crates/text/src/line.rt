@@ -4,7 +4,11 @@ ghost use Rattle.text.specs.Line.{EndsAt, length_to};
 
 use base::slices::behind;
 
-const NEWLINE: u8 = b'\n';
+// Ends a line: 10, by `line_end`'s contract.
+pub const NEWLINE: u8 = b'\n';
+
+// Ends a word: 32, by `word_end`'s contract.
+pub const SPACE: u8 = b' ';
 
 // How many bytes come before the first such byte, or in all.
 fn length_to(mark: u8, text: &[u8]) -> usize
@@ -33,5 +37,5 @@ pub fn line_end(text: &[u8], from: usize) -> usize
 pub fn word_end(line: &[u8], from: usize) -> usize
     ensures { EndsAt 32 line.now from result }
 {
-    end_at(b' ', line, from)
+    end_at(SPACE, line, from)
 }

@@ -6,7 +6,7 @@ use crate::buffer::put;
 use crate::decimal::put_number;
 use base::timestamp::Timestamp;
 
-// A timestamp's text, stored as `put` stores bytes. Not by Display, of which no contract says the bytes.
+// The text that a timestamp is printed as (`proofs/Timestamps`), stored as `put` stores bytes.
 pub fn put_timestamp(to: &mut [u8], at: usize, timestamp: Timestamp) -> usize
     ensures { Puts to.old at (stamp timestamp) result to.new }
 {

@@ -1,5 +1,5 @@
 -- The fields of bytes that passed tests 2 to 4, as the reader takes them. Assumes nothing.
-use Rattle.std.proofs.Common.{◌≡◌, Some, ℕ, suc, ◌-◌, ◌<◌, ◌≤◌, Bool, true, false, List, [], ◌∷◌, length, get_or, drop, refl, ap, ◌∙◌, arith, inl, inr, ◌⊎◌, sym, le-ltb, take_all, get_or-take, get_or-drop}
+use Rattle.std.proofs.Common.{◌≡◌, Some, ℕ, suc, ◌-◌, ◌<◌, ◌≤◌, Bool, true, false, List, [], ◌∷◌, length, get_or, take, drop, refl, ap, ◌∙◌, arith, inl, inr, ◌⊎◌, sym, le-ltb, length-take, take_all, get_or-take, get_or-drop}
 use Rattle.base.proofs.Apart.{apart}
 use Rattle.base.specs.BigEndian.{from_bytes}
 use Rattle.base.specs.BitMap.{bit}
@@ -14,7 +14,7 @@ use Rattle.wire.specs.Places.{places_in}
 use Rattle.wire.specs.declared.frame.Places.{Places}
 use Rattle.wire.specs.declared.message.Fields.{Fields}
 use Rattle.wire.specs.declared.message.Kind.{Kind}
-use Rattle.wire.proofs.FieldPlaces.{Framed, place_present, field_absent, length_field, place_within, place_one, place_two, first_bits}
+use Rattle.wire.proofs.FieldPlaces.{Framed, place_present, place_absent, field_absent, length_field, place_within, place_one, place_two, first_bits}
 use Rattle.wire.proofs.Windows.{number_whole}
 
 -- A field of a fixed width is so long, or not there.
@@ -24,6 +24,15 @@ fixed_field s b width whole low rule = go (bit (map_in s) b) refl
     go : (there : Bool) → bit (map_in s) b ≡ there → (length (field s b) ≡ width) ⊎ (field s b ≡ [])
     go true e = inl (length_field s whole b low ∙ rw (place_present s b e, rule) (omega arith))
     go false e = inr (field_absent s b e)
+
+-- In any bytes it is no longer than that, so as many bytes from its place on, up to the next place, are all of it.
+pub fixed_front : (s : List ℕ) (b width : ℕ) → get_or rules b (fixed 0) ≡ fixed width → take width (between s (place s b) (place s (suc b))) ≡ field s b
+unfolding field
+fixed_front s b width rule = let few = at_most_lem (bit (map_in s) b) refl in take_all width (between s (place s b) (place s (suc b))) (rw length-take (omega arith))
+  where
+    at_most_lem : (there : Bool) → bit (map_in s) b ≡ there → place s (suc b) - place s b ≤ width
+    at_most_lem true e = rw (place_present s b e, rule) (omega arith)
+    at_most_lem false e = rw (place_absent s b e) (omega arith)
 
 -- The byte of a field of one byte; 0 if it is not there.
 byte_of : (field : List ℕ) → (length field ≡ 1) ⊎ (field ≡ []) → get_or field 0 0 ≡ from_bytes field

@@ -1,5 +1,5 @@
 -- Test 5, and the reading as a whole. Assumes nothing.
-use Rattle.std.proofs.Common.{◌≡◌, ℕ, Bool, true, false, cond, eqb, List, [], ◌∷◌, get_or, sym, refl, ap, ◌∙◌, eqb-true, find, Option, Some, None}
+use Rattle.std.proofs.Common.{◌≡◌, ℕ, Bool, true, false, cond, eqb, List, [], ◌∷◌, get_or, sym, refl, ap, ◌∙◌, eqb-true, ne_eqb, find, Option, Some, None}
 use Rattle.base.specs.Outcome.{Outcome, accepted, refused, guard}
 use Rattle.base.proofs.Apart.{apart}
 use Rattle.base.proofs.Outcome.{guard_passes, guard_refuses}
@@ -12,6 +12,7 @@ use Rattle.wire.specs.declared.frame.Places.{Places}
 use Rattle.wire.specs.declared.message.Kind.{Kind}
 use Rattle.wire.specs.declared.message.Kind.TheVariants.{ReadStamp, Prepare, Write, Read, Stamp, Prepared, Written, Card}
 use Rattle.wire.specs.declared.message.Party.{Party}
+use Rattle.wire.specs.declared.message.Party.TheVariants.{Replica, Client}
 use Rattle.wire.proofs.FieldParts.{kind_at}
 use Rattle.wire.proofs.FieldPlaces.{Framed, framed_passes}
 use Rattle.wire.proofs.FrameTests.{refuses, known}
@@ -50,6 +51,23 @@ pub no_kind : (party : Party) (map n : ℕ) → kind_of_number n ≡ None → su
 unfolding suiting kinds
 no_kind party map n =
     next_row _ _ (eqb n 1) (next_row _ _ (eqb n 2) (next_row _ _ (eqb n 3) (next_row _ _ (eqb n 4) (next_row _ _ (eqb n 5) (next_row _ _ (eqb n 6) (next_row _ _ (eqb n 7) (next_row _ _ (eqb n 8) (λ e. refl))))))))
+
+-- A replica takes no kind but 1 to 4, and a client none but 5 to 8.
+neither : (test last : Bool) → last ≡ false → cond test false last ≡ false
+neither true last e = refl
+neither false last e = e
+
+pub no_replica : (map number : ℕ) → (number ≡ 1 → ⊥) → (number ≡ 2 → ⊥) → (number ≡ 3 → ⊥) → (number ≡ 4 → ⊥) → suiting Replica map number kinds ≡ false
+unfolding suiting kinds
+no_replica map number n1 n2 n3 n4 =
+    rw (ne_eqb number 1 n1, ne_eqb number 2 n2, ne_eqb number 3 n3, ne_eqb number 4 n4)
+    (rw (neither (eqb number 8) false refl, neither (eqb number 7) false refl, neither (eqb number 6) false refl) (neither (eqb number 5) false refl))
+
+pub no_client_lem : (map number : ℕ) → (number ≡ 5 → ⊥) → (number ≡ 6 → ⊥) → (number ≡ 7 → ⊥) → (number ≡ 8 → ⊥) → suiting Client map number kinds ≡ false
+unfolding suiting kinds
+no_client_lem map number n5 n6 n7 n8 =
+    rw (ne_eqb number 5 n5, ne_eqb number 6 n6, ne_eqb number 7 n7, ne_eqb number 8 n8)
+    (rw (neither (eqb number 4) false refl, neither (eqb number 3) false refl, neither (eqb number 2) false refl) (neither (eqb number 1) false refl))
 
 -- What `read` answers, by the tests that it makes.
 module _ (party : Party) (s : List ℕ) where

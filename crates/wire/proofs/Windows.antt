@@ -1,5 +1,5 @@
 -- The first bytes of a part of a list, one by one. Assumes nothing.
-use Rattle.std.proofs.Common.{◌≡◌, ℕ, zero, suc, ◌+◌, ◌-◌, ◌≤◌, List, [], ◌∷◌, length, get_or, take, drop, sym, refl, ap, add-suc, add-one, arith, inl, inr, ◌⊎◌, le-ltb, lt-ltb, drop-cons, take_all, drop-drop}
+use Rattle.std.proofs.Common.{◌≡◌, ℕ, zero, suc, ◌+◌, ◌-◌, ◌*◌, ◌≤◌, List, [], ◌∷◌, length, get_or, take, drop, sym, refl, ap, add-suc, add-one, arith, inl, inr, ◌⊎◌, le-ltb, lt-ltb, drop-cons, take_all, drop-drop}
 use Rattle.std.specs.Int.{w64, from_be_bytes}
 use lib.Seq.{take-nil}
 use Rattle.base.specs.BigEndian.{from_bytes}
@@ -19,6 +19,16 @@ window s at i (suc n) h =
 
 pub front : (s : List ℕ) (at n : ℕ) → at + suc n ≤ length s → take (suc n) (drop at s) ≡ get_or s at 0 ∷ listed s at 1 n
 front s at n h = rw (drop-cons s at 0 (omega arith), ← add-one at) (ap (λ (l : List ℕ). get_or s at 0 ∷ l) (window s at 1 n (omega arith)))
+
+-- The number of eight bytes, by those of four and four.
+pub eight_bytes : (s : List ℕ) (at : ℕ) → at + 8 ≤ length s
+    → from_bytes (take 8 (drop at s)) ≡ from_bytes (take 4 (drop at s)) * 0x1_0000_0000 + from_bytes (take 4 (drop (at + 4) s))
+unfolding from_bytes
+eight_bytes s at h =
+    let five : at + 4 + 1 ≡ at + 5 = omega arith in
+    let six : at + 4 + 2 ≡ at + 6 = omega arith in
+    let seven : at + 4 + 3 ≡ at + 7 = omega arith in
+    rw (front s at 7 h, front s at 3 (omega arith), front s (at + 4) 3 (omega arith), five, six, seven) (omega arith)
 
 pub eight_in_front : (s : List ℕ) (n : ℕ) → 8 ≤ length s
     → n ≡ from_be_bytes w64 (get_or s 0 0 ∷ get_or s 1 0 ∷ get_or s 2 0 ∷ get_or s 3 0 ∷ get_or s 4 0 ∷ get_or s 5 0 ∷ get_or s 6 0 ∷ get_or s 7 0 ∷ [])

@@ -37,11 +37,12 @@ unfolding table
 row_at bit h = rw add-one (drop-cons table bit (row 0 0 0) h)
 
 -- The state before a bit is looked at.
-pub record Reading (card : List ℕ) (bits : ℕ) (fields : List (Answer.Option ℕ)) (at rest bit : ℕ) : Type 0 where
-  pub decides : shown_after [] (read_fields table bits (drop 2 card)) ≡ shown_after (take bit fields) (read_fields (drop bit table) rest (drop at card))
+pub record Reading (card : List ℕ) (map : ℕ) (fields : List (Answer.Option ℕ)) (at rest bit : ℕ) : Type 0 where
+  pub decides : shown_after [] (read_fields table map (drop 2 card)) ≡ shown_after (take bit fields) (read_fields (drop bit table) rest (drop at card))
   pub missing : (k : ℕ) → bit ≤ k → get_or fields k None ≡ None
   pub seven : length fields ≡ 7
   pub place : at ≤ length card
+  pub bits : bit ≤ 7
 
 none_only : (n k : ℕ) → ◌≡◌ {A = Answer.Option ℕ} (get_or (replicate n None) k None) None
 none_only zero k = refl
@@ -54,6 +55,7 @@ begun card bits h = record {
   missing = λ k l. none_only 7 k;
   seven = refl;
   place = h;
+  bits = omega arith;
 }
 
 module _ {card : List ℕ} {bits : ℕ} {fields : List (Answer.Option ℕ)} {at rest bit : ℕ} (r : Reading card bits fields at rest bit) where
@@ -62,21 +64,22 @@ module _ {card : List ℕ} {bits : ℕ} {fields : List (Answer.Option ℕ)} {at 
   stopped e = none_after [] (read_fields table bits (drop 2 card)) (r.decides ∙ ap (shown_after (take bit fields)) e)
 
   -- A bit more, with its field and where the next one starts.
-  next : (field : Option ℕ) (fields' : List (Answer.Option ℕ)) (at' : ℕ) → at' ≤ length card
+  next : (field : Option ℕ) (fields' : List (Answer.Option ℕ)) (at' : ℕ) → bit < 7 → at' ≤ length card
       → read_fields (drop bit table) rest (drop at card) ≡ prepend field (read_fields (drop (bit + 1) table) (rest / 2) (drop at' card))
       → take (bit + 1) fields' ≡ take bit fields ++ shown field ∷ [] → length fields' ≡ 7 → ((k : ℕ) → bit + 1 ≤ k → get_or fields' k None ≡ None)
       → Reading card bits fields' at' (rest / 2) (bit + 1)
-  next field fields' at' place turn front seven missing = record {
+  next field fields' at' h place turn front seven missing = record {
     decides = r.decides ∙ rw (turn, front) (one_more (take bit fields) field (read_fields (drop (bit + 1) table) (rest / 2) (drop at' card)));
     missing = missing;
     seven = seven;
     place = place;
+    bits = omega arith;
   }
 
   pub passed_missing : bit < 7 → (rest % 2 ≡ 1 → ⊥) → Reading card bits fields at (rest / 2) (bit + 1)
   passed_missing h even =
       let inside : bit < length fields = omega (arith, r.seven) in
-      next none fields at r.place
+      next none fields at h r.place
       (rw (row_at bit h) (field_missing (get_or table bit (row 0 0 0)) (drop (bit + 1) table) rest (drop at card) even))
       (rw (add-one, take-suc fields bit None, r.missing bit (omega arith)))
       r.seven
@@ -91,7 +94,7 @@ module _ {card : List ℕ} {bits : ℕ} {fields : List (Answer.Option ℕ)} {at 
         let e = shown_some value (standing found (drop at card)) s in
         let room = (stood found (drop at card) value (sym e)).0 in
         let inside : bit < length fields = omega (arith, r.seven) in
-        next (some value) (set fields bit (Some value)) (at + found.width) (omega (arith, rw length-drop at room, r.place))
+        next (some value) (set fields bit (Some value)) (at + found.width) h (omega (arith, rw length-drop at room, r.place))
         (here ∙ rw (← e))
         (rw (add-one, take-suc-set fields bit (Some value)))
         (length-set fields bit (Some value) ∙ r.seven)
@@ -101,16 +104,16 @@ module _ {card : List ℕ} {bits : ℕ} {fields : List (Answer.Option ℕ)} {at 
     refused_present s = ap read_answer (stopped (here ∙ rw (← shown_none (standing found (drop at card)) s)))
 
   -- Bytes are left over behind the last field.
-  pub refused_longer : bit ≡ 7 → at < length card → read_answer (read_fields table bits (drop 2 card)) ≡ refused 14
+  pub refused_longer : 7 ≤ bit → at < length card → read_answer (read_fields table bits (drop 2 card)) ≡ refused 14
   unfolding table read_fields
-  refused_longer last l = ap read_answer (stopped (rw (last, drop-cons card at 0 l)))
+  refused_longer h l = let last : bit ≡ 7 = omega (arith, r.bits) in ap read_answer (stopped (rw (last, drop-cons card at 0 l)))
 
-  pub finished : bit ≡ 7 → length card ≤ at → read_answer (read_fields table bits (drop 2 card)) ≡ accepted fields
+  pub finished : 7 ≤ bit → length card ≤ at → read_answer (read_fields table bits (drop 2 card)) ≡ accepted fields
   unfolding table read_fields
-  finished last l = go (read_fields table bits (drop 2 card)) (r.decides ∙ rest_read)
+  finished h l = go (read_fields table bits (drop 2 card)) (r.decides ∙ rest_read)
     where
       rest_read : shown_after (take bit fields) (read_fields (drop bit table) rest (drop at card)) ≡ some fields
-      rest_read = rw (last, drop_of_length-le card l, append-nil, take_all 7 fields (omega (arith, r.seven)))
+      rest_read = let last : bit ≡ 7 = omega (arith, r.bits) in rw (last, drop_of_length-le card l, append-nil, take_all 7 fields (omega (arith, r.seven)))
 
       go : (o : Option Fields) → shown_after [] o ≡ some fields → read_answer o ≡ accepted fields
       go none k = apart (cc)

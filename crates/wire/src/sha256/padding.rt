@@ -3,7 +3,6 @@ ghost use Rattle.std.specs.Prelude.{◌≡◌, ◌+◌, ◌-◌, ◌*◌, ◌/�
 ghost use Rattle.base.specs.BigEndian.{from_bytes};
 ghost use Rattle.wire.specs.Sha256.{longest_input, padded, block, block_count, words};
 
-use crate::numbers::four_at;
 use base::big_endian::from_four;
 
 // How many words of the block that starts at `start` are the message's alone.
@@ -43,7 +42,13 @@ fn load_message(message: &[u8], i: usize, full: usize, w: &mut [u32; 64])
     ensures { (length w.new ≡ 64) × (take full w.new ≡ words (block (padded message.now) i) full) × (drop full w.new ≡ drop full w.old) }
 {
     for j in 0..full {
-        w[j] = four_at(message, 64 * i + 4 * j);
+        let at = 64 * i + 4 * j;
+        w[j] = from_four(
+            message[at],
+            message[at + 1],
+            message[at + 2],
+            message[at + 3],
+        );
     }
 }
 

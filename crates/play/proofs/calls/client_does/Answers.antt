@@ -13,16 +13,18 @@ pub returns-in-Write : goal.returns-in-Write
 unfolding client_does
 returns-in-Write c =
     let a = c.args in
-    let out = out_free a.log.now a.store.now c.start-at.result c.start-at.ensures.0 in
+    let at = rw c.from.ensures at c.start-at.ensures.0 in
+    let out = out_free a.log.now a.store.now c.start-at.result at in
     let call = ap₂ (λ (digits old : List ℕ). begin_write_call a.client the_register (hex_pairs 17 digits) old) c.behind.ensures out in
-    client_behind _ _ _ _ _ _ (call ∙ ap (λ (k : Call). client_does a.client a.log.now a.store.now a.line.now k) (sym c.in-Write.is)) (put_behind a.log.now a.store.now c.start-at.result c.start-at.ensures.0 _) c.begin_write.ensures
+    client_behind _ _ _ _ _ _ (call ∙ ap (λ (k : Call). client_does a.client a.log.now a.store.now a.line.now k) (sym c.in-Write.is)) (put_behind a.log.now a.store.now c.start-at.result at _) c.begin_write.ensures
 
 pub returns-in-Read : goal.returns-in-Read
 unfolding client_does
 returns-in-Read c =
     let a = c.args in
-    let out = out_free a.log.now a.store.now c.start-at.result c.start-at.ensures.0 in
-    client_behind _ _ _ _ _ _ (ap (begin_read_call a.client _) out ∙ ap (λ (k : Call). client_does a.client a.log.now a.store.now a.line.now k) (sym c.in-Read.is)) (put_behind a.log.now a.store.now c.start-at.result c.start-at.ensures.0 _) (client_leaves _ _ _ _ c.begin_read.ensures)
+    let at = rw c.from.ensures at c.start-at.ensures.0 in
+    let out = out_free a.log.now a.store.now c.start-at.result at in
+    client_behind _ _ _ _ _ _ (ap (begin_read_call a.client _) out ∙ ap (λ (k : Call). client_does a.client a.log.now a.store.now a.line.now k) (sym c.in-Read.is)) (put_behind a.log.now a.store.now c.start-at.result at _) (client_leaves _ _ _ _ c.begin_read.ensures)
 
 pub returns-in-Deliver : goal.returns-in-Deliver
 unfolding client_does

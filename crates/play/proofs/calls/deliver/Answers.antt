@@ -13,5 +13,6 @@ unfolding client_does
 returns c =
     let a = c.args in
     let text = message_copied a.log.now a.store.now a.m _ c.copy_message-n.result _ _ refl c.copy_message-n.ensures c.front.ensures in
-    let out = out_free a.log.now a.store.now c.start-at.result c.start-at.ensures.0 in
-    client_behind _ _ _ _ _ _ (ap₂ (λ (bytes old : List ℕ). client_call a.client bytes (verdicts Here bytes) old) text out) (put_behind a.log.now a.store.now c.start-at.result c.start-at.ensures.0 _) c.hand_client.ensures
+    let at = rw c.from.ensures at c.start-at.ensures.0 in
+    let out = out_free a.log.now a.store.now c.start-at.result at in
+    client_behind _ _ _ _ _ _ (ap₂ (λ (bytes old : List ℕ). client_call a.client bytes (verdicts Here bytes) old) text out) (put_behind a.log.now a.store.now c.start-at.result at _) c.hand_client.ensures

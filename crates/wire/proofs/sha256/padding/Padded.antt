@@ -1,6 +1,5 @@
 -- The padded message, byte by byte and word by word. Assumes nothing.
-use Rattle.std.proofs.Common.{◌≡◌, ℕ, zero, suc, ◌+◌, ◌-◌, ◌*◌, ◌%◌, ◌<◌, ◌≤◌, List, [], ◌∷◌, ◌++◌, length, get_or, take, drop, set, replicate, sym, ap, ◌∙◌, append_assoc, add-one, arith, length-append, length-set, length-drop, get_or-drop, take_all, drop-cons, get_or-set_other, take-suc, take-take, drop-drop, get_or-append-add, drop_at}
-use Rattle.std.proofs.lemmas.List.{drop-append-le, take-append-le}
+use Rattle.std.proofs.Common.{◌≡◌, ℕ, zero, suc, ◌+◌, ◌-◌, ◌*◌, ◌%◌, ◌<◌, ◌≤◌, List, [], ◌∷◌, ◌++◌, length, get_or, take, drop, set, replicate, ap, ◌∙◌, append_assoc, add-one, arith, length-append, length-set, get_or-drop, take_all, drop-cons, get_or-set_other, take-suc, take-take, drop-drop, get_or-append-add, drop_at}
 use lib.ListN.{length-replicate, get_or-replicate, replicate-append-replicate, get_or-append}
 use lib.Seq.{get_or-append_seam, take-nil}
 use Rattle.base.specs.BigEndian.{from_bytes, to_bytes}
@@ -67,11 +66,10 @@ by_bytes : (m : List ℕ) (p a b c d : ℕ) → p + 4 ≤ 64 * block_count (leng
     → get_or (padded m) (p + 3) 0 ≡ d → from_bytes (a ∷ b ∷ c ∷ d ∷ []) ≡ word_at m p
 by_bytes m p a b c d h ea eb ec ed = rw (four (padded m) p (rw length_padded h), ea, eb, ec, ed)
 
-pub word_message : (m : List ℕ) (p : ℕ) → p + 4 ≤ length m → from_bytes (take 4 (drop p m)) ≡ word_at m p
-unfolding padded
+pub word_message : (m : List ℕ) (p : ℕ) → p + 4 ≤ length m → from_bytes (get_or m p 0 ∷ get_or m (p + 1) 0 ∷ get_or m (p + 2) 0 ∷ get_or m (p + 3) 0 ∷ []) ≡ word_at m p
 word_message m p h =
-    let rest = 0x80 ∷ replicate (padding_zeros (length m)) 0 ++ to_bytes 8 (8 * length m) in
-    ap from_bytes (sym (ap (take 4) (drop-append-le p m rest (omega arith)) ∙ take-append-le 4 (drop p m) rest (rw length-drop (omega arith))))
+    by_bytes m p _ _ _ _ (omega arith) (at_message m p (omega arith)) (at_message m (p + 1) (omega arith)) (at_message m (p + 2) (omega arith))
+    (at_message m (p + 3) (omega arith))
 
 -- The words that the message does not fill, by where the message ends.
 module _ (m : List ℕ) (small : length m ≤ longest_input) (p : ℕ) (aligned : p % 4 ≡ 0) (inside : p + 4 ≤ 64 * block_count (length m)) where

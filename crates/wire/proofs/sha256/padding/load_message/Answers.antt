@@ -14,6 +14,6 @@ loop-j-preserved c =
     let a = c.args in
     let m = a.message.now in (
       simp length-set (omega arith),
-      load_next m l.w a.i l.j _ (omega arith) (omega arith) l.invariant.1 (c.four_at.ensures ∙ word_message m (64 * a.i + 4 * l.j) (omega arith)),
+      load_next m l.w a.i l.j _ (omega arith) (omega arith) l.invariant.1 (c.from_four.ensures ∙ word_message m (64 * a.i + 4 * l.j) (omega arith)),
       drop-set-lt a.full l.w l.j _ (omega arith) ∙ l.invariant.2,
     )
